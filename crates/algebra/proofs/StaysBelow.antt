@@ -1,0 +1,172 @@
+-- Nothing leaves the numbers below q: each operation on polynomials gives a list of numbers below q where it is given such lists.
+--   NAME-below     so it is with NAME, from `add` to `gcd`
+--   eval-below     values
+--   below-at, below-from   by the places, as code reads a slice
+--   trace-below, squared-below, power-below   of elements
+-- Assumes nothing.
+use mathlib.Core.Path.{_≡_, _∙_, subst}
+use mathlib.Core.Bool.{Bool}
+use mathlib.Core.Option.{Option, none, some}
+use mathlib.Core.List.{List, [], _∷_, _++_, map}
+use Prim.Native.Nat.{ℕ, zero, suc, _<_}
+use native.Mathlib.Nat.{not-suc-le-zero, le-of-suc-le-suc}
+use native.Mathlib.Omega.{arith}
+use lib.ListN.{length, getD, take, drop, replicate}
+use Rattle.algebra.specs.Field.{Ops, OnNumbers, power, squared, trace}
+use Rattle.algebra.specs.Trial.{upFrom, keep}
+use Rattle.algebra.specs.Polynomial.{eval, isRoot, add, mul, linear, fromRoots, frobenius, tracePoly, fieldPoly, traceOf, Below, rootsOf}
+use Rattle.algebra.specs.Routines.{monic, rem, quo, square, frobeniusMod, traceMod, norm, cofactor, monicRoots, gcd}
+use Rattle.algebra.proofs.Trial.{all-keep, upFrom-all}
+use Rattle.algebra.proofs.Crossing.{
+  Elem,
+  elems,
+  low,
+  low?,
+  below-low,
+  by-elements,
+  by-two,
+  low-add,
+  low-mul,
+  low-scale,
+  low-eval,
+  low-fromRoots,
+  low-monicRoots,
+  low-rem,
+  low-quo,
+  low-norm,
+  low-gcd,
+  low-cofactor,
+  low-frobenius,
+  low-tracePoly,
+  low-squared,
+  low-trace,
+  low-power,
+  low-square,
+  low-frobeniusMod,
+  low-traceMod,
+}
+
+-- parts and joins of lists below q
+module _ (q : ℕ) where
+  pub append-below : (p r : List ℕ) → Below q p → Below q r → Below q (p ++ r)
+  append-below [] r h k = k
+  append-below (c ∷ p) r h k = (h .0, append-below p r (h .1) k)
+
+  pub take-below : (n : ℕ) (p : List ℕ) → Below q p → Below q (take n p)
+  take-below zero p h = tt
+  take-below (suc n) [] h = tt
+  take-below (suc n) (c ∷ p) h = (h .0, take-below n p (h .1))
+
+  pub drop-below : (n : ℕ) (p : List ℕ) → Below q p → Below q (drop n p)
+  drop-below zero p h = h
+  drop-below (suc n) [] h = tt
+  drop-below (suc n) (c ∷ p) h = drop-below n p (h .1)
+
+  pub replicate-below : (n c : ℕ) → c < q → Below q (replicate n c)
+  replicate-below zero c h = tt
+  replicate-below (suc n) c h = (h, replicate-below n c h)
+
+  pub keep-below : (t : ℕ → Bool) (s : List ℕ) → Below q s → Below q (keep t s)
+  keep-below t s h = all-keep (λ c. c < q) t s h
+
+  -- by the places, as code reads a slice
+  pub below-at : (p : List ℕ) → Below q p → (i : ℕ) → i < length p → getD p i 0 < q
+  below-at [] h i l = absurd (not-suc-le-zero l)
+  below-at (c ∷ p) h zero l = h .0
+  below-at (c ∷ p) h (suc i) l = below-at p (h .1) i (le-of-suc-le-suc l)
+
+  pub below-from : (p : List ℕ) → ((i : ℕ) → i < length p → getD p i 0 < q) → Below q p
+  below-from [] h = tt
+  below-from (c ∷ p) h = (h 0 (omega arith), below-from p (λ i l. h (suc i) (omega arith)))
+
+pub upFrom-below : (q : ℕ) → Below q (upFrom 0 q)
+upFrom-below q = upFrom-all (λ x. x < q) 0 q (λ x a b. omega arith)
+
+pub rootsOf-below : (G : Ops ℕ) (q : ℕ) (f : List ℕ) → Below q (rootsOf G q f)
+unfolding rootsOf
+rootsOf-below G q f = keep-below q (isRoot G f) (upFrom 0 q) (upFrom-below q)
+
+module _ {G : Ops ℕ} {q : ℕ} (N : OnNumbers G q) where
+  -- ---- elements
+
+  pub eval-below : (p : List ℕ) (x : ℕ) → Below q p → x < q → eval G p x < q
+  eval-below p x h k = by-elements N (λ p. eval G p x < q) (λ u. subst (λ w. w < q) (low-eval N u (x, k)) (eval (elems N) u (x, k) .1)) p h
+
+  pub trace-below : (j x : ℕ) → x < q → trace G j x < q
+  trace-below j x h = subst (λ w. w < q) (low-trace N j (x, h)) (trace (elems N) j (x, h) .1)
+
+  pub squared-below : (j x : ℕ) → x < q → squared G j x < q
+  squared-below j x h = subst (λ w. w < q) (low-squared N j (x, h)) (squared (elems N) j (x, h) .1)
+
+  pub power-below : (x n : ℕ) → x < q → power G x n < q
+  power-below x n h = subst (λ w. w < q) (low-power N (x, h) n) (power (elems N) (x, h) n .1)
+
+  -- ---- polynomials
+
+  pub add-below : (p r : List ℕ) → Below q p → Below q r → Below q (add G p r)
+  add-below = by-two N (λ p r. Below q (add G p r)) (λ u v. subst (Below q) (low-add N u v) (below-low N (add (elems N) u v)))
+
+  pub mul-below : (p r : List ℕ) → Below q p → Below q r → Below q (mul G p r)
+  mul-below = by-two N (λ p r. Below q (mul G p r)) (λ u v. subst (Below q) (low-mul N u v) (below-low N (mul (elems N) u v)))
+
+  pub scale-below : (c : ℕ) (p : List ℕ) → c < q → Below q p → Below q (map (G .mul c) p)
+  scale-below c p h =
+      by-elements N (λ p. Below q (map (G .mul c) p)) (λ u. subst (Below q) (low-scale N (c, h) u) (below-low N (map (elems N .mul (c, h)) u))) p
+
+  pub linear-below : (r : ℕ) → r < q → Below q (linear G r)
+  linear-below r h = (h, (N .one-below, tt))
+
+  pub fromRoots-below : (s : List ℕ) → Below q s → Below q (fromRoots G s)
+  fromRoots-below = by-elements N (λ s. Below q (fromRoots G s)) (λ u. subst (Below q) (low-fromRoots N u) (below-low N (fromRoots (elems N) u)))
+
+  pub frobenius-below : (j : ℕ) (f : List ℕ) → Below q f → Below q (frobenius G j f)
+  frobenius-below j = by-elements N (λ f. Below q (frobenius G j f)) (λ u. subst (Below q) (low-frobenius N j u) (below-low N (frobenius (elems N) j u)))
+
+  pub tracePoly-below : (j : ℕ) (f : List ℕ) → Below q f → Below q (tracePoly G j f)
+  tracePoly-below j = by-elements N (λ f. Below q (tracePoly G j f)) (λ u. subst (Below q) (low-tracePoly N j u) (below-low N (tracePoly (elems N) j u)))
+
+  pub fieldPoly-below : (m : ℕ) → Below q (fieldPoly G m)
+  fieldPoly-below m =
+      let z : Below q (linear G (G .zero)) = linear-below (G .zero) (N .zero-below) in
+      add-below (frobenius G m (linear G (G .zero))) (linear G (G .zero)) (frobenius-below m (linear G (G .zero)) z) z
+
+  pub traceOf-below : (m b : ℕ) → b < q → Below q (traceOf G m b)
+  traceOf-below m b h = tracePoly-below m (G .zero ∷ b ∷ []) (N .zero-below, (h, tt))
+
+  -- ---- routines
+
+  pub monic-below : (p : List ℕ) → Below q p → Below q (monic G p)
+  monic-below p h = append-below q p (G .one ∷ []) h (N .one-below, tt)
+
+  pub rem-below : (p f : List ℕ) → Below q p → Below q f → Below q (rem G p f)
+  rem-below = by-two N (λ p f. Below q (rem G p f)) (λ u v. subst (Below q) (low-rem N u v) (below-low N (rem (elems N) u v)))
+
+  pub quo-below : (p f : List ℕ) → Below q p → Below q f → Below q (quo G p f)
+  quo-below = by-two N (λ p f. Below q (quo G p f)) (λ u v. subst (Below q) (low-quo N u v) (below-low N (quo (elems N) u v)))
+
+  pub square-below : (f : List ℕ) → Below q f → Below q (square G f)
+  square-below = by-elements N (λ f. Below q (square G f)) (λ u. subst (Below q) (low-square N u) (below-low N (square (elems N) u)))
+
+  pub frobeniusMod-below : (p : List ℕ) (j : ℕ) (w : List ℕ) → Below q p → Below q w → Below q (frobeniusMod G p j w)
+  frobeniusMod-below p j w =
+      by-two N (λ p w. Below q (frobeniusMod G p j w)) (λ u v. subst (Below q) (low-frobeniusMod N u j v) (below-low N (frobeniusMod (elems N) u j v))) p w
+
+  pub traceMod-below : (p : List ℕ) (j : ℕ) (w : List ℕ) → Below q p → Below q w → Below q (traceMod G p j w)
+  traceMod-below p j w =
+      by-two N (λ p w. Below q (traceMod G p j w)) (λ u v. subst (Below q) (low-traceMod N u j v) (below-low N (traceMod (elems N) u j v))) p w
+
+  pub norm-below : (k : ℕ) (r : List ℕ) {s : List ℕ} → Below q r → norm G k r ≡ some s → Below q s
+  norm-below k r {s} = by-elements N (λ r. norm G k r ≡ some s → Below q s) (λ u e. go (norm (elems N) k u) (low-norm N k u ∙ e)) r
+    where
+      go : (o : Option (List (Elem q))) → low? N o ≡ some s → Below q s
+      go none e = let z : _≡_ {A = ℕ} 0 1 = cc in absurd (omega arith)
+      go (some u) e = let same : low N u ≡ s = cc in subst (Below q) same (below-low N u)
+
+  pub gcd-below : (p f : List ℕ) → Below q p → Below q f → Below q (gcd G p f)
+  gcd-below = by-two N (λ p f. Below q (gcd G p f)) (λ u v. subst (Below q) (low-gcd N u v) (below-low N (gcd (elems N) u v)))
+
+  pub cofactor-below : (p g : List ℕ) → Below q p → Below q g → Below q (cofactor G p g)
+  cofactor-below = by-two N (λ p g. Below q (cofactor G p g)) (λ u v. subst (Below q) (low-cofactor N u v) (below-low N (cofactor (elems N) u v)))
+
+  pub monicRoots-below : (s : List ℕ) → Below q s → Below q (monicRoots G s)
+  monicRoots-below = by-elements N (λ s. Below q (monicRoots G s)) (λ u. subst (Below q) (low-monicRoots N u) (below-low N (monicRoots (elems N) u)))

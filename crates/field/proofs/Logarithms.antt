@@ -1,0 +1,157 @@
+-- The log and antilog tables, for any field: a test over each table, the law that turns it into the rule at each entry, and the product by logs.
+--   logTest, logs-hold            the log table: along 1, 2, 4, .. the entry at a^j is j
+--   antilogTest, antilogs-hold    the antilog table: 1, 2, 4, .. up to twice the order, then zeros
+--   log-lt, log-le                how large a log is
+--   log-product                   the antilog of the sum of two logs is the product
+-- Assumes nothing.
+use mathlib.Core.Path.{_≡_, refl, sym, ap, ap₂, _∙_, subst}
+use mathlib.Core.Logic.{_⊎_, inl, inr, ⊎-elim, _≢_}
+use mathlib.Core.Bool.{Bool, true, false, cond}
+use mathlib.Core.List.{List, [], _∷_}
+use Prim.Native.Nat.{ℕ, zero, suc, _+_, _-_, _*_, _/_, _%_, _^_, _≤_, _<_}
+use native.Mathlib.Nat.{add-zero, add-suc, suc-add, zero-add, not-suc-le-zero}
+use native.Mathlib.Decide.{decLt}
+use native.Mathlib.Omega.{arith}
+use borrow.Author.Tests.{lt-ltb, le-ltb, eq-eqb, ne-eqb}
+use lib.Dec.{T, eqb, ltb, eqb→eq}
+use lib.ListN.{length, getD}
+use Rattle.algebra.specs.Field.{power}
+use Rattle.field.specs.Field.{cut, Field, size, order, mul, numbers, position}
+use Rattle.field.specs.Tables.{logOf, antilogOf, Logs, Antilogs}
+use Rattle.field.proofs.Table.{both, both-left, both-right}
+use Rattle.field.proofs.Tree.{Tree, grow, look, look-is}
+use Rattle.field.proofs.Ring.{RingLaws, ring, power-lt, power-add}
+use Rattle.field.proofs.Generator.{Generated, unit, position-is}
+
+-- the tree holds j, j + 1, .. at y, 2y, .. : n places
+unfoldable pub logsFrom : Field → Tree → ℕ → ℕ → ℕ → Bool
+unfolding look cut
+logsFrom F t zero j y = true
+logsFrom F t (suc n) j y = both (eqb (look t y) j) (logsFrom F t n (suc j) (cut F (y * 2)))
+
+unfoldable pub logTest : Field → List ℕ → Bool
+unfolding logsFrom grow
+logTest F xs = both (eqb (length xs) (size F)) (both (eqb (getD xs 0 0) (2 * order F)) (logsFrom F (grow (F .degree) xs) (order F) 0 1))
+
+unfoldable pub zeros : List ℕ → Bool
+zeros [] = true
+zeros (x ∷ xs) = both (eqb x 0) (zeros xs)
+
+-- y, 2y, .. : n entries, and then zeros
+unfoldable pub powersFrom : Field → ℕ → ℕ → List ℕ → Bool
+unfolding cut zeros
+powersFrom F zero y xs = zeros xs
+powersFrom F (suc n) y [] = false
+powersFrom F (suc n) y (x ∷ xs) = both (eqb x y) (powersFrom F n (cut F (y * 2)) xs)
+
+unfoldable pub antilogTest : Field → List ℕ → Bool
+unfolding powersFrom
+antilogTest F xs = both (eqb (length xs) (3 * order F)) (powersFrom F (2 * order F) 1 xs)
+
+-- the log of a nonzero element is its position
+pub log-position : (F : Field) (x : ℕ) → 0 < x → logOf F x ≡ position F x
+unfolding logOf
+log-position F x p = rw (ne-eqb x 0 (λ e. let b : ⊥ = omega arith in b))
+
+module _ (F : Field) (gen : Generated F) where
+  open RingLaws (ring F (gen .monic)) using (mul-zero-l, mul-zero-r, mul-comm, mul-two)
+
+  -- twice a power is the next
+  power-next : (j : ℕ) → cut F (power (numbers F) 2 j * 2) ≡ power (numbers F) 2 (suc j)
+  unfolding power
+  power-next j = sym (mul-two (power (numbers F) 2 j) (power-lt F (gen .monic) (unit F gen) 2 j))
+
+  -- ---- logs
+  logs-at : (t : Tree) (n j : ℕ) → T (logsFrom F t n j (power (numbers F) 2 j)) → (k : ℕ) → k < n → look t (power (numbers F) 2 (j + k)) ≡ j + k
+  unfolding logsFrom
+  logs-at t zero j h k l = absurd (not-suc-le-zero l)
+  logs-at t (suc n) j h zero l =
+      ap (λ (i : ℕ). look t (power (numbers F) 2 i)) (add-zero j)
+      ∙ eqb→eq (look t (power (numbers F) 2 j)) j (both-left (eqb (look t (power (numbers F) 2 j)) j) _ h) ∙ sym (add-zero j)
+  logs-at t (suc n) j h (suc k) l =
+      let shift : j + suc k ≡ suc j + k = add-suc j k ∙ sym (suc-add j k) in
+      ap (λ (i : ℕ). look t (power (numbers F) 2 i)) shift
+      ∙ logs-at t n (suc j)
+      (subst (λ (y : ℕ). T (logsFrom F t n (suc j) y)) (power-next j) (both-right (eqb (look t (power (numbers F) 2 j)) j) _ h)) k (omega arith)
+      ∙ sym shift
+
+  pub logs-hold : (xs : List ℕ) → T (logTest F xs) → Logs F xs
+  unfolding logTest logOf power
+  logs-hold xs h =
+      record { entries = eqb→eq (length xs) (size F) (both-left (eqb (length xs) (size F)) _ h); entry = λ x l. at x l (decLt 0 x) }
+    where
+      rest : T (both (eqb (getD xs 0 0) (2 * order F)) (logsFrom F (grow (F .degree) xs) (order F) 0 1))
+      rest = both-right (eqb (length xs) (size F)) _ h
+
+      at : (x : ℕ) → x < size F → Dec (0 < x) → getD xs x 0 ≡ cond (eqb x 0) (2 * order F) (position F x)
+      at x l (no z) =
+          let e : x ≡ 0 = omega arith in
+          ap (λ (i : ℕ). getD xs i 0) e ∙ eqb→eq (getD xs 0 0) (2 * order F) (both-left (eqb (getD xs 0 0) (2 * order F)) _ rest) ∙ rw (eq-eqb x 0 e)
+      at x l (yes p) =
+          let j = position-is F gen x p l in
+          sym (look-is (F .degree) xs x l) ∙ ap (look (grow (F .degree) xs)) (sym (j .1) ∙ ap (power (numbers F) 2) (sym (zero-add (position F x))))
+          ∙ logs-at (grow (F .degree) xs) (order F) 0 (both-right (eqb (getD xs 0 0) (2 * order F)) _ rest) (position F x) (j .0)
+          ∙ zero-add (position F x) ∙ rw (ne-eqb x 0 (λ e. let b : ⊥ = omega arith in b))
+
+  -- ---- antilogs
+  zeros-at : (xs : List ℕ) → T (zeros xs) → (k : ℕ) → getD xs k 0 ≡ 0
+  unfolding zeros
+  zeros-at [] h k = refl
+  zeros-at (x ∷ xs) h zero = eqb→eq x 0 (both-left (eqb x 0) (zeros xs) h)
+  zeros-at (x ∷ xs) h (suc k) = zeros-at xs (both-right (eqb x 0) (zeros xs) h) k
+
+  powers-at : (n j : ℕ) (xs : List ℕ) → T (powersFrom F n (power (numbers F) 2 j) xs) → (k : ℕ)
+      → getD xs k 0 ≡ cond (ltb k n) (power (numbers F) 2 (j + k)) 0
+  unfolding powersFrom
+  powers-at zero j xs h k = zeros-at xs h k ∙ rw (le-ltb k 0 (omega arith))
+  powers-at (suc n) j [] h k = absurd h
+  powers-at (suc n) j (x ∷ xs) h zero =
+      eqb→eq x (power (numbers F) 2 j) (both-left (eqb x (power (numbers F) 2 j)) _ h) ∙ ap (power (numbers F) 2) (sym (add-zero j))
+      ∙ rw (lt-ltb 0 (suc n) (omega arith))
+  powers-at (suc n) j (x ∷ xs) h (suc k) =
+      powers-at n (suc j) xs
+      (subst (λ (y : ℕ). T (powersFrom F n y xs)) (power-next j) (both-right (eqb x (power (numbers F) 2 j)) _ h)) k
+      ∙ ap₂ (λ (b : Bool) (i : ℕ). cond b (power (numbers F) 2 i) 0) (less (decLt k n)) (suc-add j k ∙ sym (add-suc j k))
+    where
+      less : Dec (k < n) → ltb k n ≡ ltb (suc k) (suc n)
+      less (yes l) = lt-ltb k n l ∙ sym (lt-ltb (suc k) (suc n) (omega arith))
+      less (no l) = le-ltb k n (omega arith) ∙ sym (le-ltb (suc k) (suc n) (omega arith))
+
+  pub antilogs-hold : (xs : List ℕ) → T (antilogTest F xs) → Antilogs F xs
+  unfolding antilogTest antilogOf power
+  antilogs-hold xs h =
+      record {
+        entries = eqb→eq (length xs) (3 * order F) (both-left (eqb (length xs) (3 * order F)) _ h);
+        entry = λ j l. powers-at (2 * order F) 0 xs (both-right (eqb (length xs) (3 * order F)) _ h) j
+            ∙ ap (λ (i : ℕ). cond (ltb j (2 * order F)) (power (numbers F) 2 i) 0) (zero-add j);
+      }
+
+  -- ---- the product by logs
+  pub log-lt : (x : ℕ) → 0 < x → x < size F → logOf F x < order F
+  log-lt x p l = rw (log-position F x p) (position-is F gen x p l .0)
+
+  log-zero : logOf F 0 ≡ 2 * order F
+  unfolding logOf
+  log-zero = refl
+
+  pub log-le : (x : ℕ) → x < size F → logOf F x ≤ 2 * order F
+  log-le x l = go (decLt 0 x)
+    where
+      go : Dec (0 < x) → logOf F x ≤ 2 * order F
+      go (yes p) = omega (arith, log-lt x p l)
+      go (no z) = let e : logOf F x ≡ 2 * order F = ap (logOf F) (let n : x ≡ 0 = omega arith in n) ∙ log-zero in omega arith
+
+  pub log-product : (x y : ℕ) → 0 < x → x < size F → y < size F → antilogOf F (logOf F x + logOf F y) ≡ mul F x y
+  unfolding antilogOf
+  log-product x y p l m = go (decLt 0 y)
+    where
+      go : Dec (0 < y) → cond (ltb (logOf F x + logOf F y) (2 * order F)) (power (numbers F) 2 (logOf F x + logOf F y)) 0 ≡ mul F x y
+      go (yes q) =
+          let hx = log-lt x p l in let hy = log-lt y q m in
+          rw (lt-ltb (logOf F x + logOf F y) (2 * order F) (omega arith))
+          (power-add F (gen .monic) (unit F gen) 2 (logOf F x) (logOf F y)
+          ∙ ap₂ (mul F) (ap (power (numbers F) 2) (log-position F x p) ∙ position-is F gen x p l .1) (ap (power (numbers F) 2) (log-position F y q) ∙ position-is F gen y q m .1))
+      go (no z) =
+          let e : y ≡ 0 = omega arith in
+          let k : logOf F y ≡ 2 * order F = ap (logOf F) e ∙ log-zero in
+          rw (le-ltb (logOf F x + logOf F y) (2 * order F) (omega arith)) (sym (mul-zero-r x) ∙ ap (mul F x) (sym e))

@@ -1,0 +1,42 @@
+// The quadratic solver over a lent table of half-solutions.
+ghost use mathlib.Core.Path.{_≡_};
+ghost use Prim.Native.Nat.{_<_, _^_};
+ghost use Rattle.refusals.specs.Rows.{Listed};
+ghost use Rattle.field.specs.Field.{fieldOf};
+ghost use Rattle.field.specs.Tables.{Halves};
+ghost use Rattle.field.specs.Calls.{paperRoots, rootsOfQuadratic};
+use crate::arithmetic::product_of;
+use crate::arithmetic::root_of;
+use crate::division::inverse_of;
+use refusals::Refusal;
+
+// The roots of a quadratic: none, one or two, the lower first; or what is turned away.
+pub enum Quadratic {
+    Refused(Refusal),
+    NoRoot,
+    One(u16),
+    Two(u16, u16),
+}
+
+// The roots of z^2 + az + b: where a is 0 the square root of b, else z = ax with x^2 + x = b / a^2.
+pub fn quadratic_of(degree: u16, poly: u16, halves: &[u16], a: u16, b: u16) -> Quadratic
+    requires { ⌜ Listed degree poly × Halves (fieldOf degree poly) (now halves) × (a < 2 ^ degree) × (b < 2 ^ degree) ⌝ }
+    ensures { λ r. ⌜ paperRoots r ≡ (0, rootsOfQuadratic (fieldOf degree poly) a b) ⌝ }
+{
+    if a == 0 {
+        return Quadratic::One(root_of(degree, poly, b));
+    }
+    let v = inverse_of(degree, poly, a);
+    let w = product_of(degree, poly, v, v);
+    let i = product_of(degree, poly, b, w);
+    let j = halves[i as usize];
+    if j == 65535 {
+        return Quadratic::NoRoot;
+    }
+    let x = product_of(degree, poly, a, j);
+    let y = x ^ a;
+    if x < y {
+        return Quadratic::Two(x, y);
+    }
+    Quadratic::Two(y, x)
+}

@@ -1,0 +1,87 @@
+// What is turned away, under the paper's numbers, and the fields that there are.
+ghost use mathlib.Core.Path.{_≡_};
+ghost use Rattle.refusals.specs.Numbers.{numberOf};
+ghost use Rattle.refusals.specs.Rows.{rowAt};
+
+// Each reason to turn an input away.
+pub enum Refusal {
+    Field,
+    Empty,
+    Long,
+    Element,
+    AllZero,
+    Cutoff,
+    Room,
+    Unsound,
+    Stuck,
+    NotDone,
+    Mark,
+    Short,
+    OfZero,
+}
+
+// The paper's number of a refusal.
+pub fn number(r: Refusal) -> u16
+    ensures { λ n. ⌜ n ≡ numberOf r ⌝ }
+{
+    match r {
+        Refusal::Field => 1,
+        Refusal::Empty => 2,
+        Refusal::Long => 3,
+        Refusal::Element => 4,
+        Refusal::AllZero => 5,
+        Refusal::Cutoff => 6,
+        Refusal::Room => 7,
+        Refusal::Unsound => 8,
+        Refusal::Stuck => 9,
+        Refusal::NotDone => 10,
+        Refusal::Mark => 11,
+        Refusal::Short => 12,
+        Refusal::OfZero => 13,
+    }
+}
+
+// A field's row: its degree, its polynomial and its size.
+pub struct Row {
+    pub degree: u16,
+    pub poly: u16,
+    pub size: u16,
+}
+
+const ROWS: [Row; 3] = [
+    Row {
+        degree: 4,
+        poly: 19,
+        size: 16,
+    },
+    Row {
+        degree: 8,
+        poly: 285,
+        size: 256,
+    },
+    Row {
+        degree: 11,
+        poly: 2053,
+        size: 2048,
+    },
+];
+
+pub enum Found {
+    At(Row),
+    Unknown,
+}
+
+// The row of the field of degree m.
+pub fn row_of(m: u16) -> Found
+    ensures { λ r. ⌜ r ≡ rowAt m ⌝ }
+{
+    let mut i = 0;
+    while i < 3 {
+        let row = ROWS[i];
+        if row.degree == m {
+            return Found::At(row);
+        }
+        i += 1;
+    }
+    Found::Unknown
+}

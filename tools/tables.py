@@ -1,0 +1,42 @@
+#!/usr/bin/env python3
+"""tables DEGREE POLYNOMIAL: the constant tables of a field, as crates/field/src/tables.rt holds them.
+
+A new field costs a row in crates/refusals, these tables, and a few lines that name them; the prover tests every entry."""
+import sys
+
+m, poly = int(sys.argv[1]), int(sys.argv[2])
+size = 1 << m
+order = size - 1
+
+
+def double(x):
+    x <<= 1
+    return x ^ poly if x >> m else x
+
+
+def times(a, b):
+    r = 0
+    while a:
+        if a & 1:
+            r ^= b
+        a >>= 1
+        b = double(b)
+    return r
+
+
+half = [65535] * size
+for j in range(0, size, 2):
+    half[times(j, j) ^ j] = j
+powers = [1]
+while len(powers) < 2 * order:
+    powers.append(double(powers[-1]))
+log = [2 * order] + [0] * order
+for j in range(order):
+    log[powers[j]] = j
+antilog = powers + [0] * order
+
+for name, entries in (("HALF", half), ("LOG", log), ("ANTILOG", antilog)):
+    print(f"pub const {name}{m}: [u16; {len(entries)}] = [")
+    for x in entries:
+        print(f"    {x},")
+    print("];\n")
