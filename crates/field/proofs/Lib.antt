@@ -18,3 +18,4 @@ pub mod Solutions
 pub mod Admitting
 pub mod Instance
 pub mod Coincide
+pub mod Lending

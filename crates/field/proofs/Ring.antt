@@ -53,6 +53,11 @@ module _ (F : Field) (monic : Monic F) where
   unfolding mul
   mul-lt a b = reduce-lt F monic (carryFree a b)
 
+  -- a factor may be reduced first
+  pub mul-reduced : (a b : ℕ) → mul F a (mul F b 1) ≡ mul F a b
+  unfolding mul
+  mul-reduced a b = ap (λ (t : ℕ). reduce F (carryFree a (reduce F t))) (carryFree-comm b 1 ∙ carryFree-one-l b) ∙ reduce-right F monic a b
+
   -- twice an element
   pub mul-two : (a : ℕ) → a < size F → mul F 2 a ≡ cut F (a * 2)
   unfolding mul

@@ -15,6 +15,7 @@ pub mod division; // the inverse
 pub mod solver; // the quadratic solver
 pub mod tables; // the constant tables
 pub mod widths; // the field types
+pub mod lent; // tables lent to inner calls, and the product over them
 
 // What an element call answers: a value, or what is turned away.
 pub enum Answer {

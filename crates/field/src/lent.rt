@@ -1,0 +1,72 @@
+// Tables lent to inner calls: a table is named once, here, and never again (a constant array is built anew wherever it is named).
+ghost use mathlib.Core.Path.{_≡_};
+ghost use mathlib.Core.Bool.{true};
+ghost use Prim.Native.Nat.{_-_, _*_, _≤_, _^_};
+ghost use lib.ListN.{length, take};
+ghost use Rattle.refusals.specs.Rows.{known, Listed};
+ghost use Rattle.field.specs.Field.{fieldAt, fieldOf, mul};
+ghost use Rattle.field.specs.Tables.{Halves, Logs, Antilogs};
+use crate::arithmetic::product_of;
+use crate::tables::ANTILOG4;
+use crate::tables::ANTILOG8;
+use crate::tables::ANTILOG11;
+use crate::tables::HALF4;
+use crate::tables::HALF8;
+use crate::tables::HALF11;
+use crate::tables::LOG4;
+use crate::tables::LOG8;
+use crate::tables::LOG11;
+
+// Lends the log table of the field of degree m.
+pub fn logs(m: u16, room: &mut [u16])
+    requires { ⌜ (known m ≡ true) × (2 ^ m ≤ length (now room)) ⌝ }
+    ensures { λ _. ⌜ Logs (fieldAt m) (take (2 ^ m) (now (room .exit))) × (length (now (room .exit)) ≡ length (now (room .entry))) ⌝ }
+{
+    match m {
+        4 => slots::copy(&LOG4, room),
+        8 => slots::copy(&LOG8, room),
+        _ => slots::copy(&LOG11, room),
+    }
+}
+
+// Lends the antilog table of the field of degree m.
+pub fn antilogs(m: u16, room: &mut [u16])
+    requires { ⌜ (known m ≡ true) × (3 * (2 ^ m - 1) ≤ length (now room)) ⌝ }
+    ensures { λ _. ⌜ Antilogs (fieldAt m) (take (3 * (2 ^ m - 1)) (now (room .exit))) × (length (now (room .exit)) ≡ length (now (room .entry))) ⌝ }
+{
+    match m {
+        4 => slots::copy(&ANTILOG4, room),
+        8 => slots::copy(&ANTILOG8, room),
+        _ => slots::copy(&ANTILOG11, room),
+    }
+}
+
+// Lends the quadratic table of the field of degree m.
+pub fn halves(m: u16, room: &mut [u16])
+    requires { ⌜ (known m ≡ true) × (2 ^ m ≤ length (now room)) ⌝ }
+    ensures { λ _. ⌜ Halves (fieldAt m) (take (2 ^ m) (now (room .exit))) × (length (now (room .exit)) ≡ length (now (room .entry))) ⌝ }
+{
+    match m {
+        4 => slots::copy(&HALF4, room),
+        8 => slots::copy(&HALF8, room),
+        _ => slots::copy(&HALF11, room),
+    }
+}
+
+// The product over lent tables, for all numbers: elements by their logs, others digit by digit.
+pub fn times(degree: u16, poly: u16, logs: &[u16], antilogs: &[u16], a: u16, b: u16) -> u16
+    requires { ⌜ Listed degree poly × Logs (fieldOf degree poly) (now logs) × Antilogs (fieldOf degree poly) (now antilogs) ⌝ }
+    ensures { λ r. ⌜ r ≡ mul (fieldOf degree poly) a b ⌝ }
+{
+    if a == 0 {
+        return 0;
+    }
+    let i = a as usize;
+    let j = b as usize;
+    if i < logs.len() {
+        if j < logs.len() {
+            return antilogs[logs[i] as usize + logs[j] as usize];
+        }
+    }
+    product_of(degree, poly, a, product_of(degree, poly, b, 1))
+}

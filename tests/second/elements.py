@@ -1,0 +1,147 @@
+"""Cases and expected lines for product, inverse, position and quadratic.
+
+    elements.py cases --seed S --pairs N > cases.bin
+    elements.py lines < cases.bin
+    elements.py tally < cases.bin
+
+A case is m, a, b, each 16 bits, low byte first.
+"""
+
+import argparse
+import random
+import struct
+import sys
+
+sys.dont_write_bytecode = True
+
+import field
+import reference
+
+CASE = struct.Struct("<HHH")
+UNKNOWN = (0, 1, 5, 13, 255, 260, 65535)
+CALLS = ("product", "inverse", "position", "quadratic")
+
+
+def make_cases(seed, pairs):
+    rng = random.Random(seed)
+    for a in range(16):
+        for b in range(16):
+            yield 4, a, b
+    for m in (8, 11):
+        top = field.size(m) - 1
+        edges = (0, 1, 2, top - 1, top)
+        fixed = [(a, b) for a in edges for b in edges]
+        for number in range(pairs):
+            a = rng.randrange(top + 1)
+            b = rng.randrange(top + 1)
+            if number < len(fixed):
+                a, b = fixed[number]
+            elif number % 16 == 0:
+                a = 0
+            elif number % 16 == 1:
+                b = 0
+            elif number % 16 == 2:
+                b = a
+            elif number % 16 == 3:
+                a = rng.choice(edges)
+            elif number % 16 == 4:
+                b = rng.choice(edges)
+            elif number % 16 == 5:
+                # a double choice of z makes sure of two roots or one
+                z, y = a, b
+                a, b = z ^ y, field.product(m, z, y)
+            yield m, a, b
+    for m in field.DEGREES:
+        q = field.size(m)
+        outside = (q, q + 1, 65535)
+        inside = (0, 1, q - 1, rng.randrange(q))
+        for bad in outside:
+            for good in inside:
+                yield m, bad, good
+                yield m, good, bad
+            for other in outside:
+                yield m, bad, other
+        for _ in range(16):
+            yield m, rng.randrange(q, 65536), rng.randrange(q)
+            yield m, rng.randrange(q), rng.randrange(q, 65536)
+    for m in UNKNOWN:
+        for a in (0, 1, 15, 16, 2047, 65535):
+            for b in (0, 1, 15, 16, 2047, 65535):
+                yield m, a, b
+    for _ in range(64):
+        m = rng.randrange(65536)
+        yield m, rng.randrange(65536), rng.randrange(65536)
+
+
+def read_cases(data):
+    if len(data) % CASE.size:
+        sys.exit("elements.py: the cases end early")
+    return CASE.iter_unpack(data)
+
+
+def answers(m, a, b):
+    return (
+        reference.product(m, a, b),
+        reference.inverse(m, a),
+        reference.position(m, a),
+        reference.quadratic(m, a, b),
+    )
+
+
+def numbers(call, answer):
+    outcome, values, _ = answer
+    if call != "quadratic":
+        return (outcome,) + values
+    if outcome == reference.NONE:
+        return 0, 0
+    if outcome == 0:
+        return (0, len(values)) + values
+    return (outcome,)
+
+
+def line(m, a, b):
+    parts = ["%d %d %d" % (m, a, b)]
+    for call, answer in zip(CALLS, answers(m, a, b)):
+        parts.append(" ".join(str(x) for x in numbers(call, answer)))
+    return " | ".join(parts)
+
+
+def tally(data):
+    counts = {}
+    for m, a, b in read_cases(data):
+        for call, answer in zip(CALLS, answers(m, a, b)):
+            outcome, values, _ = answer
+            word = "outcome %s" % outcome
+            if call == "quadratic" and outcome in (0, reference.NONE):
+                word = "outcome 0, roots %d" % len(values)
+            place = "field %d" % m if m in field.DEGREES else "unknown field"
+            key = (CALLS.index(call), place, word)
+            counts[key] = counts.get(key, 0) + 1
+    for key in sorted(counts):
+        print("%s, %s, %s: %d" % (CALLS[key[0]], key[1], key[2], counts[key]))
+    print("cases: %d" % (len(data) // CASE.size))
+
+
+def main():
+    parser = argparse.ArgumentParser(description="cases for the element calls")
+    commands = parser.add_subparsers(dest="command", required=True)
+    cases = commands.add_parser("cases")
+    cases.add_argument("--seed", type=int, default=1)
+    cases.add_argument("--pairs", type=int, default=1000)
+    commands.add_parser("lines")
+    commands.add_parser("tally")
+    options = parser.parse_args()
+    if options.command == "cases":
+        for case in make_cases(options.seed, options.pairs):
+            sys.stdout.buffer.write(CASE.pack(*case))
+        return
+    data = sys.stdin.buffer.read()
+    if options.command == "tally":
+        tally(data)
+        return
+    for case in read_cases(data):
+        sys.stdout.write(line(*case) + "\n")
+
+
+if __name__ == "__main__":
+    main()

@@ -1,0 +1,272 @@
+"""Job files for the program `roots` and the lines it must print.
+
+    records.py files --seed S --count N FOLDER   (N random files besides the fixed ones)
+    records.py lines FILE
+    records.py tally FOLDER
+
+The folder is made if it is missing; the files are named NNNN-kind.bin.
+"""
+
+import argparse
+import os
+import random
+import sys
+
+sys.dont_write_bytecode = True
+
+import field
+import reference as R
+import tables
+
+LIMIT = R.MOST_BYTES
+EXAMPLE = bytes.fromhex(
+    "4C520401040600070000000100" "4C520501010100" "4C520400040100000000000100"
+)
+
+
+def record(m, cutoff, coefficients, n=None, mark=R.MARK):
+    """n is the count byte, where it is to differ from the truth."""
+    count = len(coefficients) if n is None else n
+    data = mark + bytes((m, cutoff, count))
+    for c in coefficients:
+        data += bytes((c & 255, c >> 8))
+    return data
+
+
+class Maker:
+    def __init__(self, rng):
+        self.rng = rng
+        self.makers = {m: tables.Maker(m, rng) for m in field.DEGREES}
+
+    def good(self):
+        m = self.rng.choice(field.DEGREES)
+        return record(m, self.rng.randrange(4), self.makers[m].polynomial())
+
+    def quick(self):
+        """An accepted record of field 4 or a constant, cheap to search."""
+        rng = self.rng
+        if rng.randrange(2):
+            return record(rng.choice(field.DEGREES), rng.randrange(4), [1 + rng.randrange(15)])
+        return record(4, rng.randrange(4), self.makers[4].polynomial())
+
+    def refused(self):
+        """A complete record with a refusal, or with several."""
+        rng = self.rng
+        m = rng.choice(field.DEGREES)
+        q = field.size(m)
+        f = self.makers[m].polynomial()
+        cutoff = rng.randrange(4)
+        for _ in range(rng.choice((1, 1, 2, 3))):
+            shape = rng.randrange(7)
+            if shape == 0:
+                m = rng.choice((0, 1, 3, 5, 7, 9, 10, 12, 13, 16, 255, rng.randrange(256)))
+            elif shape == 1:
+                f = []
+            elif shape == 2:
+                f = [rng.randrange(q) for _ in range(rng.choice((34, 35, 255, 34 + rng.randrange(222))))]
+            elif shape == 3 and f:
+                f[rng.randrange(len(f))] = rng.choice((q, q + 1, 65535, q + rng.randrange(q)))
+            elif shape == 4:
+                f = [0] * rng.choice((1, 2, 33, 34, 1 + rng.randrange(33)))
+            elif shape == 5:
+                cutoff = rng.choice((4, 5, 255, 4 + rng.randrange(252)))
+            elif shape == 6:
+                f = [q] * len(f)
+        return record(m, cutoff, f)
+
+    def any_record(self):
+        return self.refused() if self.rng.randrange(3) == 0 else self.good()
+
+    def some(self, least=0, most=12):
+        return [self.any_record() for _ in range(self.rng.randrange(least, most + 1))]
+
+    def exactly(self, length):
+        """Complete records that fill `length` bytes, mostly cheap ones."""
+        data = b""
+        while length - len(data) > 300:
+            data += self.quick()
+        nine = record(8, 1, [1, 2])
+        while length - len(data) > 71:
+            data += nine + nine
+        if (length - len(data)) % 2 == 0:  # each record is odd in length
+            data += nine
+        n = (length - len(data) - 5) // 2
+        return data + record(4, 0, [self.rng.randrange(16) for _ in range(n)])
+
+    def damaged(self, data):
+        """A few bytes changed, taken out or put in."""
+        rng = self.rng
+        data = bytearray(data)
+        for _ in range(1 + rng.randrange(3)):
+            if not data:
+                break
+            place = rng.randrange(len(data))
+            shape = rng.randrange(4)
+            if shape == 0:
+                data[place] = rng.randrange(256)
+            elif shape == 1:
+                data[place] ^= 1 << rng.randrange(8)
+            elif shape == 2:
+                del data[place]
+            else:
+                data.insert(place, rng.choice((0, 0x4C, 0x52, rng.randrange(256))))
+        return bytes(data)
+
+    def fixed(self):
+        rng = self.rng
+        yield "empty", b""
+        yield "example", EXAMPLE
+        for length in range(1, len(EXAMPLE)):
+            yield "example-cut-%02d" % length, EXAMPLE[:length]
+        for byte in (0x00, 0x4C, 0x52, 0xFF):
+            yield "one-byte-%02x" % byte, bytes((byte,))
+            yield "one-byte-behind-%02x" % byte, EXAMPLE + bytes((byte,))
+        for mark in (b"\x00\x00", b"\x4c\x53", b"\x4d\x52", b"\x52\x4c", b"\x4c\x4c", b"\x52\x52", b"\xff\xff"):
+            yield "mark-" + mark.hex(), mark
+            yield "mark-behind-" + mark.hex(), EXAMPLE + mark + EXAMPLE
+            yield "mark-record-" + mark.hex(), record(4, 1, [6, 7, 0, 1], mark=mark) + EXAMPLE
+        # every value of one header byte, all else as in the example
+        yield "every-m", b"".join(record(m, 1, [6, 7, 0, 1]) for m in range(256))
+        yield "every-m-empty", b"".join(record(m, 0, []) for m in range(256))
+        yield "every-m-long", b"".join(record(m, 9, [65535] * 34) for m in range(256))
+        yield "every-m-constant-0", b"".join(record(m, 0, [0]) for m in range(256))
+        yield "every-m-constant-300", b"".join(record(m, 0, [300]) for m in range(256))
+        yield "every-cutoff", b"".join(record(4, c, [6, 7, 0, 1]) for c in range(256))
+        for m in (8, 11, 5):
+            f = R.from_roots(8, range(3, 20)) if m == 8 else R.from_roots(11, range(100, 132)) if m == 11 else [1]
+            yield "every-cutoff-field-%d" % m, b"".join(record(m, c, f) for c in range(256))
+        yield "every-cutoff-empty", b"".join(record(4, c, []) for c in range(256))
+        yield "every-cutoff-zero", b"".join(record(4, c, [0, 0]) for c in range(256))
+        yield "every-cutoff-large", b"".join(record(4, c, [16]) for c in range(256))
+        for m in (4, 8, 11, 7):
+            yield "every-n-low-%d" % m, b"".join(record(m, 2, [1] * n) for n in range(128))
+            yield "every-n-high-%d" % m, b"".join(record(m, 2, [1] * n) for n in range(128, 256))
+            yield "every-n-over-%d" % m, b"".join(record(m, 2, [1] * n) for n in range(256))
+        # each n with a body that ends one byte early, or misses
+        for n in (0, 1, 2, 32, 33, 34, 127, 128, 254, 255):
+            for m in (4, 5):
+                body = [1] * n
+                yield "n-%d-short-%d" % (n, m), EXAMPLE + record(m, 9, body)[:-1]
+                yield "n-%d-no-body-%d" % (n, m), EXAMPLE + record(m, 9, [], n=n)
+                yield "n-%d-more-%d" % (n, m), record(m, 1, body) + b"\x00" + EXAMPLE
+        for length in range(2, 5):
+            yield "header-cut-%d" % length, record(255, 255, [1])[:length]
+        # roots 0, all 16, double roots, none, zeros on top
+        yield "figures", b"".join(
+            record(m, c, f)
+            for m, f in (
+                (4, [6, 7, 0, 1]),
+                (4, [1, 0, 0, 1]),
+                (4, [2, 0, 1]),
+                (4, [8, 1, 1]),
+                (4, [6, 1, 1]),
+                (4, [3, 2]),
+                (4, [7]),
+                (4, [0, 1] + [0] * 14 + [1]),
+                (4, [0, 1] + [0] * 30 + [1]),
+                (11, [0, 1, 1, 0]),
+                (4, [0, 0]),
+                (4, [16, 1]),
+                (8, [0] * 32 + [1]),
+                (8, [255]),
+                (11, [2047] * 33),
+                (11, [0] * 33),
+                (11, [1] * 34),
+            )
+            for c in range(5)
+        )
+        # the limit of 65,536 bytes
+        full = self.exactly(LIMIT)
+        yield "limit-exact", full
+        yield "limit-one-more-record", full + EXAMPLE
+        yield "limit-noise-behind", full + bytes(rng.randrange(256) for _ in range(1000))
+        yield "limit-mark-half-behind", full + b"\x4c"
+        yield "limit-twice", full + full
+        for short in (1, 2, 3, 4, 5, 6, 7, 12, 13):
+            front = self.exactly(LIMIT - short)
+            yield "limit-less-%d" % short, front
+            yield "limit-cut-%d" % short, front + record(4, 1, [6, 7, 0, 1]) + EXAMPLE
+            yield "limit-cut-wrong-mark-%d" % short, front + b"\x4c\x4d" + EXAMPLE * 3
+            yield "limit-cut-refused-%d" % short, front + record(5, 9, [1] * 255)
+        yield "limit-zeros", bytes(LIMIT + 10)
+        yield "limit-refused", record(4, 0, []) * 13200
+        yield "limit-constants", record(11, 0, [1]) * 9400
+        yield "limit-marks", R.MARK * 33000
+
+    def random_files(self, count):
+        rng = self.rng
+        for number in range(count):
+            shape = number % 6
+            if shape == 0:
+                yield "good", b"".join(self.good() for _ in range(1 + rng.randrange(10)))
+            elif shape == 1:
+                yield "mixed", b"".join(self.some(1))
+            elif shape == 2:
+                yield "damaged", self.damaged(b"".join(self.some(1)))
+            elif shape == 3:
+                data = b"".join(self.some(1))
+                yield "truncated", data[:rng.randrange(len(data) + 1)]
+            elif shape == 4:
+                noise = bytes(rng.randrange(256) for _ in range(rng.randrange(60)))
+                yield "noise", b"".join(self.some(0, 3)) + rng.choice((b"", R.MARK)) + noise
+            else:
+                # headers drawn at random, bodies of the stated length
+                data = b""
+                for _ in range(rng.randrange(1, 20)):
+                    n = rng.choice((0, 1, 2, 33, 34, rng.randrange(256)))
+                    m = rng.choice((4, 8, 11, rng.randrange(256)))
+                    top = rng.choice((1, 16, 256, 2048, 65536))
+                    body = [rng.randrange(top) for _ in range(n)]
+                    data += record(m, rng.choice((0, 1, 2, 3, 4, rng.randrange(256))), body)
+                yield "headers", data
+
+
+def make_files(seed, count):
+    rng = random.Random(seed)
+    maker = Maker(rng)
+    yield from maker.fixed()
+    yield from maker.random_files(count)
+
+
+def tally(folder):
+    counts = {}
+    files = sorted(os.listdir(folder))
+    for name in files:
+        with open(os.path.join(folder, name), "rb") as file:
+            for text in R.roots_lines(file.read(LIMIT + 1)):
+                outcome = int(text.split()[1])
+                counts[outcome] = counts.get(outcome, 0) + 1
+    for outcome in sorted(counts):
+        print("outcome %d: %d" % (outcome, counts[outcome]))
+    print("files: %d, lines: %d" % (len(files), sum(counts.values())))
+
+
+def main():
+    parser = argparse.ArgumentParser(description="job files for the program roots")
+    commands = parser.add_subparsers(dest="command", required=True)
+    files = commands.add_parser("files")
+    files.add_argument("--seed", type=int, default=1)
+    files.add_argument("--count", type=int, default=120)
+    files.add_argument("folder")
+    lines = commands.add_parser("lines")
+    lines.add_argument("file")
+    tallied = commands.add_parser("tally")
+    tallied.add_argument("folder")
+    options = parser.parse_args()
+    if options.command == "files":
+        os.makedirs(options.folder, exist_ok=True)
+        for number, (kind, data) in enumerate(make_files(options.seed, options.count)):
+            with open(os.path.join(options.folder, "%04d-%s.bin" % (number, kind)), "wb") as file:
+                file.write(data)
+        return
+    if options.command == "tally":
+        tally(options.folder)
+        return
+    with open(options.file, "rb") as file:
+        data = file.read()
+    for text in R.roots_lines(data):
+        sys.stdout.write(text + "\n")
+
+
+if __name__ == "__main__":
+    main()

@@ -1,0 +1,486 @@
+"""Checks of the second program against the paper and against itself.
+
+    selftest.py [--seed S] [--count N]
+
+Exits with 1 at a failure; prints how often each check was made.
+"""
+
+import argparse
+import random
+import sys
+
+sys.dont_write_bytecode = True
+
+import calls
+import elements
+import field
+import polynomials
+import records
+import reference as R
+import tables
+
+counts = {}
+failures = []
+
+
+def check(name, truth, *about):
+    counts[name] = counts.get(name, 0) + 1
+    if not truth:
+        failures.append(name)
+        if len(failures) <= 20:
+            print("FAILED: %s %s" % (name, about), file=sys.stderr)
+
+
+def stale(n):
+    return tuple((40000 + i) % 65536 for i in range(n))
+
+
+def run(m, coefficients, cutoff):
+    """Begin, steps until done, finish: (roots, steps, every table)."""
+    outcome, _, table = R.begin(m, coefficients, cutoff, stale(100))
+    passed = [table]
+    while True:
+        outcome, _, table = R.step(passed[-1])
+        if outcome == R.DONE:
+            break
+        if outcome != 0:
+            return outcome, None, passed
+        passed.append(table)
+    lent = stale(40)
+    _, (s,), memory = R.finish(table, lent)
+    check("finish leaves the slots behind", memory[s:] == lent[s:])
+    return list(memory[:s]), len(passed) - 1, passed
+
+
+# The fields.
+
+
+def check_fields(rng):
+    check("field polynomials", field.POLYNOMIALS == {4: 19, 8: 285, 11: 2053})
+    for m in field.DEGREES:
+        q = field.size(m)
+        tables_of_logs = field.logs(m)
+        for a in range(q):
+            same = all(tables_of_logs.product(a, b) == c for b, c in enumerate(field.row(m, a)))
+            check("rows of products by logarithms equal the plain ones", same, m, a)
+            if a:
+                check("inverses", tables_of_logs.inverse(a) == field.inverse(m, a), m, a)
+                check("positions", field.power(m, 2, tables_of_logs.log[a]) == a if m < 11 or a % 64 == 1 else
+                      field.position(m, a) == tables_of_logs.log[a], m, a)
+        check("powers of a run through every nonzero element", sorted(field.powers(m)) == list(range(1, q)), m)
+        bits = [field.trace_bits(m, x) for x in range(q)]
+        check("no two elements share their trace bits", len(set(bits)) == q, m)
+        for x in range(q):
+            t = field.trace(m, x)
+            fact = {4: x >> 3, 8: x >> 5, 11: x ^ x >> 9}[m] & 1
+            check("traces", t in (0, 1) and t == field.trace_of(m, x) == fact, m, x)
+            again = tuple(field.trace(m, field.product(m, field.power(m, 2, i), x)) for i in range(m))
+            check("trace bits", again == bits[x], m, x)
+        half = field.half_table(m)
+        for i in range(q):
+            j = half[i]
+            if field.trace(m, i):
+                check("entries of the quadratic table", j == 65535, m, i)
+            else:
+                check("entries of the quadratic table", j % 2 == 0 and field.product(m, j, j) ^ j == i, m, i)
+        pairs = [(a, b) for a in range(q) for b in range(q)]
+        if m > 4:
+            pairs = rng.sample(pairs, 3000)
+        for a, b in pairs:
+            if a == 0:
+                roots = [x for x in range(q) if field.product(m, x, x) == b]
+                single = len(roots) == 1
+            else:
+                inverse = tables_of_logs.inverse(a)
+                j = half[field.product(m, b, field.product(m, inverse, inverse))]
+                roots = [] if j == 65535 else sorted((field.product(m, a, j), field.product(m, a, j ^ 1)))
+                single = len(roots) != 1
+            check("quadratics by the table equal those by trial", single and roots == field.quadratic(m, a, b), m, a, b)
+    paper = [0, 6, 10, 12, 8, 14, 2, 4] + [65535] * 8
+    check("the paper's quadratic table for m = 4", field.half_table(4) == paper)
+
+
+def check_elements():
+    check("element refusals", R.product(5, 99, 99)[0] == 1)
+    check("element refusals", R.product(260, 1, 1)[0] == 1)
+    check("element refusals", R.product(4, 16, 0)[0] == 4 and R.product(4, 0, 16)[0] == 4)
+    check("element refusals", R.inverse(5, 0)[0] == 1 and R.inverse(4, 16)[0] == 4)
+    check("element refusals", R.inverse(4, 0)[0] == 13 and R.position(8, 0)[0] == 13)
+    check("element refusals", R.quadratic(11, 0, 2048)[0] == 4 and R.quadratic(12, 0, 0)[0] == 1)
+    check("element answers", R.quadratic(4, 1, 8) == (R.NONE, (), ()))
+    check("element answers", R.quadratic(4, 1, 6) == (0, (2, 3), ()))
+    check("element answers", R.quadratic(4, 0, 2) == (0, (5,), ()))
+    check("element answers", R.quadratic(4, 1, 0) == (0, (0, 1), ()))
+    check("element answers", R.position(4, 3) == (0, (4,), ()) and R.position(4, 1) == (0, (0,), ()))
+    check("element lines", elements.line(4, 3, 2) == "4 3 2 | 0 6 | 0 14 | 0 4 | 0 2 1 2")
+    check("element lines", elements.line(4, 1, 8) == "4 1 8 | 0 8 | 0 1 | 0 0 | 0 0")
+    check("element lines", elements.line(4, 0, 2) == "4 0 2 | 0 0 | 13 | 13 | 0 1 5")
+    check("element lines", elements.line(4, 1, 16) == "4 1 16 | 4 | 0 1 | 0 0 | 4")
+    check("element lines", elements.line(260, 1, 1) == "260 1 1 | 1 | 1 | 1 | 1")
+
+
+# The paper's figures.
+
+
+def check_figures():
+    name = "bench figures"
+
+    def figure(m, f, cutoff, roots, steps):
+        lent = stale(35)
+        outcome, values, memory = R.whole(m, f, cutoff, lent)
+        expected = tuple(roots) + lent[len(roots):]
+        check(name, (outcome, values, memory) == (0, (len(roots), steps), expected), m, f, cutoff)
+        check(name, R.search(m, f, lent) == (0, (len(roots),), expected), m, f)
+        check(name, run(m, f, cutoff)[:2] == (roots, steps), m, f, cutoff)
+
+    for cutoff, steps in ((1, 4), (2, 3), (3, 0), (0, 3)):
+        figure(4, [6, 7, 0, 1], cutoff, [1, 2, 3], steps)
+    passed = run(4, [6, 7, 0, 1], 1)[2]
+    third = (4, 1, 2, 3, 3, 1, 1, 3, 2, 6, 1)
+    fourth = (4, 1, 3, 4, 3, 1, 1, 4, 1, 2, 4, 1, 3)
+    check(name, passed[3] == third + (0,) * (100 - len(third)))
+    check(name, passed[4] == fourth + (0,) * (100 - len(fourth)))
+    figure(4, [1, 0, 0, 1], 1, [1, 6, 7], 4)
+    figure(4, [1, 0, 0, 1], 0, [1, 6, 7], 2)
+    for cutoff in (1, 2, 3):
+        figure(4, [2, 0, 1], cutoff, [5], 0)
+        figure(4, [8, 1, 1], cutoff, [], 0)
+        figure(4, [3, 2], cutoff, [8], 0)
+        figure(4, [7], cutoff, [], 0)
+    figure(4, [6, 1, 1], 3, [2, 3], 0)
+    for cutoff, steps in ((1, 15), (2, 7), (3, 7)):
+        figure(4, [0, 1] + [0] * 14 + [1], cutoff, list(range(16)), steps)
+    figure(11, [0, 1, 1, 0], 1, [0, 1], 1)
+    lent = stale(32)
+    for f, cutoff, number in (([0, 0], 1, 5), ([16, 1], 1, 4), ([3, 2], 4, 6)):
+        check(name, R.whole(4, f, cutoff, lent) == (number, (), lent))
+        check(name, R.begin(4, f, cutoff, stale(100)) == (number, (), stale(100)))
+    check(name, R.whole(4, [3, 2], 3, lent)[0] == 0)
+    check(name, R.search(4, [0, 0], lent) == (5, (), lent) and R.search(4, [16, 1], lent) == (4, (), lent))
+    for call in (lambda f: R.whole(4, f, 0, lent)[0], lambda f: R.search(4, f, lent)[0],
+                 lambda f: R.begin(4, f, 0, stale(100))[0]):
+        check(name, call([1] * 33) == 0 and call([1] * 34) == 3 and call([1] * 33 + [0]) == 3 and call([]) == 2)
+    check(name, R.whole(4, [3, 2], 0, stale(31)) == (7, (), stale(31)))
+    check(name, R.search(4, [3, 2], stale(31)) == (7, (), stale(31)))
+    done = run(4, [6, 7, 0, 1], 1)[2][-1]
+    check(name, R.finish(done, stale(32))[0] == 0 and R.finish(done, stale(31)) == (7, (), stale(31)))
+    for table in (done[:99], done + (0,), ()):
+        check(name, R.begin(4, [3, 2], 0, table) == (7, (), table))
+        check(name, R.step(table) == (7, (), table))
+        check(name, R.finish(table, lent) == (7, (), lent))
+    double = R.write_table(4, 1, 0, [(0, [0, 0, 1])])  # P = z^2
+    outcome, _, table = R.step(double)
+    check(name, outcome == 0 and table == R.write_table(4, 1, 1, [(1, [0, 1]), (1, [0, 1])]))
+    check(name, R.finish(table, lent) == (0, (1,), (0,) + lent[1:]))
+
+
+# Order of refusals, stated the other way: the least number that applies.
+
+
+def check_orders(rng, count):
+    for _ in range(count):
+        m = rng.choice((4, 8, 11, 4, 8, 11, 0, 5, 260))
+        q = 1 << m if m in (4, 8, 11) else None
+        n = rng.choice((0, 1, 2, 33, 34, 35))
+        top = rng.choice((1, 16, 17, 256, 257, 2048, 2049, 65536))
+        f = [rng.randrange(top) for _ in range(n)]
+        if f and rng.randrange(8) == 0:
+            f[rng.randrange(n)] = 65535
+        cutoff = rng.choice((0, 1, 2, 3, 4, 65535))
+        room = rng.choice((0, 31, 32, 33))
+        slots = rng.choice((0, 99, 100, 100, 101))
+        applies = {
+            1: q is None,
+            2: n == 0,
+            3: n > 33,
+            4: q is not None and any(c >= q for c in f),
+            5: n > 0 and sum(f) == 0,
+            6: cutoff > 3,
+            7: room < 32,
+        }
+        first = min([no for no in applies if applies[no]], default=0)
+        check("order of refusals", R.whole(m, f, cutoff, stale(room))[0] == first, m, f, cutoff, room)
+        first = min([no for no in applies if applies[no] and no != 6], default=0)
+        check("order of refusals", R.search(m, f, stale(room))[0] == first, m, f, room)
+        applies[7] = slots != 100
+        first = min([no for no in applies if applies[no]], default=0)
+        check("order of refusals", R.begin(m, f, cutoff, stale(slots))[0] == first, m, f, cutoff, slots)
+
+
+# Polynomials.
+
+
+def horner(m, f, x):
+    value = 0
+    for c in reversed(f):
+        value = field.product(m, value, x) ^ c
+    return value
+
+
+def check_polynomials(rng, count):
+    for m in field.DEGREES:
+        maker = polynomials.Maker(m, rng)
+        for number in range(count):
+            p = maker.monic_of(maker.size_of())
+            f = R.trim(maker.any_list(rng.randrange(34)))
+            quotient, rest = R.divide(m, f, p)
+            check("f = quotient p + remainder",
+                  R.add(R.multiply(m, quotient, p), rest) == f and len(rest) < len(p), m, p, f)
+            g = R.gcd(m, p, f)
+            check("the gcd divides both", g[-1] == 1 and not R.remainder(m, p, g) and not R.remainder(m, f, g), m, p, f)
+            k = rng.randrange(m)
+            term = R.remainder(m, [0, field.power(m, 2, k)], p)
+            total = []
+            for _ in range(m):
+                total = R.add(total, term)
+                term = R.remainder(m, R.multiply(m, term, term), p)
+            check("Tr(a^i z) modulo p by squaring", total == R.remainder(m, R.trace_polynomial(m, k), p), m, p, k)
+            d = rng.randrange(1, min(31, field.size(m)))
+            chosen = rng.sample(range(field.size(m)), d + 1)
+            i = rng.randrange(d + 1)
+            j = rng.randrange(i, d + 1)
+            left, right = R.from_roots(m, chosen[:j]), R.from_roots(m, chosen[i:])
+            check("the gcd of split polynomials", R.gcd(m, left, R.scale(m, right, maker.nonzero())) ==
+                  R.from_roots(m, chosen[i:j]), m, chosen, i, j)
+            if number < 30:
+                every = [x for x in range(field.size(m)) if horner(m, p, x) == 0]
+                check("roots by Horner and the plain product", every == R.zeros(m, p), m, p)
+            x = rng.randrange(field.size(m))
+            check("one value by Horner", horner(m, f, x) == R.value_at(m, f, x), m, f, x)
+        for i in range(m):
+            f = R.trace_polynomial(m, i)
+            for x in rng.sample(range(field.size(m)), 16):
+                check("Tr(a^i z) at an element", R.value_at(m, f, x) == field.trace_bits(m, x)[i], m, i, x)
+
+
+# Tables.
+
+
+def lcp(s, t):
+    n = 0
+    while n < len(s) and s[n] == t[n]:
+        n += 1
+    return n
+
+
+def steps_by_prefixes(m, roots, c):
+    """A third count of the steps, from sorted trace bits."""
+    bits = sorted(field.trace_bits(m, r) for r in roots)
+    steps = 0
+    for p in range(len(bits) - c):
+        before = lcp(bits[p - 1], bits[p]) if p else -1
+        steps += max(0, min(lcp(bits[p], bits[p + c]), m - 1) - before)
+    return steps
+
+
+def expected_tables(m, roots, c):
+    """Each table from begin to done, from groups of roots alone."""
+    current = [(0, list(roots))] if roots else []
+    steps = 0
+    while True:
+        yield R.write_table(m, c, steps, [(level, R.from_roots(m, group)) for level, group in current])
+        places = [k for k, (_, group) in enumerate(current) if len(group) > c]
+        if not places:
+            return
+        level, group = current[places[0]]
+        halves = [[r for r in group if field.trace_bits(m, r)[level] == bit] for bit in (0, 1)]
+        current[places[0]:places[0] + 1] = [(level + 1, half) for half in halves if half]
+        steps += 1
+
+
+def check_begun(m, roots, c, passed):
+    for table in passed:
+        sound = R.read_table(table)
+        check("begun tables are sound", sound is not None, table)
+        _, _, steps, factors = sound
+        prefixes = []
+        for level, f in factors:
+            found = R.zeros(m, f)
+            check("a factor has its degree in roots", len(found) == len(f) - 1, table)
+            bits = {field.trace_bits(m, r)[:level] for r in found}
+            check("a factor's roots share their bits", len(bits) == 1, table)
+            prefix = bits.pop()
+            check("a factor holds the whole group",
+                  found == [r for r in roots if field.trace_bits(m, r)[:level] == prefix], table)
+            prefixes.append(prefix)
+        check("factors ascend by trace bits", prefixes == sorted(prefixes), table)
+
+
+def check_whole(rng, count):
+    for m in field.DEGREES:
+        maker = tables.Maker(m, rng)
+        for number in range(count):
+            f = maker.polynomial()
+            cutoff = rng.randrange(4)
+            c = cutoff or 2
+            lent = stale(rng.choice((32, 33, 50)))
+            outcome, (s, steps), memory = R.whole(m, f, cutoff, lent)
+            roots = list(memory[:s])
+            check("whole call: the list", outcome == 0 and memory[s:] == lent[s:] and roots == sorted(set(roots)))
+            check("plain search equals the whole call", R.search(m, f, lent) == (0, (s,), memory), m, f)
+            found, walked, passed = run(m, f, cutoff)
+            check("begin, steps, finish give the same roots and steps", (found, walked) == (roots, steps), m, f, cutoff)
+            check("steps by prefixes", steps_by_prefixes(m, roots, c) == steps, m, roots, c)
+            check("every table from groups", list(expected_tables(m, roots, c)) == passed, m, f, cutoff)
+            if number < count // 8:
+                check_begun(m, roots, c, passed)
+
+
+def sound_again(table):
+    """The paragraph on soundness once more, slot by slot."""
+    slots = list(table)
+    m, c, count, steps = (slots.pop(0) for _ in range(4))
+    if m not in (4, 8, 11) or c not in (1, 2, 3) or not count <= 32:
+        return False
+    s = 0
+    for _ in range(count):
+        if len(slots) < 2:
+            return False
+        level, d = slots.pop(0), slots.pop(0)
+        s += d
+        if not (level <= m and d >= 1 and s <= 32 and d <= len(slots)):
+            return False
+        for _ in range(d):
+            if not slots.pop(0) < 2**m:
+                return False
+    return steps <= m * (s // (c + 1)) and not any(slots)
+
+
+def check_tables(rng, count):
+    for m in field.DEGREES:
+        maker = tables.Maker(m, rng)
+        every = list(maker.edges())
+        every += [maker.foreign() for _ in range(count)] + [maker.done_foreign() for _ in range(count)]
+        for table in every:
+            check("foreign tables are sound", sound_again(table) and R.read_table(table) is not None, table)
+            first = R.read_table(table)
+            union = set()
+            for _, f in first[3]:
+                union.update(R.zeros(m, f))
+            while True:
+                before = R.read_table(table)
+                outcome, _, after = R.step(table)
+                above = [f for f in before[3] if len(f[1]) - 1 > before[1]]
+                if outcome != 0:
+                    check("a step not taken writes nothing", after == table)
+                    check("done has no factor above", (outcome == R.DONE) == (not above), table)
+                    check("9 is by the first factor above", (outcome == 9) == bool(
+                        above and (above[0][0] == m or before[2] == R.limit(m, before[1], before[3]))), table)
+                    break
+                check("a step keeps the table sound", sound_again(after), table)
+                table = after
+            outcome, values, memory = R.finish(table, stale(32))
+            if above:
+                check("finish before done gives 10", (outcome, values, memory) == (10, (), stale(32)))
+            else:
+                check("steps keep the union of the roots", list(memory[:values[0]]) == sorted(union), table)
+        for table in rng.sample(every, min(20, len(every))):
+            for damaged in maker.damage(table):
+                truth = sound_again(damaged)
+                check("soundness of damaged tables", truth == (R.read_table(damaged) is not None), damaged)
+                check("an unsound table gives 8", truth != (R.step(damaged)[0] == 8) and
+                      truth != (R.finish(damaged, stale(32))[0] == 8), damaged)
+
+
+# Records.
+
+
+def check_records(rng, count):
+    example = records.EXAMPLE
+    lines = ["1 0 3 4 1 2 3", "2 1", "3 0 3 2 1 6 7"]
+    check("the paper's input of three records", R.roots_lines(example) == lines)
+    check("no input, no line", R.roots_lines(b"") == [])
+    for length in range(len(example) + 1):
+        whole = [line for line, end in zip(lines, (13, 20, 33)) if end <= length]
+        if length not in (0, 13, 20, 33):
+            whole.append("%d 12" % (len(whole) + 1))
+        check("the example cut short", R.roots_lines(example[:length]) == whole, length)
+    check("reader", R.read_record(example, 0) == (0, (4, 1, 5, 8, 13), ()))
+    check("reader", R.read_record(example, 13) == (1, (20,), ()))
+    check("reader", R.read_record(example, 20) == (0, (4, R.HOUSE, 25, 8, 33), ()))
+    for at in (33, 34, 100, 10**6):
+        check("reader", R.read_record(example, at) == (R.END, (), ()))
+    make = records.record
+    for data, number in (
+        (make(5, 9, []), 1),
+        (make(5, 9, [65535] * 34), 1),
+        (make(4, 9, []), 2),
+        (make(4, 9, [65535] * 34), 3),
+        (make(4, 9, [65535] * 255), 3),
+        (make(4, 9, [16, 0]), 4),
+        (make(4, 9, [0, 0]), 5),
+        (make(4, 4, [1]), 6),
+        (make(4, 255, [1]), 6),
+        (make(5, 9, [1] * 34)[:-1], 12),
+        (make(4, 9, [1] * 255)[:-1], 12),
+        (make(4, 9, [], n=1), 12),
+        (b"\x00", 12),
+        (b"\x00\x00", 11),
+        (b"\x4c\x53", 11),
+        (b"\x4c\x52", 12),
+        (b"\x4c\x52\x04\x01", 12),
+    ):
+        values = (len(data),) if number < 7 else ()
+        check("reader", R.read_record(data, 0) == (number, values, ()), data)
+    check("no roots, no space behind", R.roots_lines(make(4, 1, [8, 1, 1])) == ["1 0 0 0"])
+    check("the program stops after 11", R.roots_lines(b"\x00\x00" + example) == ["1 11"])
+    sizes = set()
+    for kind, data in records.make_files(rng.randrange(1000), count):
+        if kind.startswith("limit"):
+            sizes.add(len(data))
+            cut = R.roots_lines(data[:65536])
+            check("what is behind 65,536 bytes is ignored", R.roots_lines(data) == cut, kind)
+            if kind == "limit-exact":
+                exact = cut
+                check("exactly 65,536 bytes end without 12", " 12" not in cut[-1][-3:] or cut[-1].count(" ") > 1)
+            if kind == "limit-one-more-record":
+                check("a record behind the limit has no line", cut == exact)
+            if kind.startswith("limit-cut-") and "wrong" not in kind and not kind.endswith("-13"):
+                check("a record cut by the limit gives 12", cut[-1].split()[1:] == ["12"], kind)
+    check("sizes about the limit", {65535, 65536, 65537} <= sizes)
+
+
+# The case formats.
+
+
+def check_formats(rng):
+    for case in polynomials.make_cases(rng.randrange(1000), 90):
+        polynomials.check(case)
+        back = list(polynomials.unpack(polynomials.pack(*case)))
+        check("polynomial cases survive packing", back == [tuple(case)], case)
+        polynomials.line(case)
+    for _ in range(50):
+        table = tuple(rng.randrange(65536) for _ in range(rng.choice((0, 99, 100, 101))))
+        lent = tuple(rng.randrange(65536) for _ in range(rng.choice((0, 31, 32))))
+        data = tables.pack_begin(4, [6, 7, 0, 1], 1, table) + tables.pack_step(table) + tables.pack_finish(table, lent)
+        back = list(tables.Tape(data).answers())
+        direct = [(0, R.begin(4, [6, 7, 0, 1], 1, table)), (1, R.step(table)), (2, R.finish(table, lent))]
+        check("table cases survive packing", back == direct)
+        data = calls.pack(0, 4, 1, [6, 7, 0, 1], lent) + calls.pack(1, 4, 0, [6, 7, 0, 1], lent)
+        direct = [(0, R.whole(4, [6, 7, 0, 1], 1, lent)), (1, R.search(4, [6, 7, 0, 1], lent))]
+        check("call cases survive packing", list(calls.answers(data)) == direct)
+
+
+def main():
+    parser = argparse.ArgumentParser(description="checks of the second program")
+    parser.add_argument("--seed", type=int, default=1)
+    parser.add_argument("--count", type=int, default=1000)
+    options = parser.parse_args()
+    rng = random.Random(options.seed)
+    check_fields(rng)
+    check_elements()
+    check_figures()
+    check_orders(rng, 3 * options.count)
+    check_polynomials(rng, options.count)
+    check_whole(rng, options.count)
+    check_tables(rng, options.count // 4)
+    check_records(rng, 60)
+    check_formats(rng)
+    for name, count in counts.items():
+        print("%s: %d" % (name, count))
+    print("checks: %d, failures: %d" % (sum(counts.values()), len(failures)))
+    return 1 if failures else 0
+
+
+if __name__ == "__main__":
+    sys.exit(main())
