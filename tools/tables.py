@@ -1,5 +1,5 @@
 #!/usr/bin/env python3
-"""tables DEGREE POLYNOMIAL: the constant tables of a field, as crates/field/src/tables.rt holds them.
+"""tables DEGREE POLYNOMIAL: the constant tables of a field, as crates/field/src/halves.rt and logtables.rt hold them.
 
 A new field costs a row in crates/refusals, these tables, and a few lines that name them; the prover tests every entry."""
 import sys

@@ -1,7 +1,7 @@
 // Reads cases of six bytes from standard input, m, a and b with the low byte first, and prints for each the outcomes of the four
 // element calls: `m a b | product | inverse of a | position of a | roots of z^2 + az + b`.
-use field::solver::Quadratic;
 use field::Answer;
+use field::solver::Quadratic;
 use libc::STDIN_FILENO;
 use libc::STDOUT_FILENO;
 

@@ -7,15 +7,15 @@ ghost use Rattle.refusals.specs.Rows.{known, Listed};
 ghost use Rattle.field.specs.Field.{fieldAt, fieldOf, mul};
 ghost use Rattle.field.specs.Tables.{Halves, Logs, Antilogs};
 use crate::arithmetic::product_of;
-use crate::tables::ANTILOG4;
-use crate::tables::ANTILOG8;
-use crate::tables::ANTILOG11;
-use crate::tables::HALF4;
-use crate::tables::HALF8;
-use crate::tables::HALF11;
-use crate::tables::LOG4;
-use crate::tables::LOG8;
-use crate::tables::LOG11;
+use crate::halves::HALF4;
+use crate::halves::HALF8;
+use crate::halves::HALF11;
+use crate::logtables::ANTILOG4;
+use crate::logtables::ANTILOG8;
+use crate::logtables::ANTILOG11;
+use crate::logtables::LOG4;
+use crate::logtables::LOG8;
+use crate::logtables::LOG11;
 
 // Lends the log table of the field of degree m.
 pub fn logs(m: u16, room: &mut [u16])

@@ -13,7 +13,8 @@ use widths::roots_in;
 pub mod arithmetic; // the shared reduction, product and square root
 pub mod division; // the inverse
 pub mod solver; // the quadratic solver
-pub mod tables; // the constant tables
+pub mod halves; // the quadratic tables
+pub mod logtables; // the log and antilog tables
 pub mod widths; // the field types
 pub mod lent; // tables lent to inner calls, and the product over them
 

@@ -8,14 +8,14 @@ ghost use Rattle.field.specs.Calls.{paperRoots, rootsOfQuadratic};
 use crate::arithmetic::position_of;
 use crate::arithmetic::product_of;
 use crate::division::inverse_of;
+use crate::halves::HALF4;
+use crate::halves::HALF8;
+use crate::halves::HALF11;
+use crate::logtables::LOG4;
+use crate::logtables::LOG8;
+use crate::logtables::LOG11;
 use crate::solver::Quadratic;
 use crate::solver::quadratic_of;
-use crate::tables::HALF4;
-use crate::tables::HALF8;
-use crate::tables::HALF11;
-use crate::tables::LOG4;
-use crate::tables::LOG8;
-use crate::tables::LOG11;
 
 // The field of 16 elements.
 pub struct F4 {}
