@@ -1,6 +1,6 @@
 // Reads cases of six bytes from standard input, m, a and b with the low byte first, and prints for each the outcomes of the four
 // element calls: `m a b | product | inverse of a | position of a | roots of z^2 + az + b`.
-use field::Answer;
+use elements::Answer;
 use field::solver::Quadratic;
 use libc::STDIN_FILENO;
 use libc::STDOUT_FILENO;
@@ -51,10 +51,10 @@ fn print_case(m: u16, a: u16, b: u16) {
     io::print_decimal(STDOUT_FILENO, m as u64);
     print_next(a as u64);
     print_next(b as u64);
-    print_answer(field::product(m, a, b));
-    print_answer(field::inverse(m, a));
-    print_answer(field::position(m, a));
-    print_roots(field::quadratic(m, a, b));
+    print_answer(elements::product(m, a, b));
+    print_answer(elements::inverse(m, a));
+    print_answer(elements::position(m, a));
+    print_roots(elements::quadratic(m, a, b));
     io::write_all(STDOUT_FILENO, b"\n");
 }
 

@@ -15,7 +15,4 @@ pub mod Inverting
 pub mod Tree
 pub mod Logarithms
 pub mod Solutions
-pub mod Admitting
 pub mod Instance
-pub mod Coincide
-pub mod Lending

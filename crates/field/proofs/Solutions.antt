@@ -17,7 +17,7 @@ use Rattle.algebra.specs.Trial.{Ascending}
 use Rattle.algebra.specs.Polynomial.{eval, isRoot, rootsOf}
 use Rattle.algebra.proofs.Trial.{kept-only}
 use Rattle.field.specs.Field.{numbers}
-use Rattle.field.specs.Calls.{rootsOfQuadratic}
+use Rattle.field.specs.Quadratics.{rootsOfQuadratic}
 use Rattle.field.proofs.Xor.{xor-assoc, xor-cancel, xor-equal, xor-swap, xor-digit}
 use Rattle.field.proofs.Ring.{RingLaws, ring}
 use Rattle.field.proofs.Generator.{Generated, unit, zero-product, mul-inverse}

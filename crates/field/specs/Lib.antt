@@ -1,4 +1,4 @@
 pub mod Field
 pub mod Division
 pub mod Tables
-pub mod Calls
+pub mod Quadratics

@@ -4,7 +4,7 @@ ghost use Prim.Native.Nat.{_<_, _^_};
 ghost use Rattle.refusals.specs.Rows.{Listed};
 ghost use Rattle.field.specs.Field.{fieldOf};
 ghost use Rattle.field.specs.Tables.{Halves};
-ghost use Rattle.field.specs.Calls.{paperRoots, rootsOfQuadratic};
+ghost use Rattle.field.specs.Quadratics.{paperRoots, rootsOfQuadratic};
 use crate::arithmetic::product_of;
 use crate::arithmetic::root_of;
 use crate::division::inverse_of;

@@ -1,0 +1,33 @@
+-- `elements::position` meets its contract: the tests decide, and the value is that of the shared routine.
+-- Assumes nothing.
+use mathlib.Core.Path.{_≡_, sym, ap, _∙_, subst}
+use mathlib.Core.List.{List, [], _∷_}
+use Prim.Native.Nat.{ℕ}
+use borrow.Author.Needs.{needs}
+use Rattle.elements.proofs.Admitting.{let-in, turned-away, one-told}
+use Rattle.refusals.proofs.Order.{refused, accepted}
+use Rattle.elements.proofs.position.Statement.{statement}
+use Rattle.elements.proofs.position.Tie as tie
+
+admit-nonzero-requires : tie.Need-admit-nonzero-requires
+admit-nonzero-requires c κs = search needs
+
+enum-known-k : tie.Need-enum-known-k
+enum-known-k c = search needs
+
+enum-told : tie.Need-enum-told
+enum-told c = search needs
+
+position-in-requires : tie.Need-position-in-requires
+position-in-requires c κs =
+    let i = let-in (c .before .before .admit-nonzero .ensures) (c .enum-told .given .1) in let t = one-told (i .0) in (t .field, t .positive, t .below)
+
+returns : tie.Need-returns
+returns c = sym (refused _ (turned-away _ (c .before .before .before .admit-nonzero .ensures) (c .before .k .given .1)))
+
+returns-2 : tie.Need-returns-2
+returns-2 c =
+    let i = let-in (c .before .before .before .admit-nonzero .ensures) (c .before .enum-told .given .1) in ap (λ (v : ℕ). (0, v ∷ [])) (c .position-in .ensures) ∙ sym (accepted _ (i .0))
+
+pub position-spec : {M : Type 1} → statement M
+position-spec = tie.close (tie.spec admit-nonzero-requires enum-known-k enum-told position-in-requires returns returns-2)

@@ -1,0 +1,98 @@
+// The public element calls: product, inverse, position, quadratic. Each answers every input.
+ghost use mathlib.Core.Path.{_≡_};
+ghost use Rattle.field.specs.Quadratics.{paperRoots};
+ghost use Rattle.elements.specs.Calls.{paper, productOutcome, inverseOutcome, positionOutcome, quadraticOutcome, pairTests, nonzeroTests, Admits};
+use field::arithmetic::product_of;
+use field::division::inverse_of;
+use field::solver::Quadratic;
+use refusals::Found;
+use refusals::Refusal;
+use refusals::Row;
+use tables::widths::position_in;
+use tables::widths::roots_in;
+
+// What an element call answers: a value, or what is turned away.
+pub enum Answer {
+    Value(u16),
+    Refused(Refusal),
+}
+
+// What the tests of an element call find: the row of the field, or the refusal.
+pub enum Admission {
+    In(Row),
+    Out(Refusal),
+}
+
+// The tests of the calls on two elements.
+fn admit_pair(m: u16, a: u16, b: u16) -> Admission
+    ensures { λ r. ⌜ Admits (pairTests m a b) m r ⌝ }
+{
+    let found = refusals::row_of(m);
+    let Found::At(row) = found else {
+        return Admission::Out(Refusal::Field);
+    };
+    if row.size <= a {
+        return Admission::Out(Refusal::Element);
+    }
+    if row.size <= b {
+        return Admission::Out(Refusal::Element);
+    }
+    Admission::In(row)
+}
+
+// The tests of the calls on one element that must not be 0.
+fn admit_nonzero(m: u16, a: u16) -> Admission
+    ensures { λ r. ⌜ Admits (nonzeroTests m a) m r ⌝ }
+{
+    let found = refusals::row_of(m);
+    let Found::At(row) = found else {
+        return Admission::Out(Refusal::Field);
+    };
+    if row.size <= a {
+        return Admission::Out(Refusal::Element);
+    }
+    if a == 0 {
+        return Admission::Out(Refusal::OfZero);
+    }
+    Admission::In(row)
+}
+
+// The product of a and b in the field of degree m.
+pub fn product(m: u16, a: u16, b: u16) -> Answer
+    ensures { λ r. ⌜ paper r ≡ productOutcome m a b ⌝ }
+{
+    match admit_pair(m, a, b) {
+        Admission::Out(k) => Answer::Refused(k),
+        Admission::In(row) => Answer::Value(product_of(m, row.poly, a, b)),
+    }
+}
+
+// The inverse of a in the field of degree m.
+pub fn inverse(m: u16, a: u16) -> Answer
+    ensures { λ r. ⌜ paper r ≡ inverseOutcome m a ⌝ }
+{
+    match admit_nonzero(m, a) {
+        Admission::Out(k) => Answer::Refused(k),
+        Admission::In(row) => Answer::Value(inverse_of(m, row.poly, a)),
+    }
+}
+
+// The position of a root r in the field of degree m: where the bad bit stands.
+pub fn position(m: u16, r: u16) -> Answer
+    ensures { λ j. ⌜ paper j ≡ positionOutcome m r ⌝ }
+{
+    match admit_nonzero(m, r) {
+        Admission::Out(k) => Answer::Refused(k),
+        Admission::In(_) => Answer::Value(position_in(m, r)),
+    }
+}
+
+// The roots of z^2 + az + b in the field of degree m.
+pub fn quadratic(m: u16, a: u16, b: u16) -> Quadratic
+    ensures { λ r. ⌜ paperRoots r ≡ quadraticOutcome m a b ⌝ }
+{
+    match admit_pair(m, a, b) {
+        Admission::Out(k) => Quadratic::Refused(k),
+        Admission::In(_) => roots_in(m, a, b),
+    }
+}

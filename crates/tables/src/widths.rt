@@ -1,0 +1,159 @@
+// The field types: each has its own constants, and thin calls over what the fields share.
+ghost use mathlib.Core.Path.{_≡_};
+ghost use mathlib.Core.Bool.{true};
+ghost use Prim.Native.Nat.{_<_, _^_};
+ghost use Rattle.refusals.specs.Rows.{known};
+ghost use Rattle.field.specs.Field.{fieldAt, mul, inverse, position};
+ghost use Rattle.field.specs.Quadratics.{paperRoots, rootsOfQuadratic};
+use crate::halves::HALF4;
+use crate::halves::HALF8;
+use crate::halves::HALF11;
+use crate::logtables::LOG4;
+use crate::logtables::LOG8;
+use crate::logtables::LOG11;
+use field::arithmetic::position_of;
+use field::arithmetic::product_of;
+use field::division::inverse_of;
+use field::solver::Quadratic;
+use field::solver::quadratic_of;
+
+// The field of 16 elements.
+pub struct F4 {}
+
+impl F4 {
+    pub const DEGREE: u16 = 4;
+
+    pub const POLY: u16 = 19;
+
+    pub const SIZE: u16 = 16;
+
+    pub fn mul(a: u16, b: u16) -> u16
+        requires { do ⌜ b < (← ⟦F4::SIZE⟧) ⌝ }
+        ensures { λ r. ⌜ r ≡ mul (fieldAt 4) a b ⌝ }
+    {
+        product_of(F4::DEGREE, F4::POLY, a, b)
+    }
+
+    pub fn inverse(a: u16) -> u16
+        requires { do ⌜ (0 < a) × (a < (← ⟦F4::SIZE⟧)) ⌝ }
+        ensures { λ r. ⌜ r ≡ inverse (fieldAt 4) a ⌝ }
+    {
+        inverse_of(F4::DEGREE, F4::POLY, a)
+    }
+
+    pub fn position(r: u16) -> u16
+        requires { do ⌜ (0 < r) × (r < (← ⟦F4::SIZE⟧)) ⌝ }
+        ensures { λ j. ⌜ j ≡ position (fieldAt 4) r ⌝ }
+    {
+        position_of(F4::DEGREE, F4::POLY, &LOG4, r)
+    }
+
+    pub fn roots(a: u16, b: u16) -> Quadratic
+        requires { do ⌜ (a < (← ⟦F4::SIZE⟧)) × (b < (← ⟦F4::SIZE⟧)) ⌝ }
+        ensures { λ r. ⌜ paperRoots r ≡ (0, rootsOfQuadratic (fieldAt 4) a b) ⌝ }
+    {
+        quadratic_of(F4::DEGREE, F4::POLY, &HALF4, a, b)
+    }
+}
+
+// The field of 256 elements.
+pub struct F8 {}
+
+impl F8 {
+    pub const DEGREE: u16 = 8;
+
+    pub const POLY: u16 = 285;
+
+    pub const SIZE: u16 = 256;
+
+    pub fn mul(a: u16, b: u16) -> u16
+        requires { do ⌜ b < (← ⟦F8::SIZE⟧) ⌝ }
+        ensures { λ r. ⌜ r ≡ mul (fieldAt 8) a b ⌝ }
+    {
+        product_of(F8::DEGREE, F8::POLY, a, b)
+    }
+
+    pub fn inverse(a: u16) -> u16
+        requires { do ⌜ (0 < a) × (a < (← ⟦F8::SIZE⟧)) ⌝ }
+        ensures { λ r. ⌜ r ≡ inverse (fieldAt 8) a ⌝ }
+    {
+        inverse_of(F8::DEGREE, F8::POLY, a)
+    }
+
+    pub fn position(r: u16) -> u16
+        requires { do ⌜ (0 < r) × (r < (← ⟦F8::SIZE⟧)) ⌝ }
+        ensures { λ j. ⌜ j ≡ position (fieldAt 8) r ⌝ }
+    {
+        position_of(F8::DEGREE, F8::POLY, &LOG8, r)
+    }
+
+    pub fn roots(a: u16, b: u16) -> Quadratic
+        requires { do ⌜ (a < (← ⟦F8::SIZE⟧)) × (b < (← ⟦F8::SIZE⟧)) ⌝ }
+        ensures { λ r. ⌜ paperRoots r ≡ (0, rootsOfQuadratic (fieldAt 8) a b) ⌝ }
+    {
+        quadratic_of(F8::DEGREE, F8::POLY, &HALF8, a, b)
+    }
+}
+
+// The field of 2048 elements.
+pub struct F11 {}
+
+impl F11 {
+    pub const DEGREE: u16 = 11;
+
+    pub const POLY: u16 = 2053;
+
+    pub const SIZE: u16 = 2048;
+
+    pub fn mul(a: u16, b: u16) -> u16
+        requires { do ⌜ b < (← ⟦F11::SIZE⟧) ⌝ }
+        ensures { λ r. ⌜ r ≡ mul (fieldAt 11) a b ⌝ }
+    {
+        product_of(F11::DEGREE, F11::POLY, a, b)
+    }
+
+    pub fn inverse(a: u16) -> u16
+        requires { do ⌜ (0 < a) × (a < (← ⟦F11::SIZE⟧)) ⌝ }
+        ensures { λ r. ⌜ r ≡ inverse (fieldAt 11) a ⌝ }
+    {
+        inverse_of(F11::DEGREE, F11::POLY, a)
+    }
+
+    pub fn position(r: u16) -> u16
+        requires { do ⌜ (0 < r) × (r < (← ⟦F11::SIZE⟧)) ⌝ }
+        ensures { λ j. ⌜ j ≡ position (fieldAt 11) r ⌝ }
+    {
+        position_of(F11::DEGREE, F11::POLY, &LOG11, r)
+    }
+
+    pub fn roots(a: u16, b: u16) -> Quadratic
+        requires { do ⌜ (a < (← ⟦F11::SIZE⟧)) × (b < (← ⟦F11::SIZE⟧)) ⌝ }
+        ensures { λ r. ⌜ paperRoots r ≡ (0, rootsOfQuadratic (fieldAt 11) a b) ⌝ }
+    {
+        quadratic_of(F11::DEGREE, F11::POLY, &HALF11, a, b)
+    }
+}
+
+// The position of a nonzero element in the known field of degree m.
+pub fn position_in(m: u16, r: u16) -> u16
+    requires { ⌜ (known m ≡ true) × (0 < r) × (r < 2 ^ m) ⌝ }
+    ensures { λ j. ⌜ j ≡ position (fieldAt m) r ⌝ }
+{
+    match m {
+        4 => F4::position(r),
+        8 => F8::position(r),
+        _ => F11::position(r),
+    }
+}
+
+// The roots of z^2 + az + b in the known field of degree m.
+pub fn roots_in(m: u16, a: u16, b: u16) -> Quadratic
+    requires { ⌜ (known m ≡ true) × (a < 2 ^ m) × (b < 2 ^ m) ⌝ }
+    ensures { λ r. ⌜ paperRoots r ≡ (0, rootsOfQuadratic (fieldAt m) a b) ⌝ }
+{
+    match m {
+        4 => F4::roots(a, b),
+        8 => F8::roots(a, b),
+        _ => F11::roots(a, b),
+    }
+}
