@@ -1,7 +1,6 @@
 -- The tests of the element calls: which refusal the code's tests show, and what is known where all pass.
---   not-listed, is-listed              what the row that was found says
 --   pair-outside, pair-in, pair-told   the tests on two elements
---   let-in, turned-away, row-field     what an admission says
+--   row-field                          the field of a row
 --   one-outside, one-zero, one-in, one-told   the tests on one element that must not be 0
 -- Assumes nothing.
 use mathlib.Core.Path.{_≡_, refl, sym, ap, ap₂, _∙_, subst}
@@ -14,28 +13,12 @@ use borrow.Author.Tests.{le-leb, lt-leb, leb-false, eq-eqb, ne-eqb, eqb-false, n
 use lib.Dec.{leb, eqb}
 use Rattle.refusals.specs.Order.{Given, Passed}
 use Rattle.refusals.specs.Order.Passed.{none}
-use Rattle.refusals.specs.Rows.{known, rowAt, IsRow}
+use Rattle.refusals.specs.Rows.{known, IsRow}
 use Rattle.refusals.specs.declared.Row.{Row}
-use Rattle.refusals.specs.declared.Found.{Found}
-use Rattle.refusals.specs.declared.Found.the-variants.{At, Unknown}
 use Rattle.refusals.proofs.Order.{holds, fails, passes, failed, others}
-use Rattle.refusals.proofs.Rows.{row-known, row-unknown}
-use Rattle.refusals.specs.declared.Refusal.{Refusal}
-use Rattle.refusals.specs.Numbers.{numberOf}
+use Rattle.refusals.proofs.Admitting.{listed-on}
 use Rattle.field.specs.Field.{fieldOf, fieldAt}
-use Rattle.elements.specs.Calls.{outside, pairTests, nonzeroTests, Admits}
-use Rattle.elements.specs.declared.Admission.{Admission}
-use Rattle.elements.specs.declared.Admission.the-variants.{In, Out}
-
-pub not-listed : (m : ℕ) {f : Found} {ts : List (ℕ × Bool)} → f ≡ rowAt m → f ≡ Unknown → Given 1 ((1, not (known m)) ∷ ts)
-not-listed m e u = holds (ap not (row-unknown m (sym e ∙ u)))
-
-pub is-listed : (m : ℕ) {f : Found} {row : Row} → f ≡ rowAt m → f ≡ At row → IsRow m row
-is-listed m e u = row-known m (sym e ∙ u)
-
--- a known degree fails the first test
-listed-on : {m : ℕ} {row : Row} → IsRow m row → not (known m) ≡ false
-listed-on i = ap not (i .list .degree)
+use Rattle.elements.specs.Calls.{outside, pairTests, nonzeroTests}
 
 outside-on : {m a : ℕ} {row : Row} → IsRow m row → row .size ≤ a → outside m a ≡ true
 outside-on {m} {a} i h = le-leb (2 ^ m) a (subst (λ (n : ℕ). n ≤ a) (i .size) h)
@@ -96,13 +79,6 @@ one-told {m} {a} p =
       positive = let n = eqb-false a 0 (failed (others (others p))) in omega arith;
       below = leb-false (2 ^ m) a (failed (others p));
     }
-
--- what was let in, and what was turned away
-pub let-in : {ts : List (ℕ × Bool)} {m : ℕ} {r : Admission} {row : Row} → Admits ts m r → r ≡ In row → Passed ts × IsRow m row
-let-in {ts} {m} h e = subst (Admits ts m) e h
-
-pub turned-away : {ts : List (ℕ × Bool)} (m : ℕ) {r : Admission} {k : Refusal} → Admits ts m r → r ≡ Out k → Given (numberOf k) ts
-turned-away {ts} m h e = subst (Admits ts m) e h
 
 -- the field of a row is that of its degree
 pub row-field : {m : ℕ} {row : Row} → IsRow m row → fieldOf m (row .poly) ≡ fieldAt m

@@ -2,21 +2,18 @@
 --   paper               the number and the value of an answer
 --   pairTests, nonzeroTests   the tests in their order, each behind its number
 --   productOutcome ..   the outcome of each call: its tests and its value
---   Admits              what the tests find
 -- Assumes nothing.
 use mathlib.Core.Bool.{Bool, not, _||_}
 use mathlib.Core.List.{List, [], _∷_}
 use Prim.Native.Nat.{ℕ, _^_}
 use lib.Dec.{eqb, leb}
-use Rattle.refusals.specs.Order.{outcome, Given, Passed}
+use Rattle.refusals.specs.Order.{outcome}
 use Rattle.refusals.specs.Numbers.{numberOf}
-use Rattle.refusals.specs.Rows.{known, IsRow}
+use Rattle.refusals.specs.Rows.{known}
 use Rattle.field.specs.Field.{fieldAt, mul, inverse, position}
 use Rattle.field.specs.Quadratics.{rootsOfQuadratic}
 use Rattle.elements.specs.declared.Answer.{Answer}
 use Rattle.elements.specs.declared.Answer.the-variants.{Value, Refused}
-use Rattle.elements.specs.declared.Admission.{Admission}
-use Rattle.elements.specs.declared.Admission.the-variants.{In, Out}
 
 abbrev pub paper : Answer → ℕ × List ℕ
 paper (Value v) = (0, v ∷ [])
@@ -44,8 +41,3 @@ positionOutcome m r = outcome (nonzeroTests m r) (position (fieldAt m) r ∷ [])
 
 abbrev pub quadraticOutcome : ℕ → ℕ → ℕ → ℕ × List ℕ
 quadraticOutcome m a b = outcome (pairTests m a b) (rootsOfQuadratic (fieldAt m) a b)
-
--- what the tests find: the row of the field where all pass, or the refusal of the first that holds
-abbrev pub Admits : List (ℕ × Bool) → ℕ → Admission → Type 0
-Admits tests m (In row) = Passed tests × IsRow m row
-Admits tests m (Out k) = Given (numberOf k) tests

@@ -1,13 +1,14 @@
 // The public element calls: product, inverse, position, quadratic. Each answers every input.
 ghost use mathlib.Core.Path.{_≡_};
 ghost use Rattle.field.specs.Quadratics.{paperRoots};
-ghost use Rattle.elements.specs.Calls.{paper, productOutcome, inverseOutcome, positionOutcome, quadraticOutcome, pairTests, nonzeroTests, Admits};
+ghost use Rattle.elements.specs.Calls.{paper, productOutcome, inverseOutcome, positionOutcome, quadraticOutcome, pairTests, nonzeroTests};
+ghost use Rattle.refusals.specs.Admitting.{Admits};
 use field::arithmetic::product_of;
 use field::division::inverse_of;
 use field::solver::Quadratic;
+use refusals::Admission;
 use refusals::Found;
 use refusals::Refusal;
-use refusals::Row;
 use tables::widths::position_in;
 use tables::widths::roots_in;
 
@@ -15,12 +16,6 @@ use tables::widths::roots_in;
 pub enum Answer {
     Value(u16),
     Refused(Refusal),
-}
-
-// What the tests of an element call find: the row of the field, or the refusal.
-pub enum Admission {
-    In(Row),
-    Out(Refusal),
 }
 
 // The tests of the calls on two elements.

@@ -85,3 +85,9 @@ pub fn row_of(m: u16) -> Found
     }
     Found::Unknown
 }
+
+// What an entry's tests find: the row of the field where all pass, or the refusal of the first that holds.
+pub enum Admission {
+    In(Row),
+    Out(Refusal),
+}

@@ -1,7 +1,8 @@
 -- `elements::admit_nonzero` meets its contract: each return shows which test was the first to hold.
 -- Assumes nothing.
 use borrow.Author.Needs.{needs}
-use Rattle.elements.proofs.Admitting.{not-listed, is-listed, one-outside, one-zero, one-in}
+use Rattle.refusals.proofs.Admitting.{not-listed, is-listed}
+use Rattle.elements.proofs.Admitting.{one-outside, one-zero, one-in}
 use Rattle.elements.proofs.admit_nonzero.Statement.{statement}
 use Rattle.elements.proofs.admit_nonzero.Tie as tie
 

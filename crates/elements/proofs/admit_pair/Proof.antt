@@ -2,7 +2,8 @@
 -- Assumes nothing.
 use mathlib.Core.Logic.{inl, inr}
 use borrow.Author.Needs.{needs}
-use Rattle.elements.proofs.Admitting.{not-listed, is-listed, pair-outside, pair-in}
+use Rattle.refusals.proofs.Admitting.{not-listed, is-listed}
+use Rattle.elements.proofs.Admitting.{pair-outside, pair-in}
 use Rattle.elements.proofs.admit_pair.Statement.{statement}
 use Rattle.elements.proofs.admit_pair.Tie as tie
 

@@ -5,7 +5,8 @@ use mathlib.Core.List.{List, [], _∷_}
 use Prim.Native.Nat.{ℕ}
 use borrow.Author.Needs.{needs}
 use Rattle.field.specs.Field.{Field, inverse}
-use Rattle.elements.proofs.Admitting.{let-in, turned-away, row-field, one-told}
+use Rattle.refusals.proofs.Admitting.{let-in, turned-away}
+use Rattle.elements.proofs.Admitting.{row-field, one-told}
 use Rattle.refusals.proofs.Order.{refused, accepted}
 use Rattle.elements.proofs.inverse.Statement.{statement}
 use Rattle.elements.proofs.inverse.Tie as tie

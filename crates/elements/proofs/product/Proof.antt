@@ -6,7 +6,8 @@ use Prim.Native.Nat.{ℕ}
 use borrow.Author.Needs.{needs}
 use Rattle.field.specs.Field.{Field, mul}
 use Rattle.field.proofs.Generator.{known}
-use Rattle.elements.proofs.Admitting.{let-in, turned-away, row-field, pair-told}
+use Rattle.refusals.proofs.Admitting.{let-in, turned-away}
+use Rattle.elements.proofs.Admitting.{row-field, pair-told}
 use Rattle.refusals.proofs.Order.{refused, accepted}
 use Rattle.elements.proofs.product.Statement.{statement}
 use Rattle.elements.proofs.product.Tie as tie

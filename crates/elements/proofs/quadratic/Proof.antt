@@ -4,7 +4,8 @@ use mathlib.Core.Path.{_≡_, sym, ap, _∙_, subst}
 use mathlib.Core.List.{List, [], _∷_}
 use Prim.Native.Nat.{ℕ}
 use borrow.Author.Needs.{needs}
-use Rattle.elements.proofs.Admitting.{let-in, turned-away, pair-told}
+use Rattle.refusals.proofs.Admitting.{let-in, turned-away}
+use Rattle.elements.proofs.Admitting.{pair-told}
 use Rattle.refusals.proofs.Order.{refused, accepted}
 use Rattle.elements.proofs.quadratic.Statement.{statement}
 use Rattle.elements.proofs.quadratic.Tie as tie
