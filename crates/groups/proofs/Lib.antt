@@ -1,0 +1,26 @@
+-- Why: from lists of entries, through groups and slots, to demand 3.
+
+-- steps on entries: cuts, how they are counted, and that they are groups
+pub mod Lists
+pub mod Cut
+pub mod Counting
+pub mod Grouped
+pub mod Steps
+pub mod Carry
+-- slots: layouts, soundness, soundness in one pass
+pub mod Layouts
+pub mod Soundness
+pub mod Scanning
+-- the known fields; a step keeps every sound table sound; where it writes
+pub mod Fields
+pub mod Keeping
+pub mod Places
+-- begun tables and DEMAND 3
+pub mod Begun
+pub mod Finish
+pub mod Demand
+-- change requests that the laws are ready for: M-105, M-112
+pub mod HouseDefault
+pub mod Picks
+-- figures, by evaluation
+mod Example

@@ -1,0 +1,16 @@
+-- The cutoff in force. A call and a record may give 0, which stands for the house default.
+--   houseDefault  document 01's
+--   inForceBy d   the cutoff in force where the house default is d;  inForce  today's
+-- Assumes nothing.
+use mathlib.Core.Bool.{cond}
+use Prim.Native.Nat.{ℕ}
+use lib.Dec.{eqb}
+
+abbrev pub houseDefault : ℕ
+houseDefault = 2
+
+unfoldable pub inForceBy : ℕ → ℕ → ℕ
+inForceBy d c = cond (eqb c 0) d c
+
+abbrev pub inForce : ℕ → ℕ
+inForce c = inForceBy houseDefault c

@@ -1,0 +1,8 @@
+-- What is meant: steps on a list of entries, the groups of demand 3, the slots of the work table, and what begin, a step and finish make of a table.
+pub mod Entries
+pub mod Groups
+pub mod Layout
+pub mod Table
+pub mod Splitting
+pub mod Cutoff
+pub mod Demand

@@ -1,0 +1,13 @@
+pub mod Parts
+pub mod Filling
+pub mod Logs
+pub mod Sums
+pub mod RowLoops
+pub mod Divisions
+pub mod Remainders
+pub mod Monics
+pub mod PowerLoops
+pub mod Horner
+pub mod EuclidLoops
+pub mod Cofactors
+pub mod Starts
