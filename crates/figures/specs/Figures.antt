@@ -1,0 +1,74 @@
+-- The bench figures of document 01 that are marked P, in one table: inputs of the whole call with an empty list of 32 slots, and what it answers.
+--   Figure   field degree, cutoff, coefficients; the outcome's number and values; the roots where it is accepted
+--   wholeField   z^16 + z
+--   figures  the table
+--   Right    what is claimed of a figure: the whole call's outcome, and the roots
+--   afterSteps   the slots of a begun table after n steps;  Begins  slots begin with a list, and zeros follow
+-- Assumes nothing.
+use mathlib.Core.Path.{_≡_}
+use mathlib.Core.Bool.{Bool, cond}
+use mathlib.Core.List.{List, [], _∷_, _++_}
+use Prim.Native.Nat.{ℕ, _-_}
+use lib.Dec.{eqb}
+use lib.ListN.{length, replicate}
+use Rattle.groups.specs.Cutoff.{inForce}
+use Rattle.groups.specs.Layout.{byFactor}
+use Rattle.groups.specs.Splitting.{rootsAt, slotsBegun, slotsAfter}
+use Rattle.splitter.specs.Calls.{slots}
+use Rattle.finder.specs.Calls.{solveOutcome}
+
+pub record Figure : Type 0 where
+  pub m : ℕ
+  pub cutoff : ℕ
+  pub coefficients : List ℕ
+  pub number : ℕ
+  pub steps : ℕ
+  pub roots : List ℕ
+
+abbrev pub wholeField : List ℕ
+wholeField = 0 ∷ 1 ∷ 0 ∷ 0 ∷ 0 ∷ 0 ∷ 0 ∷ 0 ∷ 0 ∷ 0 ∷ 0 ∷ 0 ∷ 0 ∷ 0 ∷ 0 ∷ 0 ∷ 1 ∷ []
+
+abbrev pub accepted : ℕ → ℕ → List ℕ → List ℕ → ℕ → Figure
+accepted m c cs roots steps = record { m = m; cutoff = c; coefficients = cs; number = 0; steps = steps; roots = roots }
+
+abbrev pub refused : ℕ → ℕ → List ℕ → ℕ → Figure
+refused m c cs k = record { m = m; cutoff = c; coefficients = cs; number = k; steps = 0; roots = [] }
+
+abbrev pub everyElement : List ℕ
+everyElement = 0 ∷ 1 ∷ 2 ∷ 3 ∷ 4 ∷ 5 ∷ 6 ∷ 7 ∷ 8 ∷ 9 ∷ 10 ∷ 11 ∷ 12 ∷ 13 ∷ 14 ∷ 15 ∷ []
+
+abbrev pub figures : List Figure
+figures =
+    accepted 4 1 (6 ∷ 7 ∷ 0 ∷ 1 ∷ []) (1 ∷ 2 ∷ 3 ∷ []) 4
+    ∷ accepted 4 2 (6 ∷ 7 ∷ 0 ∷ 1 ∷ []) (1 ∷ 2 ∷ 3 ∷ []) 3
+    ∷ accepted 4 3 (6 ∷ 7 ∷ 0 ∷ 1 ∷ []) (1 ∷ 2 ∷ 3 ∷ []) 0
+    ∷ accepted 4 1 (1 ∷ 0 ∷ 0 ∷ 1 ∷ []) (1 ∷ 6 ∷ 7 ∷ []) 4
+    ∷ accepted 4 1 (2 ∷ 0 ∷ 1 ∷ []) (5 ∷ []) 0
+    ∷ accepted 4 1 (8 ∷ 1 ∷ 1 ∷ []) [] 0
+    ∷ accepted 4 2 (6 ∷ 1 ∷ 1 ∷ []) (2 ∷ 3 ∷ []) 0
+    ∷ accepted 4 1 (3 ∷ 2 ∷ []) (8 ∷ []) 0
+    ∷ accepted 4 1 (7 ∷ []) [] 0
+    ∷ accepted 4 1 wholeField everyElement 15
+    ∷ accepted 4 2 wholeField everyElement 7
+    ∷ accepted 4 3 wholeField everyElement 7
+    ∷ accepted 11 1 (0 ∷ 1 ∷ 1 ∷ 0 ∷ []) (0 ∷ 1 ∷ []) 1
+    ∷ refused 4 1 (0 ∷ 0 ∷ []) 5
+    ∷ refused 4 1 (16 ∷ 1 ∷ []) 4
+    ∷ refused 4 4 (3 ∷ 2 ∷ []) 6
+    ∷ accepted 4 3 (3 ∷ 2 ∷ []) (8 ∷ []) 0
+    ∷ []
+
+-- the values are the number of roots and of steps; a refusal has none
+abbrev pub values : Figure → List ℕ
+values f = cond (eqb (f .number) 0) (length (f .roots) ∷ f .steps ∷ []) []
+
+pub record Right (f : Figure) : Type 0 where
+  pub outcome : solveOutcome (f .m) (f .cutoff) (f .coefficients) (replicate 32 0) ≡ (f .number, values f)
+  pub roots : f .number ≡ 0 → rootsAt (f .m) (f .coefficients) ≡ f .roots
+
+-- the table of 6, 7, 0, 1 in field 4 at cutoff 1, after n steps
+abbrev pub afterSteps : ℕ → List ℕ
+afterSteps n = slotsAfter byFactor n (slotsBegun byFactor slots 4 1 (6 ∷ 7 ∷ 0 ∷ 1 ∷ []))
+
+abbrev pub Begins : List ℕ → List ℕ → Type 0
+Begins l front = l ≡ front ++ replicate (slots - length front) 0
