@@ -1,6 +1,8 @@
 // The whole call and the plain search: all distinct roots of a polynomial, by two different ways.
 use refusals::Refusal;
 
+pub mod searching; // every element tried
+
 // What the whole call answers: the number of roots and of steps, or what is turned away.
 pub enum Solved {
     Found { s: u16, steps: u16 },
