@@ -4,14 +4,14 @@
 --   cofactor-is      what is copied
 -- Assumes nothing.
 use mathlib.Core.Path.{_≡_, refl, sym, ap, ap₂, _∙_, subst}
-use mathlib.Core.List.{List, [], _∷_, _++_}
-use Prim.Native.Nat.{ℕ, suc, _+_, _-_, _^_, _≤_, _<_}
+use mathlib.Core.List.{List, _∷_, _++_}
+use Prim.Native.Nat.{ℕ, suc, _+_, _-_, _^_}
 use native.Mathlib.Omega.{arith}
-use lib.ListN.{length, take, drop, set, length-set, length-map, drop-of-length-le}
-use lib.Seq.{set-split, take-take, length-take-le}
+use lib.ListN.{length, take, drop, set, length-map, drop-of-length-le}
+use lib.Seq.{set-split, take-take}
 use Rattle.algebra.specs.Polynomial.{Below}
 use Rattle.algebra.specs.Routines.{monic, quo, cofactor}
-use Rattle.algebra.proofs.Lengths.{length-monic, length-quo, length-cofactor}
+use Rattle.algebra.proofs.Lengths.{length-monic, length-cofactor}
 use Rattle.algebra.proofs.StaysBelow.{monic-below}
 use Rattle.field.specs.Tables.{logOf}
 use Rattle.field.specs.Field.{fieldAt}

@@ -1,10 +1,10 @@
 -- Division in place, from the top: what holds at each turn.
 --   rem-short                               the remainder of a polynomial that is no longer than p: itself, and zeros
---   divided-parts                           the front of a division is the remainder, and the quotient stands behind it
+--   divided-front, divided-behind           the front of a division is the remainder, and the quotient stands behind it
 --   length-divided, divided-below           as long as f, and no larger
 --   divided-start, divided-on               before the first digit, and one digit more
 --   Dividing                                from k on the division is done
---   dividing-from, dividing-on, dividing-end   the start, a turn, the end
+--   dividing-from, dividing-asks, dividing-on, dividing-end   the start, what the kernel asks, a turn, the end
 -- Assumes nothing.
 use mathlib.Core.Path.{_≡_, refl, sym, ap, ap₂, _∙_, subst}
 use mathlib.Core.List.{List, [], _∷_, _++_, map, append-nil, append-assoc}
@@ -12,15 +12,14 @@ use Prim.Native.Nat.{ℕ, zero, suc, _+_, _-_, _^_, _≤_, _<_}
 use native.Mathlib.Nat.{zero-add, suc-add, not-suc-le-zero, le-of-suc-le-suc}
 use native.Mathlib.Omega.{arith}
 use lib.Bits.{bitXor}
-use lib.ListN.{length, getD, take, drop, replicate, length-append, length-drop, length-map, length-replicate, getD-replicate, take-append-drop, List·getD-append}
-use lib.Seq.{take-length, length-take-le, take-suc, drop-cons, take-at, drop-at, getD-drop, take-append-le, append-snoc}
+use lib.ListN.{length, getD, take, drop, replicate, length-append, length-drop, length-map, length-replicate, getD-replicate, take-append-drop}
+use lib.Seq.{take-length, length-take-le, take-suc, drop-cons, take-at, drop-at, getD-drop, take-append-le}
 use Rattle.algebra.specs.Polynomial.{add, Below}
 use Rattle.algebra.specs.Routines.{rem, quo, digit, shiftIn}
 use Rattle.algebra.proofs.Lengths.{length-rem, length-quo}
 use Rattle.algebra.proofs.StaysBelow.{append-below, take-below, drop-below, rem-below, quo-below, below-at}
 use Rattle.field.specs.Field.{mul, fieldAt}
-use Rattle.field.proofs.Ring.{RingLaws, ring}
-use Rattle.field.proofs.Generator.{Generated}
+use Rattle.field.proofs.Ring.{ring}
 use Rattle.polynomial.specs.Lent.{G, Lent, Addable, held}
 use Rattle.polynomial.specs.Division.{divided, Divisible}
 use Rattle.polynomial.proofs.Logs.{field-of, numbers-of, held-below, held-long}

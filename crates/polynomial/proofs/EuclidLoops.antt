@@ -1,9 +1,10 @@
 -- Euclid's loop on two slices, and the cofactor: what the code has done at each place.
 --   reduce-row, reduce-asks             what the row and the division ask
 --   reduce-short, reduce-long           the remainder stands at the front
+--   front-some, front-none              what `front` holds
 --   turn-asks, turn-below, turn-is      one division
 --   turn-on, turn-same, turn-last       what it leaves for the next, that the greatest common divisor is the same, and what it is where the remainder is 0
---   Looping, loop-from, loop-on, loop-ended, loop-copied   the loop
+--   Looping, loop-from, loop-asks, loop-on, loop-ended, loop-copied   the loop
 -- Assumes nothing.
 use mathlib.Core.Path.{_≡_, refl, sym, ap, ap₂, _∙_, subst}
 use mathlib.Core.Logic.{_≢_}
@@ -13,11 +14,11 @@ use Prim.Native.Nat.{ℕ, zero, suc, _+_, _-_, _^_, _≤_, _<_}
 use native.Mathlib.Numerals.{add-one}
 use native.Mathlib.Omega.{arith}
 use lib.ListN.{length, take, drop, set, replicate, length-set, length-append, length-map, length-drop}
-use lib.Seq.{take-length, length-take-le, length-front, take-at, take-append-le, take-suc-set, take-take}
+use lib.Seq.{length-take-le, length-front, take-at, take-append-le, take-suc-set, take-take}
 use Rattle.algebra.specs.Polynomial.{Below}
 use Rattle.algebra.specs.Routines.{monic, rem, norm, gcd}
 use Rattle.algebra.proofs.Lengths.{length-rem, gcd-unroll}
-use Rattle.algebra.proofs.StaysBelow.{rem-below, norm-below, monic-below, take-below}
+use Rattle.algebra.proofs.StaysBelow.{rem-below, norm-below, monic-below}
 use Rattle.field.specs.Tables.{logOf}
 use Rattle.field.specs.Field.{fieldAt}
 use Rattle.slots.specs.Lists.{copied}
@@ -26,7 +27,7 @@ use Rattle.polynomial.specs.Lent.{G, Lent, Row, Loggable, logRow, held}
 use Rattle.polynomial.specs.Division.{divided, Divisible}
 use Rattle.polynomial.specs.Monic.{front, MadeMonic}
 use Rattle.polynomial.specs.Euclid.{Turnable, Reducing, LeftIn, Turned, GcdIs}
-use Rattle.polynomial.proofs.Logs.{numbers-of, held-row, row-is-row, held-long}
+use Rattle.polynomial.proofs.Logs.{numbers-of, held-row, row-is-row}
 use Rattle.polynomial.proofs.Divisions.{rem-short, divided-front, length-divided}
 
 -- ---- `reduce`
@@ -89,13 +90,13 @@ front-append zero y z h = refl
 front-append (suc k) y z h = ap some (take-append-le k y z (omega arith))
 
 -- something is left
-front-some : (j : ℕ) (y : List ℕ) → j ≢ 0 → front j y ≡ some (take (j - 1) y)
+pub front-some : (j : ℕ) (y : List ℕ) → j ≢ 0 → front j y ≡ some (take (j - 1) y)
 unfolding front
 front-some zero y h = absurd (h refl)
 front-some (suc k) y h = let e : k ≡ suc k - 1 = omega arith in ap (λ i. some (take i y)) e
 
 -- nothing is left
-front-none : (j : ℕ) (y : List ℕ) → j ≡ 0 → front j y ≡ none
+pub front-none : (j : ℕ) (y : List ℕ) → j ≡ 0 → front j y ≡ none
 unfolding front
 front-none zero y h = refl
 front-none (suc k) y h = absurd (let b : ⊥ = omega arith in b)

@@ -3,11 +3,10 @@
 --   Valuing                                           v is the value of the coefficients from k on
 --   value-from, value-logs, value-fits, value-on, value-end   the start, what a turn reads, a turn, the end
 -- Assumes nothing.
-use mathlib.Core.Path.{_≡_, refl, sym, ap, ap₂, _∙_}
+use mathlib.Core.Path.{_≡_, refl, sym, ap, _∙_}
 use mathlib.Core.Logic.{_≢_}
 use mathlib.Core.List.{List, [], _∷_}
 use Prim.Native.Nat.{ℕ, suc, _+_, _-_, _^_, _≤_, _<_}
-use native.Mathlib.Nat.{not-suc-le-zero}
 use native.Mathlib.Omega.{arith}
 use lib.Bits.{bitXor, xor-zero-r}
 use lib.ListN.{length, getD, drop}
@@ -15,8 +14,7 @@ use lib.Seq.{drop-length, drop-cons}
 use Rattle.algebra.specs.Polynomial.{eval, Below}
 use Rattle.algebra.proofs.StaysBelow.{eval-below, drop-below}
 use Rattle.field.specs.Field.{fieldAt}
-use Rattle.field.proofs.Ring.{RingLaws, ring}
-use Rattle.field.proofs.Generator.{Generated}
+use Rattle.field.proofs.Ring.{ring}
 use Rattle.polynomial.specs.Lent.{G, Lent}
 use Rattle.polynomial.proofs.Logs.{field-of, numbers-of, logs-fit, product-fits, product-at}
 

@@ -1,16 +1,16 @@
 -- What lent tables give: products, inverses and rows by logs.
---   field-of, numbers-of           the field's laws, from what is lent
+--   field-of, small-of, numbers-of the field's laws, from what is lent
 --   logs-fit, log-at               an element indexes the log table, and its entry is the log
 --   product-fits, product-at       the antilog of the sum of two logs is the product, and stands in the table
 --   row-fits, row-at               the same of an element and an entry of a row
 --   antilog-log, log-is-log        the antilog of a log is the element
 --   held-row, row-is-row           a polynomial is held by its row
 --   held-below, held-long          what a row holds are elements, as many as its logs
---   inverse-at                     the antilog of the order less the log is the inverse
+--   inverse-fits, inverse-at       the antilog of the order less the log is the inverse
 -- Assumes nothing.
 use mathlib.Core.Path.{_≡_, refl, sym, ap, ap₂, _∙_, subst}
 use mathlib.Core.Bool.{Bool, true, false, cond}
-use mathlib.Core.List.{List, [], _∷_, map}
+use mathlib.Core.List.{List, [], _∷_}
 use Prim.Native.Nat.{ℕ, zero, suc, _+_, _-_, _*_, _^_, _≤_, _<_}
 use native.Mathlib.Nat.{not-suc-le-zero, le-of-suc-le-suc}
 use native.Mathlib.Decide.{decLt}
@@ -18,13 +18,13 @@ use native.Mathlib.Omega.{arith}
 use borrow.Author.Tests.{lt-ltb, le-ltb}
 use lib.Dec.{ltb}
 use lib.Pow.{pow-pos}
-use lib.ListN.{length, getD, take, length-map}
-use Rattle.algebra.specs.Field.{Ops, OnNumbers, power}
+use lib.ListN.{length, getD, length-map}
+use Rattle.algebra.specs.Field.{OnNumbers, power}
 use Rattle.algebra.specs.Polynomial.{Below}
 use Rattle.refusals.proofs.Rows.{listed}
-use Rattle.field.specs.Field.{Field, size, order, mul, inverse, numbers, fieldAt, position}
+use Rattle.field.specs.Field.{Field, size, order, mul, inverse, numbers, fieldAt}
 use Rattle.field.specs.Tables.{logOf, antilogOf}
-use Rattle.field.proofs.Ring.{RingLaws, ring, power-lt, power-add}
+use Rattle.field.proofs.Ring.{power-lt, power-add}
 use Rattle.field.proofs.Generator.{Generated, generated, Small, small, unit, position-is, power-order, inverse-only}
 use Rattle.field.proofs.Logarithms.{log-position, log-lt, log-le, log-product}
 use Rattle.field.proofs.Instance.{known-numbers}

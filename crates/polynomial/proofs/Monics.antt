@@ -4,25 +4,23 @@
 --   norm-zero, norm-lead, norm-skip                              what `norm` does with the highest coefficient
 --   made-none, made-some                                         what `make_monic` has done
 -- Assumes nothing.
-use mathlib.Core.Path.{_≡_, refl, sym, ap, ap₂, _∙_}
+use mathlib.Core.Path.{_≡_, refl, sym, ap, _∙_}
 use mathlib.Core.Logic.{_≢_, ⊎-elim}
-use mathlib.Core.Bool.{Bool, true, false, cond}
-use mathlib.Core.Option.{Option, none, some}
-use mathlib.Core.List.{List, [], _∷_, _++_, map}
-use Prim.Native.Nat.{ℕ, zero, suc, _+_, _-_, _^_, _≤_, _<_}
+use mathlib.Core.Option.{some}
+use mathlib.Core.List.{List, _++_, map}
+use Prim.Native.Nat.{ℕ, suc, _+_, _-_, _^_, _≤_, _<_}
 use native.Mathlib.Nat.{not-suc-le-zero, eq-or-lt-of-le}
 use native.Mathlib.Decide.{le-ind, decLt}
 use native.Mathlib.Omega.{arith}
 use borrow.Author.Tests.{eq-eqb, ne-eqb}
-use lib.Dec.{eqb}
 use lib.ListN.{length, getD, take, drop, set, length-map, List·getD-eq-default}
 use lib.Seq.{length-take-le, length-front, take-at}
 use Rattle.algebra.specs.Polynomial.{Below}
 use Rattle.algebra.specs.Routines.{norm}
 use Rattle.algebra.proofs.StaysBelow.{below-at, take-below}
 use Rattle.field.specs.Field.{mul, inverse, fieldAt}
-use Rattle.field.proofs.Ring.{RingLaws, ring}
-use Rattle.field.proofs.Generator.{Generated, inverse-lt, mul-inverse}
+use Rattle.field.proofs.Ring.{ring}
+use Rattle.field.proofs.Generator.{inverse-lt, mul-inverse}
 use Rattle.polynomial.specs.Lent.{G, Lent}
 use Rattle.polynomial.specs.Monic.{TopIs, front, MadeMonic, Scalable}
 use Rattle.polynomial.proofs.Filling.{Filling, map-from, map-on, fill-next, fill-end}

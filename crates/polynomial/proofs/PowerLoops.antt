@@ -1,27 +1,27 @@
 -- Squares and their sums: what holds at each turn.
+--   square-zero                                                    0 is its own square
 --   square-even, square-odd                                        the places of a square
 --   Spreading, spread-from, spread-on, spread-end                  the squares of the first i coefficients are written
---   square-asks, square-is                                         what the division asks, and what the front of it is
+--   square-room, square-asks, square-is, square-again              what the routines ask, and what the front of the division is
 --   Powering, power-from, power-on, power-end                      i squarings are done
 --   Summing, sum-from, sum-on, sum-end                             the first i elements are added
 --   Tracing, trace-from, trace-asks, trace-on, trace-end           i terms of the trace sum are added
 -- Assumes nothing.
-use mathlib.Core.Path.{_≡_, refl, sym, ap, ap₂, _∙_, subst}
-use mathlib.Core.List.{List, [], _∷_, _++_}
+use mathlib.Core.Path.{_≡_, refl, sym, ap, _∙_, subst}
+use mathlib.Core.List.{List, [], _∷_}
 use Prim.Native.Nat.{ℕ, zero, suc, _+_, _-_, _^_, _≤_, _<_}
 use native.Mathlib.Nat.{not-suc-le-zero, le-of-suc-le-suc}
 use native.Mathlib.Omega.{arith}
 use lib.Bits.{bitXor}
-use lib.ListN.{length, getD, take, drop, set}
+use lib.ListN.{length, getD, take, set}
 use Rattle.algebra.specs.Polynomial.{add, Below}
 use Rattle.algebra.specs.Routines.{rem, square, frobeniusMod, traceMod}
 use Rattle.algebra.proofs.Lengths.{length-rem, length-square, length-add-left}
 use Rattle.algebra.proofs.StaysBelow.{below-at, rem-below, square-below}
 use Rattle.field.specs.Field.{mul, fieldAt}
-use Rattle.field.proofs.Ring.{RingLaws, ring}
-use Rattle.field.proofs.Generator.{Generated, Small}
+use Rattle.field.proofs.Ring.{ring}
 use Rattle.slots.specs.Lists.{copied}
-use Rattle.polynomial.specs.Lent.{G, Lent, Row, held}
+use Rattle.polynomial.specs.Lent.{G, Lent, held}
 use Rattle.polynomial.specs.Division.{divided, Divisible, Reducible}
 use Rattle.polynomial.specs.Powers.{Spreadable, Squarable}
 use Rattle.polynomial.proofs.Filling.{Filling, fill-from, fill-on, fill-next, fill-end}

@@ -3,11 +3,11 @@
 --   remainder-long   else it is the front of the division
 -- Assumes nothing.
 use mathlib.Core.Path.{_≡_, refl, sym, ap, ap₂, _∙_}
-use mathlib.Core.List.{List, [], _++_, append-nil}
+use mathlib.Core.List.{List, _++_, append-nil}
 use Prim.Native.Nat.{ℕ, _-_, _≤_, _<_}
 use native.Mathlib.Omega.{arith}
 use lib.ListN.{length, take, drop, replicate, length-drop, drop-of-length-le}
-use lib.Seq.{take-length, length-take-le}
+use lib.Seq.{take-length}
 use Rattle.algebra.specs.Routines.{rem}
 use Rattle.algebra.proofs.Lengths.{length-rem}
 use Rattle.slots.specs.Lists.{copied}
@@ -16,7 +16,7 @@ use Rattle.polynomial.specs.Lent.{G, held}
 use Rattle.polynomial.specs.Division.{divided, Divisible, Reducible}
 use Rattle.polynomial.proofs.Logs.{held-long}
 use Rattle.polynomial.proofs.Parts.{part-rest, part-none}
-use Rattle.polynomial.proofs.Divisions.{rem-short, divided-front, length-divided}
+use Rattle.polynomial.proofs.Divisions.{rem-short, divided-front}
 
 -- a copy that takes all the room
 pub copied-whole : (s d : List ℕ) → length d ≤ length s → copied s d ≡ s

@@ -5,7 +5,7 @@
 --   adding-fits                        the product stands in the table
 --   Writing, write-from, write-on, write-fits, write-end   the same of the loop that writes a row
 -- Assumes nothing.
-use mathlib.Core.Path.{_≡_, refl, sym, ap, ap₂, _∙_}
+use mathlib.Core.Path.{_≡_, sym, ap, ap₂, _∙_}
 use mathlib.Core.List.{List, map}
 use Prim.Native.Nat.{ℕ, _+_, _^_, _≤_, _<_}
 use native.Mathlib.Omega.{arith}
@@ -15,8 +15,7 @@ use Rattle.algebra.specs.Polynomial.{add}
 use Rattle.algebra.proofs.StaysBelow.{below-at}
 use Rattle.field.specs.Field.{mul, fieldAt}
 use Rattle.field.specs.Tables.{logOf, antilogOf}
-use Rattle.field.proofs.Ring.{RingLaws, ring}
-use Rattle.field.proofs.Generator.{Generated}
+use Rattle.field.proofs.Ring.{ring}
 use Rattle.polynomial.specs.Lent.{G, logRow, held, Addable, Loggable}
 use Rattle.polynomial.proofs.Filling.{Filling, fill-from, fill-on, fill-next, fill-end, fill-stop, map-at}
 use Rattle.polynomial.proofs.Logs.{field-of, logs-fit, log-at, row-fits, row-at, held-long}

@@ -1,14 +1,13 @@
 -- Powers and trace sums that start from bz.
---   start-asks    what the row and bz ask
---   start-on      what the squarings ask
---   start-is      what is computed over the row is so over p
+--   start-row, start-one, start-asks   what the row and bz ask
+--   start-on                           what the squarings ask
+--   start-is                           what is computed over the row is so over p
 -- Assumes nothing.
-use mathlib.Core.Path.{_≡_, refl, sym, ap, ap₂, _∙_, subst}
+use mathlib.Core.Path.{_≡_, sym, ap, _∙_, subst}
 use mathlib.Core.List.{List, [], _∷_}
-use Prim.Native.Nat.{ℕ, _+_, _^_, _<_}
+use Prim.Native.Nat.{ℕ, _^_, _<_}
 use native.Mathlib.Omega.{arith}
 use lib.ListN.{length, length-map}
-use Rattle.algebra.specs.Field.{OnNumbers}
 use Rattle.algebra.specs.Polynomial.{Below}
 use Rattle.algebra.specs.Routines.{rem}
 use Rattle.algebra.proofs.Lengths.{length-rem}

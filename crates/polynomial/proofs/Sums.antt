@@ -4,14 +4,15 @@
 --   add-none        a multiple by 0 changes nothing
 --   add-nil         nothing is added
 --   add-assoc       sums of three
+--   long-row        a sum with a multiple of a shorter list
 -- Assumes nothing.
-use mathlib.Core.Path.{_≡_, refl, sym, ap, ap₂, _∙_}
-use mathlib.Core.List.{List, [], _∷_, _++_, map}
-use Prim.Native.Nat.{ℕ, zero, suc, _+_, _≤_, _<_}
+use mathlib.Core.Path.{_≡_, refl, ap, ap₂, _∙_}
+use mathlib.Core.List.{List, [], _∷_, map}
+use Prim.Native.Nat.{ℕ, zero, suc, _≤_, _<_}
 use native.Mathlib.Nat.{not-suc-le-zero, le-of-suc-le-suc}
 use native.Mathlib.Omega.{arith}
 use lib.Bits.{bitXor, xor-zero-r}
-use lib.ListN.{length, getD, take, drop, length-map}
+use lib.ListN.{length, getD, drop, length-map}
 use Rattle.algebra.specs.Polynomial.{add}
 use Rattle.algebra.proofs.Lengths.{length-add-left}
 use Rattle.field.specs.Field.{mul, fieldAt}

@@ -1,5 +1,7 @@
+-- What is lent, and what each routine leaves.
 pub mod Lent
 pub mod Division
 pub mod Monic
 pub mod Powers
 pub mod Euclid
+pub mod Values

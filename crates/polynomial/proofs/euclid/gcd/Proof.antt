@@ -1,6 +1,6 @@
 -- `polynomial::euclid::gcd` meets its contract. The loop's invariant: the greatest common divisor is what it was.
 -- Assumes nothing.
-use mathlib.Core.Path.{sym, _∙_}
+use mathlib.Core.Path.{sym}
 use native.Mathlib.Omega.{arith}
 use lib.Seq.{length-take-le}
 use lib.ListN.{length-take}
