@@ -1,23 +1,26 @@
 -- Elements tried one after the other: what the loop of the plain search keeps.
---   Tried      the roots below x stand at the front of the list, and k is their number
+--   tried-note  one element more, as `note` leaves it;  tried-block  four elements more
 --   tried-from, tried-hit, tried-miss, tried-end   its start, its turns and its end
 -- Assumes nothing.
 use mathlib.Core.Path.{_≡_, refl, sym, ap, ap₂, _∙_, subst}
 use mathlib.Core.Bool.{Bool, true, false, cond}
 use mathlib.Core.List.{List, [], _∷_, _++_}
-use Prim.Native.Nat.{ℕ, zero, suc, _+_, _-_, _^_, _≤_, _<_}
+use Prim.Native.Nat.{ℕ, zero, suc, _+_, _-_, _%_, _^_, _≤_, _<_}
 use native.Mathlib.Nat.{add-zero, add-suc, suc-add, zero-add}
 use native.Mathlib.Numerals.{add-one}
+use native.Mathlib.Decide.{ℕ-discrete}
 use native.Mathlib.Omega.{arith}
 use borrow.Author.Tests.{eq-eqb, ne-eqb}
-use lib.Dec.{eqb}
-use lib.ListN.{length, set, length-append, length-set}
+use lib.Dec.{eqb, lit≤}
+use lib.ListN.{length, drop, set, length-append, length-set}
 use Rattle.algebra.specs.Trial.{upFrom, keep}
 use Rattle.algebra.specs.Polynomial.{eval, isRoot, rootsOf}
+use Rattle.refusals.proofs.Rows.{by-row, listed}
 use Rattle.field.specs.Field.{numbers, fieldAt}
 use Rattle.slots.specs.Lists.{copied}
 use Rattle.groups.specs.Splitting.{rootsAt}
-use Rattle.finder.specs.Searching.{SearchedOut}
+use Rattle.polynomial.specs.Lent.{Lent}
+use Rattle.finder.specs.Searching.{SearchedOut, test, below, Tried, Noted}
 
 -- one number more at the end
 upFrom-last : (k n : ℕ) → upFrom k (suc n) ≡ upFrom k n ++ (k + n) ∷ []
@@ -63,23 +66,23 @@ copied-on [] [] x h = absurd (let b : ⊥ = omega arith in b)
 copied-on (y ∷ l) [] x h = absurd (let b : ⊥ = omega arith in b)
 copied-on (y ∷ l) (z ∷ r) x h = ap (λ (s : List ℕ). y ∷ s) (copied-on l r x (omega arith))
 
+-- nothing to drop
+drop-none : (n : ℕ) → drop {A = ℕ} n [] ≡ []
+drop-none zero = refl
+drop-none (suc n) = refl
+
+-- a front that is written over
+copied-over : (l l′ r : List ℕ) → length l ≤ length l′ → copied l′ (copied l r) ≡ copied l′ r
+unfolding copied
+copied-over [] l′ r h = refl
+copied-over (x ∷ l) [] r h = absurd (let b : ⊥ = omega arith in b)
+copied-over (x ∷ l) (y ∷ l′) [] h =
+    ap (λ (s : List ℕ). y ∷ s)
+    (ap (λ (s : List ℕ). l′ ++ drop (length l′) (l ++ s)) (sym (drop-none (length l))) ∙ copied-over l l′ [] (omega arith)
+    ∙ ap (λ (s : List ℕ). l′ ++ s) (drop-none (length l′)))
+copied-over (x ∷ l) (y ∷ l′) (z ∷ r) h = ap (λ (s : List ℕ). y ∷ s) (copied-over l l′ r (omega arith))
+
 -- ---- the loop
-
-module _ (m : ℕ) (f : List ℕ) where
-  -- is f 0 at x?
-  abbrev test : ℕ → Bool
-  test = isRoot (numbers (fieldAt m)) f
-
-  -- the roots below x
-  abbrev below : ℕ → List ℕ
-  below x = keep test (upFrom 0 x)
-
-pub record Tried (m : ℕ) (f roots : List ℕ) (x k : ℕ) (roots′ : List ℕ) : Type 0 where
-  pub within : x ≤ 2 ^ m
-  pub count : k ≡ length (below m f x)
-  pub slots : roots′ ≡ copied (below m f x) roots
-  pub long : length roots′ ≡ length roots
-  pub fewer : k ≤ x
 
 pub tried-from : (m : ℕ) (f roots : List ℕ) → Tried m f roots 0 0 roots
 unfolding upFrom copied
@@ -136,3 +139,56 @@ tried-end {m} {f} {roots} {x = x} h l =
       count = h .count ∙ ap (λ (n : ℕ). length (below m f n)) e;
       slots = h .slots ∙ ap (λ (n : ℕ). copied (below m f n) roots) e;
     }
+
+-- ---- an element noted
+
+pub tried-note : {m : ℕ} {f roots r r′ : List ℕ} {x k k′ v : ℕ} → Tried m f roots x k r → x < 2 ^ m → v ≡ eval (numbers (fieldAt m)) f x
+    → length (rootsAt m f) ≤ length roots → Noted v x k r k′ r′ → Tried m f roots (x + 1) k′ r′
+tried-note {m} {f} {roots} {r′ = r′} {x} {k′ = k′} {v = v} h l e room n = go (ℕ-discrete v 0)
+  where
+    go : Dec (v ≡ 0) → Tried m f roots (x + 1) k′ r′
+    go (yes z) = let y = sym e ∙ z in tried-moved (tried-hit h l y (tried-room h l y room)) (n .hit z .0) (n .hit z .1)
+    go (no z) = tried-moved (tried-miss h l (λ y. z (e ∙ y))) (n .miss z .0) (n .miss z .1)
+
+-- where a root is found there is room for it
+pub note-room : {m : ℕ} {f roots r : List ℕ} {x k v : ℕ} → Tried m f roots x k r → x < 2 ^ m → v ≡ eval (numbers (fieldAt m)) f x
+    → length (rootsAt m f) ≤ length roots → v ≡ 0 → k < length r
+note-room h l e room z = let r = tried-room h l (sym e ∙ z) room in let g = h .long in omega arith
+
+pub tried-next : {m : ℕ} {f roots r : List ℕ} {x y k : ℕ} → Tried m f roots x k r → y ≡ x → Tried m f roots y k r
+tried-next h e = rw e h
+
+-- ---- a second loop begins where the first left the list
+
+pub tried-again : {m : ℕ} {f roots r : List ℕ} {x k : ℕ} → Tried m f roots x k r → Tried m f r x k r
+tried-again {m} {f} {roots} {r} {x} h =
+    record {
+      within = h .within;
+      count = h .count;
+      slots = h .slots ∙ sym (copied-over (below m f x) (below m f x) roots (omega arith)) ∙ ap (copied (below m f x)) (sym (h .slots));
+      long = refl;
+      fewer = h .fewer;
+    }
+
+pub searched-over : {m : ℕ} {f roots r r′ : List ℕ} {x k j : ℕ} → Tried m f roots x j r → SearchedOut m f r k r′ → SearchedOut m f roots k r′
+unfolding rootsOf
+searched-over {m} {f} {roots} {x = x} h s =
+    let w = h .within in
+    let d : ℕ = 2 ^ m - x in
+    let all : x + d ≡ 2 ^ m = omega arith in
+    let more : length (below m f x) ≤ length (rootsAt m f) = subst (λ (n : ℕ). length (below m f x) ≤ length (below m f n)) all (kept-grows (test m f) x d) in
+    record { count = s .count; slots = s .slots ∙ ap (copied (rootsAt m f)) (h .slots) ∙ copied-over (below m f x) (rootsAt m f) roots more }
+
+-- ---- how many elements there are
+
+pub record Sizes (m : ℕ) : Type 0 where
+  pub least : 16 ≤ 2 ^ m
+  pub most : 2 ^ m ≤ 32768
+  pub fours : 2 ^ m % 4 ≡ 0
+
+pub sizes : {m : ℕ} {ls ts : List ℕ} → Lent m ls ts → Sizes m
+sizes {m} t =
+    by-row (λ m p. Sizes m)
+    (record { least = lit≤ tt; most = lit≤ tt; fours = refl })
+    (record { least = lit≤ tt; most = lit≤ tt; fours = refl })
+    (record { least = lit≤ tt; most = lit≤ tt; fours = refl }) (listed m (t .degree))

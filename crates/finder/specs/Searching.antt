@@ -1,12 +1,18 @@
 -- The plain search over lent tables.
 --   Searchable   what it may take for granted: the tables, coefficients below 2^m, and room for every root
 --   SearchedOut  what it leaves: the roots at the front of the list, ascending, and their number
+--   below        the roots below x
+--   Tried        the elements below x were tried: their roots stand at the front of the list, and k is their number
+--   Noted        an element x with the value v was noted: a root goes behind the k that stand there
 -- Assumes nothing.
 use mathlib.Core.Path.{_≡_}
+use mathlib.Core.Bool.{Bool}
 use mathlib.Core.List.{List}
-use Prim.Native.Nat.{ℕ, _^_, _≤_}
-use lib.ListN.{length}
-use Rattle.algebra.specs.Polynomial.{Below}
+use Prim.Native.Nat.{ℕ, _+_, _^_, _≤_}
+use lib.ListN.{length, set}
+use Rattle.algebra.specs.Trial.{keep, upFrom}
+use Rattle.algebra.specs.Polynomial.{Below, isRoot}
+use Rattle.field.specs.Field.{numbers, fieldAt}
 use Rattle.slots.specs.Lists.{copied}
 use Rattle.groups.specs.Splitting.{rootsAt}
 use Rattle.polynomial.specs.Lent.{Lent}
@@ -19,3 +25,21 @@ pub record Searchable (m : ℕ) (ls ts f roots : List ℕ) : Type 0 where
 pub record SearchedOut (m : ℕ) (f roots : List ℕ) (k : ℕ) (roots′ : List ℕ) : Type 0 where
   pub count : k ≡ length (rootsAt m f)
   pub slots : roots′ ≡ copied (rootsAt m f) roots
+
+-- is f 0 at x?
+abbrev pub test : ℕ → List ℕ → ℕ → Bool
+test m f = isRoot (numbers (fieldAt m)) f
+
+abbrev pub below : ℕ → List ℕ → ℕ → List ℕ
+below m f x = keep (test m f) (upFrom 0 x)
+
+pub record Tried (m : ℕ) (f roots : List ℕ) (x k : ℕ) (roots′ : List ℕ) : Type 0 where
+  pub within : x ≤ 2 ^ m
+  pub count : k ≡ length (below m f x)
+  pub slots : roots′ ≡ copied (below m f x) roots
+  pub long : length roots′ ≡ length roots
+  pub fewer : k ≤ x
+
+pub record Noted (v x k : ℕ) (roots : List ℕ) (k′ : ℕ) (roots′ : List ℕ) : Type 0 where
+  pub hit : v ≡ 0 → (k′ ≡ k + 1) × (roots′ ≡ set roots k x)
+  pub miss : (v ≡ 0 → ⊥) → (k′ ≡ k) × (roots′ ≡ roots)

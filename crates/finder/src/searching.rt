@@ -1,7 +1,37 @@
-// The plain search: the polynomial is evaluated at every element, one after the other.
+// The plain search: the polynomial is evaluated at every element, four side by side, so that their chains of table loads overlap.
 ghost use mathlib.Core.Path.{_≡_};
-ghost use Rattle.finder.specs.Searching.{Searchable, SearchedOut};
+ghost use Prim.Native.Nat.{_<_};
+ghost use lib.ListN.{length};
+ghost use Rattle.finder.specs.Searching.{Searchable, SearchedOut, Tried, Noted};
 use polynomial::values::evaluate;
+use polynomial::values::evaluate_four;
+
+// Puts the element x behind the k roots at the front of the list where its value v is 0. Returns how many there are then.
+fn note(v: u16, x: u16, roots: &mut [u16], k: u16) -> u16
+    requires { ⌜ (v ≡ 0 → k < length (now roots)) × (k < 65535) ⌝ }
+    ensures { λ j. ⌜ Noted v x k (now (roots .entry)) j (now (roots .exit)) ⌝ }
+{
+    if v == 0 {
+        roots[k as usize] = x;
+        return k + 1;
+    }
+    k
+}
+
+// Tries the first four elements.
+fn try_first(m: u16, logs: &[u16], antilogs: &[u16], f: &[u16], roots: &mut [u16]) -> u16
+    requires { ⌜ Searchable m (now logs) (now antilogs) (now f) (now roots) ⌝ }
+    ensures { λ k. ⌜ Tried m (now (f .entry)) (now (roots .entry)) 4 k (now (roots .exit)) ⌝ }
+{
+    let mut k: u16 = 0;
+    let mut x: u16 = 0;
+    while x < 4 {
+        let v = evaluate(m, logs, antilogs, f, x);
+        k = note(v, x, roots, k);
+        x += 1;
+    }
+    k
+}
 
 // Lists every element at which f is 0 at the front of the roots, ascending. Returns how many there are.
 pub fn search_lent(m: u16, logs: &[u16], antilogs: &[u16], f: &[u16], roots: &mut [u16]) -> u16
@@ -9,14 +39,15 @@ pub fn search_lent(m: u16, logs: &[u16], antilogs: &[u16], f: &[u16], roots: &mu
     ensures { λ k. ⌜ SearchedOut m (now (f .entry)) (now (roots .entry)) k (now (roots .exit)) ⌝ }
 {
     let size = logs.len() as u16;
-    let mut k: u16 = 0;
-    let mut x: u16 = 0;
+    let mut k = try_first(m, logs, antilogs, f, roots);
+    let mut x: u16 = 4;
     while x < size {
-        if evaluate(m, logs, antilogs, f, x) == 0 {
-            roots[k as usize] = x;
-            k += 1;
-        }
-        x += 1;
+        let v = evaluate_four(m, logs, antilogs, f, x);
+        k = note(v.a, x, roots, k);
+        k = note(v.b, x + 1, roots, k);
+        k = note(v.c, x + 2, roots, k);
+        k = note(v.d, x + 3, roots, k);
+        x += 4;
     }
     k
 }
