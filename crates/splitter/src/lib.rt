@@ -1,6 +1,10 @@
 // The stepped splitter: begin, step and finish on a lent work table of 100 slots.
 use refusals::Refusal;
 
+pub mod beginning; // begin
+pub mod judging; // what is decided before anything is written
+pub mod stepping; // a step
+
 // What begin answers.
 pub enum Begun {
     Ready,

@@ -1,0 +1,4 @@
+pub mod LowDegrees
+pub mod Cubics
+pub mod Levels
+pub mod Pieces

@@ -1,0 +1,101 @@
+-- The first part of a factor, as the code finds it: the greatest common divisor with the trace sum modulo the factor.
+--   level-fits, level-power   the antilog of the level i is a^i
+--   traced, traced-long       the trace sum that the code makes is that of a^i z, as long as the factor
+--   refilled                  a list whose front is written anew stays as long as it is
+--   gcd-asks, common-is       what Euclid's loop takes and leaves
+-- Assumes nothing.
+use mathlib.Core.Path.{_≡_, refl, sym, ap, ap₂, subst, _∙_}
+use mathlib.Core.Bool.{true}
+use mathlib.Core.List.{List, [], _∷_, _++_}
+use Prim.Native.Nat.{ℕ, suc, _+_, _-_, _*_, _^_, _≤_, _<_}
+use native.Mathlib.Omega.{arith}
+use borrow.Author.Tests.{lt-ltb}
+use lib.Dec.{lit<}
+use lib.ListN.{length, getD, take, drop, length-append, length-drop}
+use lib.Seq.{take-at, length-take-le}
+use Rattle.refusals.specs.Rows.{known}
+use Rattle.refusals.proofs.Rows.{by-row, listed}
+use Rattle.algebra.specs.Field.{power}
+use Rattle.algebra.specs.Polynomial.{Below, traceOf}
+use Rattle.algebra.specs.Routines.{rem, traceMod, gcd}
+use Rattle.algebra.proofs.Lengths.{length-rem, length-traceMod}
+use Rattle.algebra.proofs.StaysBelow.{power-below, rem-below, traceMod-below}
+use Rattle.algebra.proofs.NumberSteps.{trace-run}
+use Rattle.field.specs.Field.{order, fieldAt}
+use Rattle.field.specs.Tables.{antilogOf}
+use Rattle.field.proofs.Generator.{Generated}
+use Rattle.slots.specs.Lists.{copied}
+use Rattle.slots.proofs.Lists.{copied-front, length-copied}
+use Rattle.polynomial.specs.Lent.{G, Lent}
+use Rattle.polynomial.specs.Euclid.{Turnable, GcdIs}
+use Rattle.polynomial.proofs.Logs.{field-of, numbers-of}
+use Rattle.groups.specs.Splitting.{halvingAt}
+use Rattle.splitter.specs.Parting.{Splittable, IsCommon}
+
+-- a known degree is less than the size of its field
+degree-less : (m : ℕ) → known m ≡ true → m < 2 ^ m
+degree-less m k = by-row (λ n p. n < 2 ^ n) (lit< tt) (lit< tt) (lit< tt) (listed m k)
+
+-- the front of a list is written anew
+pub refilled : {n : ℕ} (x z : List ℕ) → length x ≡ n → n ≤ length z → length z ≡ length (x ++ drop n z)
+refilled {n} x z e h = omega (arith, length-append x (drop n z), length-drop n z)
+
+module _ {m : ℕ} {ls ts p : List ℕ} {i : ℕ} (s : Splittable m ls ts p i) where
+  pub level-fits : i < length ts
+  level-fits = omega (arith, s .level, s .tables .antilogs .entries, degree-less m (s .tables .degree))
+
+  pub level-power : getD ts i 0 ≡ power (G m) 2 i
+  unfolding antilogOf
+  level-power =
+      let h : i < 2 * order (fieldAt m) = omega (arith, s .level, degree-less m (s .tables .degree)) in
+      s .tables .antilogs .entry i (omega arith) ∙ rw (lt-ltb i (2 * order (fieldAt m)) h)
+
+  pub power-small : power (G m) 2 i < 2 ^ m
+  power-small = power-below (numbers-of (s .tables)) 2 i (field-of (s .tables) .two)
+
+  pub level-small : getD ts i 0 < 2 ^ m
+  level-small = subst (λ b. b < 2 ^ m) (sym level-power) power-small
+
+  -- a^i z modulo the factor, and its trace sum
+  abbrev start : List ℕ
+  start = rem (G m) p (0 ∷ power (G m) 2 i ∷ [])
+
+  abbrev trace : List ℕ
+  trace = traceMod (G m) p m start
+
+  pub traced : {t : List ℕ} → t ≡ traceMod (G m) p m (rem (G m) p (0 ∷ getD ts i 0 ∷ [])) → t ≡ trace
+  traced e = e ∙ ap (λ b. traceMod (G m) p m (rem (G m) p (0 ∷ b ∷ []))) level-power
+
+  pub traced-long : {t : List ℕ} → t ≡ trace → length t ≡ length p
+  traced-long {t} e =
+      let j : m ≡ suc (m - 1) = omega (arith, s .level) in
+      ap length e ∙ ap (λ k. length (traceMod (G m) p k start)) j ∙ length-traceMod (G m) p (m - 1) start (length-rem (G m) p (0 ∷ power (G m) 2 i ∷ []))
+
+  trace-small : Below (2 ^ m) trace
+  trace-small =
+      let n = numbers-of (s .tables) in
+      traceMod-below n p m start (s .small) (rem-below n p (0 ∷ power (G m) 2 i ∷ []) (s .small) (omega (arith, power-small), (power-small, tt)))
+
+  module _ {t g : List ℕ} (g₀ z : List ℕ) (e : t ≡ trace) (c : g ≡ copied p g₀) (l : length p < length g₀) where
+    front-g : take (length p) g ≡ p
+    front-g = ap (take (length p)) c ∙ copied-front p g₀ refl
+
+    front-t : take (length p) (t ++ z) ≡ trace
+    front-t = take-at t z (length p) (traced-long e) ∙ e
+
+    pub gcd-asks : {row : List ℕ} → length p ≤ length row → Turnable m ls ts row g (length p) (t ++ z) (length p)
+    gcd-asks r = record {
+      tables = s .tables;
+      room-row = r;
+      room-a = omega (arith, ap length c, length-copied p g₀ (omega arith));
+      room-b = omega (arith, length-append t z, traced-long e);
+      within = omega (arith, length-append t z, traced-long e);
+      small-a = subst (Below (2 ^ m)) (sym front-g) (s .small);
+      small-b = subst (Below (2 ^ m)) (sym front-t) trace-small;
+    }
+
+    pub common-is : {r : ℕ} {g′ : List ℕ} → GcdIs m g (length p) (t ++ z) (length p) r g′ → length p < length g′ → IsCommon m i p r g′
+    common-is {r} {g′} q h =
+        let low : take r g′ ≡ halvingAt m .low i p =
+        q .low ∙ ap₂ (gcd (G m)) front-g front-t ∙ sym (trace-run (numbers-of (s .tables)) m (power (G m) 2 i) power-small p (s .small)) in
+        record { degree = sym (length-take-le r g′ (omega (arith, q .count))) ∙ ap length low; low = low }
