@@ -5,9 +5,9 @@
 --   split-asks, split-is    the gcd with z^(2^m) + z
 --   trace-asks, part-asks, part-is   the gcd with Tr(bz)
 -- Assumes nothing.
-use mathlib.Core.Path.{_≡_, refl, sym, ap, ap₂, _∙_, subst}
-use mathlib.Core.List.{List, [], _∷_, _++_}
-use Prim.Native.Nat.{ℕ, _+_, _-_, _^_, _≤_, _<_}
+use mathlib.Core.Path.{_≡_, sym, ap, ap₂, _∙_, subst}
+use mathlib.Core.List.{List, [], _∷_}
+use Prim.Native.Nat.{ℕ, _-_, _^_, _<_}
 use native.Mathlib.Omega.{arith}
 use lib.Bits.{bitXor, xor-zero-r}
 use lib.ListN.{length, getD, take, set, replicate, length-set}
@@ -20,7 +20,7 @@ use Rattle.algebra.proofs.StaysBelow.{add-below, rem-below, frobeniusMod-below,
 use Rattle.algebra.proofs.NumberSteps.{field-run, trace-run}
 use Rattle.slots.specs.Lists.{copied}
 use Rattle.slots.proofs.Lists.{copied-front, length-copied}
-use Rattle.polynomial.specs.Lent.{G, Lent}
+use Rattle.polynomial.specs.Lent.{G}
 use Rattle.polynomial.specs.Powers.{Startable}
 use Rattle.polynomial.specs.Euclid.{Turnable, GcdIs}
 use Rattle.polynomial.proofs.Logs.{numbers-of}

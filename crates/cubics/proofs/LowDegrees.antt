@@ -9,11 +9,11 @@
 --   low-asks, low-two           degree 2
 --   front-out                   a list of the roots is the roots in some order
 -- Assumes nothing.
-use mathlib.Core.Path.{_≡_, refl, sym, ap, _∙_, subst}
+use mathlib.Core.Path.{_≡_, sym, ap, _∙_, subst}
 use mathlib.Core.Logic.{_≢_}
 use mathlib.Core.Bool.{true, false}
 use mathlib.Core.List.{List, [], _∷_, _++_}
-use Prim.Native.Nat.{ℕ, suc, _^_, _≤_, _<_}
+use Prim.Native.Nat.{ℕ, _^_, _≤_, _<_}
 use native.Mathlib.Omega.{arith}
 use lib.Dec.{T}
 use lib.ListN.{length, getD, take, set, length-set, length-take}
@@ -28,7 +28,7 @@ use Rattle.refusals.specs.declared.Found.{Found}
 use Rattle.refusals.specs.declared.Found.the-variants.{At, Unknown}
 use Rattle.refusals.proofs.Rows.{listed, row-unknown}
 use Rattle.refusals.proofs.Admitting.{is-listed}
-use Rattle.field.specs.Field.{fieldOf, fieldAt}
+use Rattle.field.specs.Field.{fieldOf}
 use Rattle.field.specs.Tables.{Halves}
 use Rattle.field.specs.Quadratics.{paperRoots, rootsOfQuadratic}
 use Rattle.field.specs.declared.solver.Quadratic.{Quadratic}

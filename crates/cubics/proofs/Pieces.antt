@@ -11,8 +11,8 @@
 --   whole-out                it has the roots of the cubic
 -- Assumes nothing.
 use mathlib.Core.Path.{_≡_, refl, sym, ap, ap₂, _∙_, subst}
-use mathlib.Core.Logic.{_↔_, _⊎_, inl, inr, ⊎-elim}
-use mathlib.Core.List.{List, [], _++_, List·Memᴰ, List·Memᴰ·append-cases, Memᴰ·append-left, Memᴰ·append-right}
+use mathlib.Core.Logic.{_↔_, _⊎_, ⊎-elim}
+use mathlib.Core.List.{List, _++_, List·Memᴰ, List·Memᴰ·append-cases, Memᴰ·append-left, Memᴰ·append-right}
 use Prim.Native.Nat.{ℕ, _+_, _-_, _^_, _≤_, _<_}
 use native.Mathlib.Omega.{arith}
 use lib.ListN.{length, take, drop, length-append, length-drop}
@@ -20,7 +20,7 @@ use lib.Seq.{length-take-le, take-append-add, take-append-le, take-at}
 use Rattle.algebra.specs.Field.{OnNumbers, squared}
 use Rattle.algebra.specs.Polynomial.{Below, rootsOf, fieldPoly, traceOf}
 use Rattle.algebra.specs.Routines.{gcd, cofactor, monic}
-use Rattle.algebra.proofs.Lengths.{length-gcd, length-cofactor}
+use Rattle.algebra.proofs.Lengths.{length-cofactor}
 use Rattle.algebra.proofs.StaysBelow.{gcd-below, cofactor-below, traceOf-below, fieldPoly-below}
 use Rattle.algebra.proofs.RootList.{rootsOf-count, rootsOf-parts, rootsOf-begin}
 use Rattle.algebra.proofs.Parting.{parting-roots}
@@ -30,7 +30,7 @@ use Rattle.polynomial.specs.Lent.{G, Lent}
 use Rattle.polynomial.specs.Euclid.{Cofactorable}
 use Rattle.polynomial.proofs.Logs.{numbers-of, field-of, small-of}
 use Rattle.cubics.specs.Roots.{Front, RootsOut, Lowly, Solvable}
-use Rattle.cubics.specs.Parting.{Cubic, GcdOf, Parts, Partable, Parted, Pieces, Split}
+use Rattle.cubics.specs.Parting.{GcdOf, Parts, Partable, Parted, Pieces, Split}
 use Rattle.cubics.proofs.LowDegrees.{front-out, front-within}
 
 -- x^(2^m) = x

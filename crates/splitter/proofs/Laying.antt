@@ -5,7 +5,7 @@
 use mathlib.Core.Path.{_≡_, refl, sym, ap, ap₂, _∙_}
 use mathlib.Core.Logic.{_≢_}
 use mathlib.Core.List.{List, [], _∷_, _++_, append-nil}
-use Prim.Native.Nat.{ℕ, suc, _+_, _-_, _≤_}
+use Prim.Native.Nat.{ℕ, suc, _+_, _-_}
 use native.Mathlib.Omega.{arith}
 use borrow.Author.Tests.{eq-eqb}
 use lib.ListN.{length, drop, set, replicate}
@@ -26,11 +26,13 @@ inForce-house c e = rw (eq-eqb c 0 e)
 
 -- ---- the slots of one factor
 
+-- it is one
 one-factor : (low : List ℕ) → length low ≢ 0 → length (unlessEmpty 0 low) ≡ 1
 unfolding unlessEmpty
 one-factor [] n = absurd (n refl)
 one-factor (x ∷ low) n = refl
 
+-- level 0, its degree, and its coefficients
 factor-slots : (low : List ℕ) → length low ≢ 0 → blocks (unlessEmpty 0 low) ≡ 0 ∷ length low ∷ low
 unfolding unlessEmpty blocks
 factor-slots [] n = absurd (n refl)
@@ -39,6 +41,7 @@ factor-slots (x ∷ low) n = ap (λ l. 0 ∷ suc (length low) ∷ x ∷ l) (appe
 -- ---- what is left
 
 module _ (m c : ℕ) (low : List ℕ) {t : List ℕ} (clear : t ≡ replicate slots 0) where
+  -- no factor
   pub laid-none : length low ≡ 0 → set (set t 0 m) 1 c ≡ encode byFactor slots (begunTable m c low)
   unfolding encode unlessEmpty blocks
   laid-none e = ap (λ u. set (set u 0 m) 1 c) clear ∙ go low e
@@ -51,6 +54,7 @@ module _ (m c : ℕ) (low : List ℕ) {t : List ℕ} (clear : t ≡ replicate sl
   head : List ℕ
   head = m ∷ c ∷ 1 ∷ 0 ∷ 0 ∷ length low ∷ []
 
+  -- one factor
   pub laid-some : {t′ : List ℕ} → length low ≢ 0 → t′ ≡ pasted 6 low (set (set (set (set t 0 m) 1 c) 2 1) 5 (length low))
       → t′ ≡ encode byFactor slots (begunTable m c low)
   unfolding encode pasted head

@@ -16,4 +16,8 @@ pub mod Packing
 pub mod Replacing
 pub mod Lending
 pub mod Outcomes
+-- finish
+pub mod Merging
+pub mod Opening
+-- two admitted outcomes
 pub mod Coincide

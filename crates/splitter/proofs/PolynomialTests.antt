@@ -7,13 +7,12 @@
 --   passed-more                 where the five pass, the tests that follow decide: by a pass
 --   passed-given                or by a refusal
 -- Assumes nothing.
-use mathlib.Core.Path.{_≡_, refl, sym, ap, _∙_, subst}
-use mathlib.Core.Bool.{Bool, true, false, not}
-use mathlib.Core.List.{List, [], _∷_, _++_}
+use mathlib.Core.Path.{_≡_, sym, ap, _∙_, subst}
+use mathlib.Core.Bool.{Bool, true, false}
+use mathlib.Core.List.{List, [], _++_}
 use Prim.Native.Nat.{ℕ, suc, _≤_, _<_, _^_}
 use native.Mathlib.Omega.{arith}
 use borrow.Author.Tests.{eq-eqb, ne-eqb, eqb-false, lt-ltb, le-ltb, ltb-false, not-false}
-use lib.Dec.{eqb, ltb}
 use lib.ListN.{length}
 use Rattle.algebra.specs.Polynomial.{Below}
 use Rattle.slots.specs.Bounded.{anyFrom, allBelow, allZero}
@@ -34,11 +33,13 @@ use Rattle.splitter.specs.Calls.{limit, polynomialTests}
 -- ---- which refusal the code's tests show
 
 module _ {m : ℕ} (cs : List ℕ) {row : Row} (i : IsRow m row) where
+  -- there are none
   pub empty-given : length cs ≡ 0 → Given 2 (polynomialTests m cs [])
   empty-given e = fails (listed-on i) (holds (eq-eqb (length cs) 0 e))
 
   -- there are coefficients
   module _ (some : length cs ≡ 0 → ⊥) where
+    -- but too many
     pub long-given : suc limit < length cs → Given 3 (polynomialTests m cs [])
     long-given h = fails (listed-on i) (fails (ne-eqb (length cs) 0 some) (holds (lt-ltb (suc limit) (length cs) h)))
 
@@ -48,17 +49,20 @@ module _ {m : ℕ} (cs : List ℕ) {row : Row} (i : IsRow m row) where
       sized : {b c : Bool} → b ≡ anyFrom (row .size) cs → b ≡ c → anyFrom (2 ^ m) cs ≡ c
       sized e t = ap (λ n. anyFrom n cs) (sym (i .size)) ∙ sym e ∙ t
 
+      -- one is no element
       pub element-given : {b : Bool} → b ≡ anyFrom (row .size) cs → b ≡ true → Given 4 (polynomialTests m cs [])
       element-given e t =
           fails (listed-on i) (fails (ne-eqb (length cs) 0 some) (fails (le-ltb (suc limit) (length cs) few) (holds (sized e t))))
 
       -- all are elements
       module _ {b : Bool} (e : b ≡ anyFrom (row .size) cs) (t : b ≡ false) where
+        -- all are 0
         pub zero-given : {z : Bool} → z ≡ allZero cs → z ≡ true → Given 5 (polynomialTests m cs [])
         zero-given f u =
             fails (listed-on i)
             (fails (ne-eqb (length cs) 0 some) (fails (le-ltb (suc limit) (length cs) few) (fails (sized e t) (holds (sym f ∙ u)))))
 
+        -- or one is not
         pub polynomial-in : {z : Bool} → z ≡ allZero cs → z ≡ false → Passed (polynomialTests m cs [])
         polynomial-in f u =
             passes (listed-on i)
@@ -66,6 +70,7 @@ module _ {m : ℕ} (cs : List ℕ) {row : Row} (i : IsRow m row) where
 
 -- ---- what is known of a polynomial that was let in
 
+-- in the words of document 01
 pub record PolynomialIn (m : ℕ) (cs : List ℕ) : Type 0 where
   pub field : known m ≡ true
   pub some : 0 < length cs
@@ -73,6 +78,7 @@ pub record PolynomialIn (m : ℕ) (cs : List ℕ) : Type 0 where
   pub small : Below (2 ^ m) cs
   pub nonzero : allZero cs ≡ false
 
+-- whatever tests follow
 pub polynomial-told : (m : ℕ) (cs : List ℕ) {us : List (ℕ × Bool)} → Passed (polynomialTests m cs us) → PolynomialIn m cs
 polynomial-told m cs p =
     let second = others p in
@@ -88,15 +94,17 @@ polynomial-told m cs p =
 
 -- ---- further tests behind the five
 
--- tests behind others: a refusal is given whatever follows, and where the first pass, what follows decides
+-- tests behind others: a refusal is given whatever follows
 given-before : {k : ℕ} {ts : List (ℕ × Bool)} (us : List (ℕ × Bool)) → Given k ts → Given k (ts ++ us)
 given-before us here = here
 given-before us (later g) = later (given-before us g)
 
+-- where the first pass, what follows decides: by a refusal
 given-behind : {k : ℕ} {ts us : List (ℕ × Bool)} → Passed ts → Given k us → Given k (ts ++ us)
 given-behind none g = g
 given-behind (more p) g = later (given-behind p g)
 
+-- or by a pass
 passed-both : {ts us : List (ℕ × Bool)} → Passed ts → Passed us → Passed (ts ++ us)
 passed-both none q = q
 passed-both (more p) q = more (passed-both p q)
@@ -110,9 +118,10 @@ pub out-more : (m : ℕ) (cs : List ℕ) (us : List (ℕ × Bool)) {r : Admissio
     → Admits (polynomialTests m cs us) m r
 out-more m cs us h e = subst (Admits (polynomialTests m cs us) m) (sym e) (given-more m cs us (turned-away m h e))
 
--- where the five pass, what follows decides
+-- where the five pass, what follows decides: by a pass
 pub passed-more : (m : ℕ) (cs : List ℕ) {us : List (ℕ × Bool)} → Passed (polynomialTests m cs []) → Passed us → Passed (polynomialTests m cs us)
 passed-more m cs p q = passed-both p q
 
+-- or by a refusal
 pub passed-given : (m : ℕ) (cs : List ℕ) {us : List (ℕ × Bool)} {k : ℕ} → Passed (polynomialTests m cs []) → Given k us → Given k (polynomialTests m cs us)
 passed-given m cs p g = given-behind p g

@@ -1,12 +1,13 @@
 -- From a polynomial to the part of it that splits.
 --   field-run-top    z^(2^m) + z may be reduced by p as the power alone, with zeros on top, and z added
---   reduce-asks, reduced-long, reduced-is   `reduce`: what the power asks, and what is left
---   split-asks, split-some, split-reducible, split-turnable, split-is
+--   residue-asks, residue-long, residue-is
+--                    `residue`: what the power asks, and what is left
+--   split-asks, split-some, split-residual, split-turnable, split-is
 --                    `split_part`: what each routine asks, and what is left
 -- Assumes nothing.
 use mathlib.Core.Path.{_≡_, refl, sym, ap, ap₂, _∙_, subst}
 use mathlib.Core.Bool.{Bool, true, false}
-use mathlib.Core.Option.{Option, none, some}
+use mathlib.Core.Option.{none, some}
 use mathlib.Core.List.{List, [], _∷_, _++_, map-append}
 use Prim.Native.Nat.{ℕ, zero, suc, _+_, _-_, _^_, _≤_, _<_}
 use native.Mathlib.Decide.{decLt}
@@ -30,7 +31,7 @@ use Rattle.algebra.proofs.NumberMonic.{norm-none}
 use Rattle.algebra.proofs.RootList.{split-part}
 use Rattle.algebra.specs.Polynomial.{Divides}
 use Rattle.slots.specs.Lists.{copied}
-use Rattle.slots.specs.Bounded.{allBelow, allZero}
+use Rattle.slots.specs.Bounded.{allZero}
 use Rattle.slots.proofs.Lists.{copied-front, length-copied, drop-zeros}
 use Rattle.slots.proofs.Bounded.{allBelow-exactly}
 use Rattle.field.specs.Field.{fieldAt}
@@ -41,7 +42,7 @@ use Rattle.polynomial.specs.Powers.{Startable}
 use Rattle.polynomial.specs.Euclid.{Turnable, GcdIs}
 use Rattle.polynomial.proofs.Logs.{field-of, numbers-of}
 use Rattle.splitter.specs.Calls.{limit}
-use Rattle.splitter.specs.SplitPart.{Reducible, Reduced, Splittable, SplitOff}
+use Rattle.splitter.specs.SplitPart.{Residual, Residue, Splittable, SplitOff}
 
 -- ---- z^(2^m) + z modulo p
 
@@ -59,6 +60,7 @@ module _ {K : Type 0} {F : Ops K} (L : Laws F) where
       (cong-add L (frobenius F m z) (w ++ replicate n (F .zero)) z z top (cong-refl L (monic F p) z))
 
 module _ {H : Ops ℕ} {q : ℕ} (N : OnNumbers H q) where
+  -- zeros are zeros
   low-zeros : (n : ℕ) → low N (replicate n (elems N .zero)) ≡ replicate n (H .zero)
   low-zeros zero = refl
   low-zeros (suc n) = ap (λ l. H .zero ∷ l) (low-zeros n)
@@ -76,7 +78,7 @@ module _ {H : Ops ℕ} {q : ℕ} (N : OnNumbers H q) where
       ∙ ap (λ l. add H l (linear H (H .zero))) (map-append (λ x. x .0) w (replicate n (elems N .zero))
       ∙ ap₂ (λ a b. a ++ b) (low-frobeniusMod N u m (rem (elems N) u z) ∙ ap (frobeniusMod H (low N u) m) (low-rem N u z)) (low-zeros n)))
 
--- ---- `reduce`
+-- ---- `residue`
 
 -- nothing added
 add-none : (m : ℕ) (f : List ℕ) → add (G m) f [] ≡ f
@@ -91,10 +93,11 @@ add-z m [] h = absurd (omega arith)
 add-z m (x ∷ []) h = absurd (omega arith)
 add-z m (x ∷ y ∷ f) h = ap₂ (λ a b. a ∷ bitXor y 1 ∷ b) (sym (xor-zero-r x)) (sym (add-none m f))
 
-module _ {m : ℕ} {ls ts p b : List ℕ} (g : Reducible m ls ts p b) where
-  pub reduce-asks : {b₁ : List ℕ} → b₁ ≡ replicate (length b) 0
+module _ {m : ℕ} {ls ts p b : List ℕ} (g : Residual m ls ts p b) where
+  -- what the power asks
+  pub residue-asks : {b₁ : List ℕ} → b₁ ≡ replicate (length b) 0
       → Startable m ls ts p (take (length p) (replicate limit 0)) (take (length p) b₁) (take (length p + length p) (replicate (limit + limit) 0))
-  reduce-asks {b₁} e =
+  residue-asks {b₁} e =
       let few = g .few in
       let room = g .room in
       let long : length b₁ ≡ length b = ap length e ∙ length-replicate (length b) 0 in
@@ -107,17 +110,18 @@ module _ {m : ℕ} {ls ts p b : List ℕ} (g : Reducible m ls ts p b) where
       }
 
   -- b stays as long as it is
-  pub reduced-long : {b₁ w : List ℕ} (x : ℕ) → b₁ ≡ replicate (length b) 0 → w ≡ frobeniusMod (G m) p m (rem (G m) p (0 ∷ 1 ∷ []))
+  pub residue-long : {b₁ w : List ℕ} (x : ℕ) → b₁ ≡ replicate (length b) 0 → w ≡ frobeniusMod (G m) p m (rem (G m) p (0 ∷ 1 ∷ []))
       → length (set (w ++ drop (length p) b₁) 1 x) ≡ length b
-  reduced-long {b₁} {w} x e d =
+  residue-long {b₁} {w} x e d =
       let room = g .room in
       let long : length b₁ ≡ length b = ap length e ∙ length-replicate (length b) 0 in
       let low : length w ≡ length p = ap length d ∙ length-frobeniusMod (G m) p m (rem (G m) p (0 ∷ 1 ∷ [])) (length-rem (G m) p (0 ∷ 1 ∷ [])) in
       length-set (w ++ drop (length p) b₁) 1 x ∙ length-front b₁ w (length p) (low ∙ sym (length-take-le (length p) b₁ (omega arith))) ∙ long
 
-  pub reduced-is : {b₁ w : List ℕ} → b₁ ≡ replicate (length b) 0 → w ≡ frobeniusMod (G m) p m (rem (G m) p (0 ∷ 1 ∷ []))
-      → Reduced m p (set (w ++ drop (length p) b₁) 1 (bitXor (getD (w ++ drop (length p) b₁) 1 0) 1))
-  reduced-is {b₁} {w} e d =
+  -- what is left
+  pub residue-is : {b₁ w : List ℕ} → b₁ ≡ replicate (length b) 0 → w ≡ frobeniusMod (G m) p m (rem (G m) p (0 ∷ 1 ∷ []))
+      → Residue m p (set (w ++ drop (length p) b₁) 1 (bitXor (getD (w ++ drop (length p) b₁) 1 0) 1))
+  residue-is {b₁} {w} e d =
       let N : OnNumbers (G m) (2 ^ m) = numbers-of (g .tables) in
       let z : List ℕ = 0 ∷ 1 ∷ [] in
       let n : ℕ = length b - length p in
@@ -137,22 +141,28 @@ module _ {m : ℕ} {ls ts p b : List ℕ} (g : Reducible m ls ts p b) where
 -- ---- `split_part`
 
 module _ {m : ℕ} {ls ts cs out : List ℕ} (g : Splittable m ls ts cs out) {out₁ : List ℕ} (e : out₁ ≡ copied cs out) where
+  -- the coefficients stand in front
   copy-front : take (length cs) out₁ ≡ cs
   copy-front = ap (take (length cs)) e ∙ copied-front cs out refl
 
+  -- and the slice is as long as it was
   copy-long : length out₁ ≡ length out
   copy-long = ap length e ∙ length-copied cs out (g .room)
 
+  -- what making monic asks
   pub split-asks : Lent m ls ts × Below (2 ^ m) (take (length cs) out₁)
   split-asks = (g .tables, subst (Below (2 ^ m)) (sym copy-front) (g .small))
 
   module _ {j : ℕ} {y : List ℕ} (d : MadeMonic m (take (length cs) out₁) j y) where
+    -- they were made monic
     normed : norm (G m) (length cs) cs ≡ front j y
     normed = subst (λ l. norm (G m) (length l) l ≡ front j y) copy-front (d .made)
 
+    -- with no more coefficients than there were
     within : j ≤ length cs
     within = subst (λ l. j ≤ length l) copy-front (d .within)
 
+    -- in as many places
     long-y : length y ≡ length cs
     long-y = d .long ∙ ap length copy-front
 
@@ -173,28 +183,34 @@ module _ {m : ℕ} {ls ts cs out : List ℕ} (g : Splittable m ls ts cs out) {ou
     p : List ℕ
     p = take (j - 1) (y ++ drop (length cs) out₁)
 
+    -- which the theory makes of all coefficients
     lead : norm (G m) (length cs) cs ≡ some p
     unfolding front p
     lead =
         let back : suc (j - 1) ≡ j = omega (arith, split-some) in
         normed ∙ ap (λ i. front i y) (sym back) ∙ ap some (sym (take-append-le (j - 1) y (drop (length cs) out₁) (omega (arith, within, long-y))))
 
+    -- the slice is as long as it was
     long-out : length (y ++ drop (length cs) out₁) ≡ length out
     long-out = length-front out₁ y (length cs) (long-y ∙ sym (ap length copy-front)) ∙ copy-long
 
+    -- its degree is one less than its coefficients
     long-p : length p ≡ j - 1
     unfolding p
     long-p = length-take-le (j - 1) (y ++ drop (length cs) out₁) (omega (arith, long-out, within, g .room))
 
+    -- and they are elements
     small-p : Below (2 ^ m) p
     small-p = norm-below (numbers-of (g .tables)) (length cs) cs (g .small) lead
 
+    -- they stand within the slice
     pub split-room : j - 1 ≤ length (y ++ drop (length cs) out₁)
     split-room = omega (arith, long-out, within, g .room)
 
-    pub split-reducible : {b : List ℕ} → length b ≡ suc limit → Reducible m ls ts (take (j - 1) (y ++ drop (length cs) out₁)) b
+    -- what the power asks
+    pub split-residual : {b : List ℕ} → length b ≡ suc limit → Residual m ls ts (take (j - 1) (y ++ drop (length cs) out₁)) b
     unfolding p
-    split-reducible h = record {
+    split-residual h = record {
       tables = g .tables;
       small = small-p;
       few = omega (arith, long-p, within, split-some, g .few);
@@ -202,7 +218,8 @@ module _ {m : ℕ} {ls ts cs out : List ℕ} (g : Splittable m ls ts cs out) {ou
       two = omega arith;
     }
 
-    module _ {b : List ℕ} (r : Reduced m (take (j - 1) (y ++ drop (length cs) out₁)) b) (h : length b ≡ suc limit) where
+    module _ {b : List ℕ} (r : Residue m (take (j - 1) (y ++ drop (length cs) out₁)) b) (h : length b ≡ suc limit) where
+      -- what the greatest common divisor asks
       pub split-turnable : {row : List ℕ} {n : ℕ} → length row ≡ limit → n ≤ suc limit → Turnable m ls ts row (y ++ drop (length cs) out₁) (j - 1) b n
       unfolding p
       split-turnable {row} {n} k l = record {
@@ -215,6 +232,7 @@ module _ {m : ℕ} {ls ts cs out : List ℕ} (g : Splittable m ls ts cs out) {ou
         small-b = take-below (2 ^ m) n b (r .small);
       }
 
+      -- what is left
       pub split-is : {k : ℕ} {a : List ℕ} → length a ≡ length out → GcdIs m (y ++ drop (length cs) out₁) (j - 1) b (suc limit) k a → SplitOff m cs k a
       unfolding p
       split-is {k} {a} l i =

@@ -1,12 +1,13 @@
 -- `write` and `begin`: what the parts ask, and what is left.
---   size-least, size-most                    the size of a known field
+--   size-most, size-least, size-fits         the size of a known field
+--   logs-asks, antilogs-asks                 what the lent tables ask
 --   lent-tables, write-splittable            the tables as they are lent, and the polynomial with them
 --   part-long, part-few, written-is          the part that splits, and what is left in the table
---   cutoff-given, room-given, begin-in       which refusal the further tests show
+--   further                                  refusals 6 and 7 as tests;  cutoff-given, room-given, begin-in  which refusal the further tests show
 --   begin-writable                           what was let in can be written
 -- Assumes nothing.
-use mathlib.Core.Path.{_≡_, refl, sym, ap, _∙_, subst}
-use mathlib.Core.Bool.{Bool, true, false, not}
+use mathlib.Core.Path.{_≡_, sym, ap, _∙_, subst}
+use mathlib.Core.Bool.{Bool, true, not}
 use mathlib.Core.List.{List, [], _∷_}
 use Prim.Native.Nat.{ℕ, suc, _-_, _*_, _^_, _≤_, _<_}
 use native.Mathlib.Omega.{arith}
@@ -34,16 +35,20 @@ use Rattle.splitter.proofs.PolynomialTests.{polynomial-told, passed-mor
 
 -- ---- the size of a known field
 
+-- none is larger than that of degree 11
 pub size-most : (m : ℕ) → known m ≡ true → 2 ^ m ≤ 2048
 size-most m k = by-row (λ m p. 2 ^ m ≤ 2048) (omega arith) (omega arith) (omega arith) (listed m k)
 
 module _ {m size : ℕ} {cs table : List ℕ} (g : Writable m size cs table) where
+  -- it has an element
   pub size-least : 1 ≤ size
   size-least = omega (arith, pow-pos m, g .elements)
 
+  -- and fits the room of the log table
   pub size-fits : size ≤ 2048
   size-fits = omega (arith, size-most m (g .degree), g .elements)
 
+  -- what the log table asks, and the antilog table
   pub logs-asks : {n : ℕ} → n ≡ 2048 → (known m ≡ true) × (2 ^ m ≤ n)
   logs-asks h = (g .degree, omega (arith, size-most m (g .degree)))
 
@@ -59,6 +64,7 @@ module _ {m size : ℕ} {cs table : List ℕ} (g : Writable m size cs table) whe
     antilogs = subst (λ n. Antilogs (fieldAt m) (take (3 * (n - 1)) ts)) (sym (g .elements)) a;
   }
 
+  -- what the part that splits asks
   pub write-splittable : (ls ts : List ℕ) {out : List ℕ} → Logs (fieldAt m) (take (2 ^ m) ls) → Antilogs (fieldAt m) (take (3 * (2 ^ m - 1)) ts) → length out ≡ suc limit
       → Splittable m (take size ls) (take (3 * (size - 1)) ts) cs out
   write-splittable ls ts l a h = record {
@@ -69,10 +75,11 @@ module _ {m size : ℕ} {cs table : List ℕ} (g : Writable m size cs table) whe
     room = omega (arith, g .few);
   }
 
--- the part that splits is as long as it says, and fits in
+-- the part that splits is as long as it says
 pub part-long : {m k : ℕ} {cs out : List ℕ} → SplitOff m cs k out → length (take k out) ≡ k
 part-long {m} {k} {cs} s = ap length (s .low) ∙ length-monicRoots (G m) (rootsOf (G m) (2 ^ m) cs) ∙ sym (s .count)
 
+-- and fits in
 pub part-few : {m size k : ℕ} {cs table out : List ℕ} → Writable m size cs table → SplitOff m cs k out → length (take k out) ≤ limit
 part-few g s = omega (arith, part-long s, s .fewer, g .few)
 
@@ -85,15 +92,19 @@ written-is m c s e = e ∙ ap (λ p. encode byFactor slots (begunTable m c p)) (
 -- ---- refusals 6 and 7
 
 module _ (m : ℕ) (cs : List ℕ) (c room : ℕ) where
+  -- the two tests behind those of a polynomial
   abbrev further : List (ℕ × Bool)
   further = (6, ltb 3 c) ∷ (7, not (eqb room slots)) ∷ []
 
+  -- the cutoff is above 3
   pub cutoff-given : Passed (polynomialTests m cs []) → 3 < c → Given 6 (polynomialTests m cs further)
   cutoff-given p h = passed-given m cs p (holds (lt-ltb 3 c h))
 
+  -- the table has not all its slots
   pub room-given : Passed (polynomialTests m cs []) → c ≤ 3 → (room ≡ slots → ⊥) → Given 7 (polynomialTests m cs further)
   room-given p h n = passed-given m cs p (fails (le-ltb 3 c h) (holds (ap not (ne-eqb room slots n))))
 
+  -- none of the seven holds
   pub begin-in : Passed (polynomialTests m cs []) → c ≤ 3 → room ≡ slots → Passed (polynomialTests m cs further)
   begin-in p h e = passed-more m cs p (passes (le-ltb 3 c h) (passes (ap not (eq-eqb room slots e)) none))
 

@@ -1,6 +1,6 @@
 -- What the routines of begin take for granted, and what they leave.
---   Reducible   z^(2^m) + z can be reduced by the monic polynomial with the low coefficients p, into b
---   Reduced     b took its place: it has the same greatest common divisor with that polynomial
+--   Residual    z^(2^m) + z can be reduced by the monic polynomial with the low coefficients p, into b
+--   Residue     b took its place: it has the same greatest common divisor with that polynomial
 --   Splittable  the part of a polynomial that splits can be written to out
 --   SplitOff    k coefficients at the front of out are the product of (z + r) over all distinct roots
 --   Writable    the table of a polynomial can be written
@@ -18,7 +18,7 @@ use Rattle.polynomial.specs.Lent.{G, Lent}
 use Rattle.splitter.specs.Calls.{limit, slots}
 
 -- with room for a remainder, and for z
-pub record Reducible (m : ℕ) (ls ts p b : List ℕ) : Type 0 where
+pub record Residual (m : ℕ) (ls ts p b : List ℕ) : Type 0 where
   pub tables : Lent m ls ts
   pub small : Below (2 ^ m) p
   pub few : length p ≤ limit
@@ -26,7 +26,7 @@ pub record Reducible (m : ℕ) (ls ts p b : List ℕ) : Type 0 where
   pub two : 2 ≤ length b
 
 -- as far as a common divisor with p tells
-pub record Reduced (m : ℕ) (p b : List ℕ) : Type 0 where
+pub record Residue (m : ℕ) (p b : List ℕ) : Type 0 where
   pub small : Below (2 ^ m) b
   pub same : gcd (G m) p b ≡ gcd (G m) p (fieldPoly (G m) m)
 

@@ -13,7 +13,7 @@ ghost use Rattle.groups.specs.Layout.{byFactor};
 ghost use Rattle.groups.specs.Table.{encode};
 ghost use Rattle.groups.specs.Splitting.{begunTable, slotsBegun};
 ghost use Rattle.splitter.specs.Calls.{limit, slots, polynomialTests, beginOutcome, beginMemory, paperBegun};
-ghost use Rattle.splitter.specs.SplitPart.{Reducible, Reduced, Splittable, SplitOff, Writable};
+ghost use Rattle.splitter.specs.SplitPart.{Residual, Residue, Splittable, SplitOff, Writable};
 use crate::Begun;
 use polynomial::euclid::gcd;
 use polynomial::monic::make_monic;
@@ -78,9 +78,9 @@ fn admit(m: u16, coeffs: &[u16], cutoff: u16, room: usize) -> Admission
 }
 
 // Writes z^(2^m) + z, reduced by the monic polynomial with the low coefficients p, to b: m squarings, then z is added.
-fn reduce(m: u16, logs: &[u16], antilogs: &[u16], p: &[u16], b: &mut [u16])
-    requires { ⌜ Reducible m (now logs) (now antilogs) (now p) (now b) ⌝ }
-    ensures { λ _. ⌜ Reduced m (now (p .entry)) (now (b .exit)) ⌝ }
+fn residue(m: u16, logs: &[u16], antilogs: &[u16], p: &[u16], b: &mut [u16])
+    requires { ⌜ Residual m (now logs) (now antilogs) (now p) (now b) ⌝ }
+    ensures { λ _. ⌜ Residue m (now (p .entry)) (now (b .exit)) ⌝ }
 {
     let mut row = [0u16; 32];
     let mut s = [0u16; 64];
@@ -110,7 +110,7 @@ pub fn split_part(m: u16, logs: &[u16], antilogs: &[u16], coeffs: &[u16], out: &
     let n = coeffs.len();
     slots::copy(coeffs, out);
     let d = make_monic(m, logs, antilogs, &mut out[..n]) - 1;
-    reduce(m, logs, antilogs, &out[..d], &mut b);
+    residue(m, logs, antilogs, &out[..d], &mut b);
     gcd(m, logs, antilogs, &mut row, out, d, &mut b, 33)
 }
 

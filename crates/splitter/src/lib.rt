@@ -4,6 +4,7 @@ use refusals::Refusal;
 pub mod beginning; // begin
 pub mod judging; // what is decided before anything is written
 pub mod stepping; // a step
+pub mod finishing; // finish
 
 // What begin answers.
 pub enum Begun {

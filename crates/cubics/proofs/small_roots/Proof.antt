@@ -5,32 +5,22 @@ use Rattle.cubics.proofs.LowDegrees.{front-out}
 use borrow.Author.Needs.{needs}
 use Rattle.cubics.proofs.small_roots.Statement.{statement}
 use Rattle.cubics.proofs.small_roots.Tie as tie
-use Rattle.cubics.proofs.small_roots.Reads as reads
-use Rattle.cubics.proofs.small_roots.Lts as lts
-use Rattle.cubics.proofs.low.low_roots.Reads as low-roots-reads
-use Rattle.cubics.proofs.parting.cubic_roots.Reads as cubic-roots-reads
 
--- src/lib.rt:23:9
 low-roots-requires : tie.Need-low-roots-requires
 low-roots-requires c κs = search needs
 
--- src/lib.rt:23:9
 same-length : tie.Need-same-length
 same-length c = search needs
 
--- src/lib.rt:23:9
 returns : tie.Need-returns
 returns c = front-out (c .before .before .before .before .before .before .before .before .before .before .args .p .now) (c .before .before .before .before .before .before .before .before .before .before .pre .tables .degree) (c .before .before .before .before .before .before .before .before .before .before .pre .small) refl (c .before .before .low-roots .ensures)
 
--- src/lib.rt:25:5
 cubic-roots-requires : tie.Need-cubic-roots-requires
 cubic-roots-requires c κs = search needs
 
--- src/lib.rt:11:1
 same-length-2 : tie.Need-same-length-2
 same-length-2 c = search needs
 
--- src/lib.rt:11:1
 returns-2 : tie.Need-returns-2
 returns-2 c = search needs
 

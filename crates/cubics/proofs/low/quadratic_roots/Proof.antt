@@ -4,68 +4,49 @@ use Rattle.cubics.proofs.LowDegrees.{quadratic-asks, quadratic-list, qu
 use borrow.Author.Needs.{needs}
 use Rattle.cubics.proofs.low.quadratic_roots.Statement.{statement}
 use Rattle.cubics.proofs.low.quadratic_roots.Tie as tie
-use Rattle.cubics.proofs.low.quadratic_roots.Reads as reads
-use Rattle.cubics.proofs.low.quadratic_roots.Lts as lts
-use Rattle.cubics.proofs.low.poly_of.Reads as poly-of-reads
-use Rattle.field.proofs.solver.quadratic_of.Reads as quadratic-of-reads
 
--- src/low.rt:32:9
 poly-of-requires : tie.Need-poly-of-requires
 poly-of-requires c κs = search needs
 
--- src/low.rt:33:11
 quadratic-of-requires : tie.Need-quadratic-of-requires
 quadratic-of-requires c κs = quadratic-asks (c .before .before .before .pre) (c .poly-of .ensures)
 
--- src/low.rt:34:34
 enum-told : tie.Need-enum-told
 enum-told c = search needs
 
--- src/low.rt:35:30
 enum-told-2 : tie.Need-enum-told-2
 enum-told-2 c = search needs
 
--- src/low.rt:36:24
 enum-known-x : tie.Need-enum-known-x
 enum-known-x c = search needs
 
--- src/low.rt:37:13
 slice-write-out : tie.Need-slice-write-out
 slice-write-out c = search needs
 
--- src/low.rt:40:24
 enum-known-x-2 : tie.Need-enum-known-x-2
 enum-known-x-2 c = search needs
 
--- src/low.rt:41:13
 slice-write-out-2 : tie.Need-slice-write-out-2
 slice-write-out-2 c = search needs
 
--- src/low.rt:42:13
 slice-write-out-3 : tie.Need-slice-write-out-3
 slice-write-out-3 c = search needs
 
--- src/low.rt:28:1
 returns : tie.Need-returns
 returns c = front-none _ (quadratic-list _ _ _ (c .before .before .before .poly-of .ensures) (c .before .before .quadratic-of .ensures) (c .enum-told .given .1))
 
--- src/low.rt:28:1
 returns-2 : tie.Need-returns-2
 returns-2 c = front-none _ (quadratic-list _ _ _ (c .before .before .before .poly-of .ensures) (c .before .before .quadratic-of .ensures) (c .enum-told2 .given .1))
 
--- src/low.rt:28:1
 same-length : tie.Need-same-length
 same-length c = search needs
 
--- src/low.rt:28:1
 returns-3 : tie.Need-returns-3
 returns-3 c = quadratic-one _ (c .before .before .before .before .before .before .before .pre) (quadratic-list _ _ _ (c .before .before .before .before .poly-of .ensures) (c .before .before .before .quadratic-of .ensures) (c .before .x .given .1))
 
--- src/low.rt:28:1
 same-length-2 : tie.Need-same-length-2
 same-length-2 c = search needs
 
--- src/low.rt:28:1
 returns-4 : tie.Need-returns-4
 returns-4 c = quadratic-two _ _ (c .before .before .before .before .before .before .before .pre) (quadratic-list _ _ _ (c .before .before .before .before .poly-of .ensures) (c .before .before .before .quadratic-of .ensures) (c .before .x2 .given .1))
 

@@ -9,57 +9,40 @@ use Rattle.cubics.proofs.Pieces.{split-low, split-out, split-given, who
 use borrow.Author.Needs.{needs}
 use Rattle.cubics.proofs.parting.cubic_roots.Statement.{statement}
 use Rattle.cubics.proofs.parting.cubic_roots.Tie as tie
-use Rattle.cubics.proofs.parting.cubic_roots.Reads as reads
-use Rattle.cubics.proofs.parting.cubic_roots.Lts as lts
-use Rattle.cubics.proofs.low.low_roots.Reads as low-roots-reads
-use Rattle.cubics.proofs.parting.split_part.Reads as split-part-reads
-use Rattle.cubics.proofs.parting.split_roots.Reads as split-roots-reads
 
--- src/parting.rt:118:46
 slice-aggregate-split-part : tie.Need-slice-aggregate-split-part
 slice-aggregate-split-part c = search needs
 
--- src/parting.rt:118:9
 split-part-requires : tie.Need-split-part-requires
 split-part-requires c κs = search needs
 
--- src/parting.rt:120:37
 array-share-prefix-g : tie.Need-array-share-prefix-g
 array-share-prefix-g c = search needs
 
--- src/parting.rt:120:37
 slice-aggregate-low-roots : tie.Need-slice-aggregate-low-roots
 slice-aggregate-low-roots c = sym (length-take-le _ _ (omega (arith, c .before .if1 .taken)))
 
--- src/parting.rt:120:9
 low-roots-requires : tie.Need-low-roots-requires
 low-roots-requires c κs = split-low (c .before .before .before .before .before .before .before .before .before .before .before .pre .0) (c .before .before .before .before .before .before .before .before .before .before .before .pre .1) (search needs) (c .before .before .before .before .split-part .ensures) (c .before .before .if1 .taken)
 
--- src/parting.rt:120:9
 same-length : tie.Need-same-length
 same-length c = search needs
 
--- src/parting.rt:120:9
 returns : tie.Need-returns
 returns c = split-out (c .before .before .before .before .before .before .before .before .before .before .before .before .before .before .pre .0) (c .before .before .before .before .before .before .before .before .before .before .before .before .before .before .pre .1) (search needs) (c .before .before .before .before .before .before .before .split-part .ensures) (c .before .before .low-roots .ensures)
 
--- src/parting.rt:122:44
 array-share-prefix-g-2 : tie.Need-array-share-prefix-g-2
 array-share-prefix-g-2 c = search needs
 
--- src/parting.rt:122:44
 slice-aggregate-split-roots : tie.Need-slice-aggregate-split-roots
 slice-aggregate-split-roots c = let h : 3 ≤ length (c .before .before .before .split-part .last .1 .1 .1 .1 .0) = search needs in sym (length-take-le 3 (c .before .before .before .split-part .last .1 .1 .1 .1 .0) h)
 
--- src/parting.rt:122:5
 split-roots-requires : tie.Need-split-roots-requires
 split-roots-requires c κs = split-given (c .before .before .before .before .before .before .before .before .before .before .before .pre .0) (c .before .before .before .before .before .before .before .before .before .before .before .pre .1) (search needs) (c .before .before .before .before .split-part .ensures) (c .before .before .if1 .left)
 
--- src/parting.rt:106:1
 same-length-2 : tie.Need-same-length-2
 same-length-2 c = search needs
 
--- src/parting.rt:106:1
 returns-2 : tie.Need-returns-2
 returns-2 c = whole-out (c .before .before .before .before .before .before .before .before .before .before .before .before .before .before .pre .0) (c .before .before .before .before .before .before .before .before .before .before .before .before .before .before .pre .1) (search needs) (c .before .before .before .before .before .before .before .split-part .ensures) (c .before .before .before .before .before .if1 .left) (c .before .before .split-roots .ensures)
 

@@ -6,53 +6,37 @@ use Rattle.cubics.proofs.Cubics.{trace-asks, part-asks, part-is}
 use borrow.Author.Needs.{needs}
 use Rattle.cubics.proofs.parting.part_at.Statement.{statement}
 use Rattle.cubics.proofs.parting.part_at.Tie as tie
-use Rattle.cubics.proofs.parting.part_at.Reads as reads
-use Rattle.cubics.proofs.parting.part_at.Lts as lts
-use Rattle.polynomial.proofs.euclid.gcd.Reads as gcd-reads
-use Rattle.polynomial.proofs.powers.trace_of.Reads as trace-of-reads
-use Rattle.slots.proofs.copy.Reads as copy-reads
 
--- src/parting.rt:38:39
 slice-aggregate-trace-of : tie.Need-slice-aggregate-trace-of
 slice-aggregate-trace-of c = search needs
 
--- src/parting.rt:38:49
 slice-aggregate-trace-of-2 : tie.Need-slice-aggregate-trace-of-2
 slice-aggregate-trace-of-2 c = search needs
 
--- src/parting.rt:38:57
 slice-aggregate-trace-of-3 : tie.Need-slice-aggregate-trace-of-3
 slice-aggregate-trace-of-3 c = search needs
 
--- src/parting.rt:38:65
 slice-aggregate-trace-of-4 : tie.Need-slice-aggregate-trace-of-4
 slice-aggregate-trace-of-4 c = search needs
 
--- src/parting.rt:38:5
 trace-of-requires : tie.Need-trace-of-requires
 trace-of-requires c κs = trace-asks (c .before .before .before .before .before .before .before .before .pre .0) (0 ∷ 0 ∷ 0 ∷ []) (c .before .before .before .before .before .before .before .before .pre .1) refl refl refl refl
 
--- src/parting.rt:39:5
 copy-requires : tie.Need-copy-requires
 copy-requires c κs = search needs
 
--- src/parting.rt:40:28
 slice-aggregate-gcd : tie.Need-slice-aggregate-gcd
 slice-aggregate-gcd c = search needs
 
--- src/parting.rt:40:44
 slice-aggregate-gcd-2 : tie.Need-slice-aggregate-gcd-2
 slice-aggregate-gcd-2 c = search needs
 
--- src/parting.rt:40:5
 gcd-requires : tie.Need-gcd-requires
 gcd-requires c κs = part-asks (c .before .before .before .before .before .before .before .before .before .before .before .before .before .before .before .before .before .before .before .before .pre .0) (c .before .before .before .before .before .before .before .before .before .before .before .before .before .before .before .before .before .before .before .before .pre .1) (c .before .before .before .before .before .copy .ensures) (search needs) (c .before .before .before .before .before .before .before .before .before .before .before .trace-of .ensures) (search needs)
 
--- src/parting.rt:30:1
 same-length : tie.Need-same-length
 same-length c = search needs
 
--- src/parting.rt:30:1
 returns : tie.Need-returns
 returns c = part-is (c .before .before .before .before .before .before .before .before .before .before .before .before .before .before .before .before .before .before .before .before .before .before .before .before .before .pre .0) (c .before .before .before .before .before .before .before .before .before .before .before .before .before .before .before .before .before .before .before .before .before .before .before .before .before .pre .1) (c .before .before .before .before .before .before .before .before .before .before .copy .ensures) (search needs) (c .before .before .before .before .before .before .before .before .before .before .before .before .before .before .before .before .trace-of .ensures) (c .before .before .before .before .gcd .ensures)
 

@@ -9,80 +9,58 @@ use Rattle.cubics.proofs.Pieces.{cofactor-asks, piece-low, piece-room, 
 use borrow.Author.Needs.{needs}
 use Rattle.cubics.proofs.parting.roots_of_parts.Statement.{statement}
 use Rattle.cubics.proofs.parting.roots_of_parts.Tie as tie
-use Rattle.cubics.proofs.parting.roots_of_parts.Reads as reads
-use Rattle.cubics.proofs.parting.roots_of_parts.Lts as lts
-use Rattle.cubics.proofs.low.low_roots.Reads as low-roots-reads
-use Rattle.polynomial.proofs.euclid.cofactor.Reads as cofactor-reads
 
--- src/parting.rt:78:13
 sub-e : tie.Need-sub-e
 sub-e c = search needs
 
--- src/parting.rt:82:39
 array-borrow-prefix-row : tie.Need-array-borrow-prefix-row
 array-borrow-prefix-row c = search needs
 
--- src/parting.rt:82:39
 slice-aggregate-cofactor : tie.Need-slice-aggregate-cofactor
 slice-aggregate-cofactor c = sym (length-take-le _ _ (omega (arith, c .before .before .before .before .before .before .before .pre .less)))
 
--- src/parting.rt:82:54
 slice-aggregate-cofactor-2 : tie.Need-slice-aggregate-cofactor-2
 slice-aggregate-cofactor-2 c = search needs
 
--- src/parting.rt:82:62
 array-borrow-prefix-h : tie.Need-array-borrow-prefix-h
 array-borrow-prefix-h c = search needs
 
--- src/parting.rt:82:62
 slice-aggregate-cofactor-3 : tie.Need-slice-aggregate-cofactor-3
 slice-aggregate-cofactor-3 c = sym (length-take-le _ _ (omega (arith, c .before .before .before .before .before .before .before .before .before .pre .less)))
 
--- src/parting.rt:82:5
 cofactor-requires : tie.Need-cofactor-requires
 cofactor-requires c κs = cofactor-asks (c .before .before .before .before .before .before .before .before .before .pre) (length-take-le _ _ (omega (arith, c .before .before .before .before .before .before .before .before .before .pre .less))) refl (length-take-le _ _ (omega (arith, c .before .before .before .before .before .before .before .before .before .pre .less)))
 
--- src/parting.rt:83:9
 low-roots-requires : tie.Need-low-roots-requires
 low-roots-requires c κs = piece-low (c .before .before .before .before .before .before .before .before .before .before .before .before .before .before .pre)
 
--- src/parting.rt:84:34
 array-share-prefix-h : tie.Need-array-share-prefix-h
 array-share-prefix-h c = rest-fits (c .before .before .before .before .before .before .before .before .before .before .before .before .before .before .before .before .before .pre) _ (c .before .before .before .before .before .before .before .cofactor .ensures)
 
--- src/parting.rt:84:34
 slice-aggregate-low-roots : tie.Need-slice-aggregate-low-roots
 slice-aggregate-low-roots c = sym (ap length (rest-front (c .before .before .before .before .before .before .before .before .before .before .before .before .before .before .before .before .before .before .pre) _ (c .before .before .before .before .before .before .before .before .cofactor .ensures)) ∙ rest-long (c .before .before .before .before .before .before .before .before .before .before .before .before .before .before .before .before .before .before .pre) refl)
 
--- src/parting.rt:84:43
 mul-low-roots : tie.Need-mul-low-roots
 mul-low-roots c = omega (arith, piece-room (c .before .before .before .before .before .before .before .before .before .before .before .before .before .before .before .before .before .before .pre) (c .before .before .before .low-roots .ensures), c .before .before .before .before .before .before .before .before .before .before .before .before .before .before .before .before .before .before .pre .less)
 
--- src/parting.rt:84:43
 sub-low-roots : tie.Need-sub-low-roots
 sub-low-roots c = front-within (c .before .before .before .low-roots .ensures)
 
--- src/parting.rt:84:43
 part-low-roots-start : tie.Need-part-low-roots-start
 part-low-roots-start c = front-within (c .before .before .before .low-roots .ensures)
 
--- src/parting.rt:84:43
 part-low-roots-end : tie.Need-part-low-roots-end
 part-low-roots-end c = search needs
 
--- src/parting.rt:84:9
 low-roots-requires-2 : tie.Need-low-roots-requires-2
 low-roots-requires-2 c κs = rest-low (c .before .before .before .before .before .before .before .before .before .before .before .before .before .before .before .before .before .before .before .pre) (rest-front (c .before .before .before .before .before .before .before .before .before .before .before .before .before .before .before .before .before .before .before .pre) _ (c .before .before .before .before .before .before .before .before .before .cofactor .ensures)) (rest-room (c .before .before .before .before .before .before .before .before .before .before .before .before .before .before .before .before .before .before .before .pre) (c .before .before .before .before .low-roots .ensures) (search needs))
 
--- src/parting.rt:85:5
 add-result : tie.Need-add-result
 add-result c = omega (arith, piece-room (c .before .before .before .before .before .before .before .before .before .before .before .before .before .before .before .before .before .before .before .before .before .before .pre) (c .before .before .before .before .before .before .before .low-roots .ensures), c .before .before .before .before .before .before .before .before .before .before .before .before .before .before .before .before .before .before .before .before .before .before .pre .less, rest-count (c .before .before .before .before .before .before .before .before .before .before .before .before .before .before .before .before .before .before .before .before .before .before .pre) (rest-front (c .before .before .before .before .before .before .before .before .before .before .before .before .before .before .before .before .before .before .before .before .before .before .pre) _ (c .before .before .before .before .before .before .before .before .before .before .before .before .cofactor .ensures)) (c .before .before .low-roots2 .ensures))
 
--- src/parting.rt:65:1
 same-length : tie.Need-same-length
 same-length c = search needs
 
--- src/parting.rt:65:1
 returns : tie.Need-returns
 returns c = pieces-out (c .before .before .before .before .before .before .before .before .before .before .before .before .before .before .before .before .before .before .before .before .before .before .pre) _ (rest-front (c .before .before .before .before .before .before .before .before .before .before .before .before .before .before .before .before .before .before .before .before .before .before .pre) _ (c .before .before .before .before .before .before .before .before .before .before .before .before .cofactor .ensures)) (c .before .before .before .before .before .before .before .low-roots .ensures) (c .before .before .low-roots2 .ensures)
 

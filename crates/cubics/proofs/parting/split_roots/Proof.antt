@@ -7,36 +7,25 @@ use Rattle.cubics.proofs.Pieces.{split-piece}
 use borrow.Author.Needs.{needs}
 use Rattle.cubics.proofs.parting.split_roots.Statement.{statement}
 use Rattle.cubics.proofs.parting.split_roots.Tie as tie
-use Rattle.cubics.proofs.parting.split_roots.Reads as reads
-use Rattle.cubics.proofs.parting.split_roots.Lts as lts
-use Rattle.cubics.proofs.parting.part_of.Reads as part-of-reads
-use Rattle.cubics.proofs.parting.roots_of_parts.Reads as roots-of-parts-reads
 
--- src/parting.rt:101:43
 slice-aggregate-part-of : tie.Need-slice-aggregate-part-of
 slice-aggregate-part-of c = search needs
 
--- src/parting.rt:101:9
 part-of-requires : tie.Need-part-of-requires
 part-of-requires c κs = search needs
 
--- src/parting.rt:102:50
 array-share-prefix-g : tie.Need-array-share-prefix-g
 array-share-prefix-g c = search needs
 
--- src/parting.rt:102:50
 slice-aggregate-roots-of-parts : tie.Need-slice-aggregate-roots-of-parts
 slice-aggregate-roots-of-parts c = sym (length-take-le _ _ (omega (arith, c .before .before .part-of .ensures .less)))
 
--- src/parting.rt:102:5
 roots-of-parts-requires : tie.Need-roots-of-parts-requires
 roots-of-parts-requires c κs = split-piece (c .before .before .before .before .before .before .before .before .before .before .pre) (search needs) (c .before .before .before .part-of .ensures)
 
--- src/parting.rt:89:1
 same-length : tie.Need-same-length
 same-length c = search needs
 
--- src/parting.rt:89:1
 returns : tie.Need-returns
 returns c = search needs
 

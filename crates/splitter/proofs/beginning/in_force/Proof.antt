@@ -1,9 +1,9 @@
 -- `splitter::beginning::in_force` meets its contract.
 -- Assumes nothing.
 use mathlib.Core.Path.{sym}
+use Rattle.groups.specs.Cutoff.{houseDefault}
 use Rattle.groups.proofs.HouseDefault.{inForce-stated}
 use Rattle.splitter.proofs.Laying.{inForce-house}
-use borrow.Author.Needs.{needs}
 use Rattle.splitter.proofs.beginning.in_force.Statement.{statement}
 use Rattle.splitter.proofs.beginning.in_force.Tie as tie
 
@@ -11,7 +11,7 @@ returns : tie.Need-returns
 returns c = inForce-house _ (c .if1 .taken)
 
 returns-2 : tie.Need-returns-2
-returns-2 c = sym (inForce-stated 2 _ (c .if1 .left))
+returns-2 c = sym (inForce-stated houseDefault _ (c .if1 .left))
 
 pub in-force-spec : {M : Type 1} → statement M
 in-force-spec = tie.close (tie.spec returns returns-2)

@@ -3,7 +3,7 @@
 use mathlib.Core.Path.{refl, sym}
 use native.Mathlib.Omega.{arith}
 use lib.Seq.{length-take-le}
-use Rattle.splitter.proofs.SplitPart.{split-asks, split-some, split-room, split-reducible, split-turnable, split-is}
+use Rattle.splitter.proofs.SplitPart.{split-asks, split-some, split-room, split-residual, split-turnable, split-is}
 use borrow.Author.Needs.{needs}
 use Rattle.splitter.proofs.beginning.split_part.Statement.{statement}
 use Rattle.splitter.proofs.beginning.split_part.Tie as tie
@@ -23,17 +23,17 @@ make-monic-requires c κs = split-asks (c .before .before .before .before .befor
 sub-d : tie.Need-sub-d
 sub-d c = split-some (c .before .before .before .before .before .before .before .before .before .before .before .before .pre) (c .before .before .before .before .before .before .copy .ensures) (c .before .before .make-monic .ensures)
 
-slice-reshare-prefix-reduce : tie.Need-slice-reshare-prefix-reduce
-slice-reshare-prefix-reduce c = split-room (c .before .before .before .before .before .before .before .before .before .before .before .before .pre) (c .before .before .before .before .before .before .copy .ensures) (c .before .before .make-monic .ensures)
+slice-reshare-prefix-residue : tie.Need-slice-reshare-prefix-residue
+slice-reshare-prefix-residue c = split-room (c .before .before .before .before .before .before .before .before .before .before .before .before .pre) (c .before .before .before .before .before .before .copy .ensures) (c .before .before .make-monic .ensures)
 
-slice-aggregate-reduce : tie.Need-slice-aggregate-reduce
-slice-aggregate-reduce c = sym (length-take-le _ _ (split-room (c .before .before .before .before .before .before .before .before .before .before .before .before .before .pre) (c .before .before .before .before .before .before .before .copy .ensures) (c .before .before .before .make-monic .ensures)))
+slice-aggregate-residue : tie.Need-slice-aggregate-residue
+slice-aggregate-residue c = sym (length-take-le _ _ (split-room (c .before .before .before .before .before .before .before .before .before .before .before .before .before .pre) (c .before .before .before .before .before .before .before .copy .ensures) (c .before .before .before .make-monic .ensures)))
 
-slice-aggregate-reduce-2 : tie.Need-slice-aggregate-reduce-2
-slice-aggregate-reduce-2 c = search needs
+slice-aggregate-residue-2 : tie.Need-slice-aggregate-residue-2
+slice-aggregate-residue-2 c = search needs
 
-reduce-requires : tie.Need-reduce-requires
-reduce-requires c κs = split-reducible (c .before .before .before .before .before .before .before .before .before .before .before .before .before .before .pre) (c .before .before .before .before .before .before .before .before .copy .ensures) (c .before .before .before .before .make-monic .ensures) refl
+reduce-requires : tie.Need-residue-requires
+reduce-requires c κs = split-residual (c .before .before .before .before .before .before .before .before .before .before .before .before .before .before .pre) (c .before .before .before .before .before .before .before .before .copy .ensures) (c .before .before .before .before .make-monic .ensures) refl
 
 slice-aggregate-gcd : tie.Need-slice-aggregate-gcd
 slice-aggregate-gcd c = search needs
@@ -42,13 +42,13 @@ slice-aggregate-gcd-2 : tie.Need-slice-aggregate-gcd-2
 slice-aggregate-gcd-2 c = search needs
 
 gcd-requires : tie.Need-gcd-requires
-gcd-requires c κs = split-turnable (c .before .before .before .before .before .before .before .before .before .before .before .before .before .before .before .before .before .before .before .pre) (c .before .before .before .before .before .before .before .before .before .before .before .before .before .copy .ensures) (c .before .before .before .before .before .before .before .before .before .make-monic .ensures) (c .before .before .before .before .reduce .ensures) (search needs) refl (omega arith)
+gcd-requires c κs = split-turnable (c .before .before .before .before .before .before .before .before .before .before .before .before .before .before .before .before .before .before .before .pre) (c .before .before .before .before .before .before .before .before .before .before .before .before .before .copy .ensures) (c .before .before .before .before .before .before .before .before .before .make-monic .ensures) (c .before .before .before .before .residue .ensures) (search needs) refl (omega arith)
 
 same-length : tie.Need-same-length
 same-length c = search needs
 
 returns : tie.Need-returns
-returns c = split-is (c .before .before .before .before .before .before .before .before .before .before .before .before .before .before .before .before .before .before .before .before .before .before .before .before .pre) (c .before .before .before .before .before .before .before .before .before .before .before .before .before .before .before .before .before .before .copy .ensures) (c .before .before .before .before .before .before .before .before .before .before .before .before .before .before .make-monic .ensures) (c .before .before .before .before .before .before .before .before .before .reduce .ensures) (search needs) (search needs) (c .before .before .before .before .gcd .ensures)
+returns c = split-is (c .before .before .before .before .before .before .before .before .before .before .before .before .before .before .before .before .before .before .before .before .before .before .before .before .pre) (c .before .before .before .before .before .before .before .before .before .before .before .before .before .before .before .before .before .before .copy .ensures) (c .before .before .before .before .before .before .before .before .before .before .before .before .before .before .make-monic .ensures) (c .before .before .before .before .before .before .before .before .before .residue .ensures) (search needs) (search needs) (c .before .before .before .before .gcd .ensures)
 
 pub split-part-spec : {M : Type 1} → statement M
 split-part-spec =
@@ -59,9 +59,9 @@ split-part-spec =
     slice-aggregate-make-monic
     make-monic-requires
     sub-d
-    slice-reshare-prefix-reduce
-    slice-aggregate-reduce
-    slice-aggregate-reduce-2
+    slice-reshare-prefix-residue
+    slice-aggregate-residue
+    slice-aggregate-residue-2
     reduce-requires
     slice-aggregate-gcd
     slice-aggregate-gcd-2

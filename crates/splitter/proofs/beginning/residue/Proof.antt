@@ -1,12 +1,12 @@
--- `splitter::beginning::reduce` meets its contract: the power by squarings, and z added.
+-- `splitter::beginning::residue` meets its contract: the power by squarings, and z added.
 -- Assumes nothing.
 use mathlib.Core.Path.{sym}
 use native.Mathlib.Omega.{arith}
 use lib.Seq.{length-take-le}
-use Rattle.splitter.proofs.SplitPart.{reduce-asks, reduced-long, reduced-is}
+use Rattle.splitter.proofs.SplitPart.{residue-asks, residue-long, residue-is}
 use borrow.Author.Needs.{needs}
-use Rattle.splitter.proofs.beginning.reduce.Statement.{statement}
-use Rattle.splitter.proofs.beginning.reduce.Tie as tie
+use Rattle.splitter.proofs.beginning.residue.Statement.{statement}
+use Rattle.splitter.proofs.beginning.residue.Tie as tie
 
 add-d : tie.Need-add-d
 add-d c = search needs
@@ -33,7 +33,7 @@ slice-aggregate-z-power-3 : tie.Need-slice-aggregate-z-power-3
 slice-aggregate-z-power-3 c = sym (length-take-le _ _ (omega (arith, c .before .before .before .before .before .before .before .before .before .before .before .pre .few)))
 
 z-power-requires : tie.Need-z-power-requires
-z-power-requires c κs = reduce-asks (c .before .before .before .before .before .before .before .before .before .before .before .pre) (c .before .before .before .before .before .clear .ensures)
+z-power-requires c κs = residue-asks (c .before .before .before .before .before .before .before .before .before .before .before .pre) (c .before .before .before .before .before .clear .ensures)
 
 slice-read-b : tie.Need-slice-read-b
 slice-read-b c = search needs
@@ -42,13 +42,13 @@ slice-write-b : tie.Need-slice-write-b
 slice-write-b c = search needs
 
 same-length : tie.Need-same-length
-same-length c = reduced-long (c .before .before .before .before .before .before .before .before .before .before .before .before .before .before .before .before .before .pre) _ (c .before .before .before .before .before .before .before .before .before .before .before .clear .ensures) (c .before .before .before .before .before .z-power .ensures)
+same-length c = residue-long (c .before .before .before .before .before .before .before .before .before .before .before .before .before .before .before .before .before .pre) _ (c .before .before .before .before .before .before .before .before .before .before .before .clear .ensures) (c .before .before .before .before .before .z-power .ensures)
 
 returns : tie.Need-returns
-returns c = reduced-is (c .before .before .before .before .before .before .before .before .before .before .before .before .before .before .before .before .before .pre) (c .before .before .before .before .before .before .before .before .before .before .before .clear .ensures) (c .before .before .before .before .before .z-power .ensures)
+returns c = residue-is (c .before .before .before .before .before .before .before .before .before .before .before .before .before .before .before .before .before .pre) (c .before .before .before .before .before .before .before .before .before .before .before .clear .ensures) (c .before .before .before .before .before .z-power .ensures)
 
-pub reduce-spec : {M : Type 1} → statement M
-reduce-spec =
+pub residue-spec : {M : Type 1} → statement M
+residue-spec =
     tie.close
     (tie.spec
     add-d

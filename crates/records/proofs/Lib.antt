@@ -1,0 +1,12 @@
+pub mod Words
+pub mod Spelling
+pub mod Judging
+pub mod Starting
+pub mod Forward
+pub mod Cutoffs
+pub mod Coincide
+pub mod Whole
+pub mod Exactly
+pub mod Decimal
+pub mod Writing
+pub mod Example

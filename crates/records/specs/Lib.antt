@@ -1,0 +1,5 @@
+pub mod Layout
+pub mod Cutoffs
+pub mod Reading
+pub mod Files
+pub mod Lines
