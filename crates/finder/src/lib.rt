@@ -2,6 +2,7 @@
 use refusals::Refusal;
 
 pub mod searching; // every element tried
+pub mod solving; // a begun table stepped until it is done
 
 // What the whole call answers: the number of roots and of steps, or what is turned away.
 pub enum Solved {

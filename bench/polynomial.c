@@ -1,0 +1,268 @@
+/*
+ * The proved polynomial routines beside the same algorithms in plain C, in field 11 (2048 elements, z^11 + z^2 + 1).
+ *
+ * Both sides hold a monic divisor by the logs of its low coefficients, divide in place from the top, spread squares,
+ * and run Euclid's loop on two buffers that change roles. Tables: logs of 2048 elements, with twice the order at 0,
+ * and antilogs of three times the order, the last third 0, so that a product by 0 needs no branch.
+ */
+#include <stdbool.h>
+#include <stddef.h>
+#include <stdint.h>
+#include <stdio.h>
+#include <stdlib.h>
+#include <string.h>
+#include <time.h>
+
+/* The proved side: a slice is a pointer, then an element count. */
+bool bench_remainder(uint32_t times, const uint16_t *p, size_t np, const uint16_t *f, size_t nf, uint16_t *r, size_t nr);
+bool bench_squares(uint32_t times, const uint16_t *p, size_t np, const uint16_t *x, size_t nx, uint16_t *w, size_t nw);
+size_t bench_gcd(uint32_t times, const uint16_t *p, size_t np, const uint16_t *f, size_t nf, uint16_t *a, size_t na);
+
+enum { SIZE = 2048, ORDER = 2047, POLY = 2053, DEGREE = 32, LONG = 63, ROUNDS = 201 };
+
+static uint16_t logs[SIZE], antilogs[3 * ORDER];
+
+static void make_tables(void)
+{
+    unsigned x = 1;
+    for (unsigned j = 0; j < ORDER; j++) {
+        antilogs[j] = antilogs[j + ORDER] = (uint16_t)x;
+        logs[x] = (uint16_t)j;
+        x <<= 1;
+        if (x & SIZE)
+            x ^= POLY;
+    }
+    logs[0] = 2 * ORDER;
+}
+
+static void log_row(const uint16_t *p, size_t n, uint16_t *row)
+{
+    for (size_t i = 0; i < n; i++)
+        row[i] = logs[p[i]];
+}
+
+static void add_row(uint16_t t, const uint16_t *restrict row, size_t n, uint16_t *restrict r)
+{
+    if (t == 0)
+        return;
+    size_t s = logs[t];
+    for (size_t i = 0; i < n; i++)
+        r[i] ^= antilogs[s + row[i]];
+}
+
+static void divide(const uint16_t *restrict row, size_t n, uint16_t *restrict f, size_t len)
+{
+    for (size_t k = len - n; k-- > 0;)
+        add_row(f[k + n], row, n, f + k);
+}
+
+static void square_mod(const uint16_t *restrict row, size_t n, uint16_t *restrict w, uint16_t *restrict s)
+{
+    for (size_t i = 0; i < n; i++) {
+        size_t k = logs[w[i]];
+        s[2 * i] = w[i] == 0 ? 0 : antilogs[k + k];
+        s[2 * i + 1] = 0;
+    }
+    divide(row, n, s, 2 * n);
+    memcpy(w, s, n * sizeof *w);
+}
+
+/* Divides r by its leading coefficient; returns how many coefficients it has up to that one. */
+static size_t make_monic(uint16_t *r, size_t n)
+{
+    while (n > 0 && r[n - 1] == 0)
+        n--;
+    if (n == 0)
+        return 0;
+    size_t s = logs[antilogs[ORDER - logs[r[n - 1]]]];
+    for (size_t i = 0; i + 1 < n; i++)
+        r[i] = antilogs[s + logs[r[i]]];
+    return n;
+}
+
+/* One division of Euclid's: the remainder of b by monic a of degree n comes to the front of b, made monic. */
+static size_t turn(uint16_t *restrict row, uint16_t *restrict a, size_t n, uint16_t *restrict b, size_t k)
+{
+    log_row(a, n, row);
+    if (k < n)
+        memset(b + k, 0, (n - k) * sizeof *b);
+    else
+        divide(row, n, b, k);
+    a[n] = 1;
+    return make_monic(b, n);
+}
+
+static size_t gcd(uint16_t *restrict row, uint16_t *restrict a, size_t n, uint16_t *restrict b, size_t k)
+{
+    for (;;) {
+        size_t j = turn(row, a, n, b, k);
+        if (j == 0)
+            return n;
+        size_t d = j - 1;
+        size_t i = turn(row, b, d, a, n + 1);
+        if (i == 0) {
+            memcpy(a, b, d * sizeof *a);
+            return d;
+        }
+        n = i - 1;
+        k = d + 1;
+    }
+}
+
+/* The C side of each export. It knows the lengths, as the proved side does; noipa keeps the inputs unknown to both. */
+static __attribute__((noipa)) bool c_remainder(uint32_t times, const uint16_t *p, const uint16_t *f, uint16_t *r)
+{
+    uint16_t row[DEGREE], s[LONG];
+    log_row(p, DEGREE, row);
+    for (uint32_t i = 0; i < times; i++) {
+        memcpy(s, f, sizeof s);
+        divide(row, DEGREE, s, LONG);
+        memcpy(r, s, DEGREE * sizeof *r);
+    }
+    return true;
+}
+
+static __attribute__((noipa)) bool c_squares(uint32_t times, const uint16_t *p, const uint16_t *x, uint16_t *w)
+{
+    uint16_t row[DEGREE], s[2 * DEGREE];
+    log_row(p, DEGREE, row);
+    for (uint32_t i = 0; i < times; i++) {
+        memcpy(w, x, DEGREE * sizeof *w);
+        for (int j = 0; j < 10; j++)
+            square_mod(row, DEGREE, w, s);
+    }
+    return true;
+}
+
+static __attribute__((noipa)) size_t c_gcd(uint32_t times, const uint16_t *p, const uint16_t *f, uint16_t *a)
+{
+    uint16_t row[DEGREE], b[DEGREE];
+    size_t d = 0;
+    for (uint32_t i = 0; i < times; i++) {
+        memcpy(a, p, DEGREE * sizeof *a);
+        memcpy(b, f, DEGREE * sizeof *b);
+        d = gcd(row, a, DEGREE, b, DEGREE);
+    }
+    return d;
+}
+
+/* Numbers drawn by xorshift, below 2048. */
+static void draw(uint64_t *seed, uint16_t *f, size_t n)
+{
+    for (size_t i = 0; i < n; i++) {
+        *seed ^= *seed << 13;
+        *seed ^= *seed >> 7;
+        *seed ^= *seed << 17;
+        f[i] = (uint16_t)(*seed >> 20 & (SIZE - 1));
+    }
+}
+
+static double now(void)
+{
+    struct timespec t;
+    clock_gettime(CLOCK_MONOTONIC, &t);
+    return (double)t.tv_sec * 1e9 + (double)t.tv_nsec;
+}
+
+static int by_size(const void *a, const void *b)
+{
+    double x = *(const double *)a, y = *(const double *)b;
+    return (x > y) - (x < y);
+}
+
+static double median(double *t)
+{
+    qsort(t, ROUNDS, sizeof *t, by_size);
+    return t[ROUNDS / 2];
+}
+
+static uint16_t p[DEGREE], f[LONG], g[DEGREE];
+static uint16_t ours[DEGREE + 1], theirs[DEGREE + 1];
+
+static size_t ours_run(int kind, uint32_t times)
+{
+    if (kind == 0)
+        return bench_remainder(times, p, DEGREE, f, LONG, ours, DEGREE) ? DEGREE : 0;
+    if (kind == 1)
+        return bench_squares(times, p, DEGREE, g, DEGREE, ours, DEGREE) ? DEGREE : 0;
+    return bench_gcd(times, p, DEGREE, g, DEGREE, ours, DEGREE + 1);
+}
+
+static size_t theirs_run(int kind, uint32_t times)
+{
+    if (kind == 0)
+        return c_remainder(times, p, f, theirs) ? DEGREE : 0;
+    if (kind == 1)
+        return c_squares(times, p, g, theirs) ? DEGREE : 0;
+    return c_gcd(times, p, g, theirs);
+}
+
+/* Random inputs, some with zeros on top and some with a shared power of z: both sides must agree. */
+static void agree(uint64_t *seed)
+{
+    for (int n = 0; n < 3000; n++) {
+        draw(seed, p, DEGREE);
+        draw(seed, f, LONG);
+        draw(seed, g, DEGREE);
+        if (n % 3 == 1) {
+            size_t zeros = *seed % DEGREE;
+            memset(g + DEGREE - zeros, 0, zeros * sizeof *g);
+        }
+        if (n % 3 == 2) { /* a shared power of z */
+            size_t low = *seed % DEGREE;
+            memset(p, 0, low * sizeof *p);
+            memset(g, 0, low * sizeof *g);
+        }
+        for (int kind = 0; kind < 3; kind++) {
+            size_t a = ours_run(kind, 1), b = theirs_run(kind, 1);
+            if (a != b || (kind < 2 && a == 0) || memcmp(ours, theirs, a * sizeof *ours) != 0) {
+                fprintf(stderr, "polynomial: the two sides differ, routine %d, input %d\n", kind, n);
+                exit(1);
+            }
+        }
+    }
+    printf("both sides agree on 3000 random inputs of each routine\n\n");
+}
+
+/* What a call of the proved side takes before its first run: the tests, and the tables that it lends. */
+static double lending(void)
+{
+    double t[ROUNDS];
+    for (int round = 0; round < ROUNDS; round++) {
+        double start = now();
+        ours_run(0, 0);
+        t[round] = now() - start;
+    }
+    return median(t);
+}
+
+int main(void)
+{
+    static const char *names[] = {"remainder of degree 62 by 32", "ten squarings modulo degree 32", "gcd of degree 32 with 31"};
+    static const uint32_t times[] = {1000, 100, 500};
+    uint64_t seed = 88172645463325252ull;
+    make_tables();
+    agree(&seed);
+    draw(&seed, p, DEGREE);
+    draw(&seed, f, LONG);
+    draw(&seed, g, DEGREE);
+    f[LONG - 1] |= 1;
+    g[DEGREE - 1] |= 1;
+    printf("field 11, median of %d rounds          proved ns       C ns   proved / C\n", ROUNDS);
+    for (int kind = 0; kind < 3; kind++) {
+        double a[ROUNDS], b[ROUNDS];
+        for (int round = 0; round < ROUNDS; round++) {
+            double start = now();
+            ours_run(kind, times[kind]);
+            double middle = now();
+            theirs_run(kind, times[kind]);
+            a[round] = (middle - start) / times[kind];
+            b[round] = (now() - middle) / times[kind];
+        }
+        double x = median(a), y = median(b);
+        printf("%-36s %12.0f %10.0f %12.2f\n", names[kind], x, y, x / y);
+    }
+    printf("\nA round runs a routine %u, %u and %u times; on the proved side it also lends the tables once, %.0f ns.\n",
+           times[0], times[1], times[2], lending());
+    return 0;
+}

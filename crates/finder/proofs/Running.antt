@@ -1,0 +1,140 @@
+-- A begun table is stepped until it is done: what the engine's loop keeps.
+--   never-refused   no test of a step holds
+--   run-on, run-end   a step, and the end
+-- Assumes nothing.
+use mathlib.Core.Path.{_≡_, refl, sym, ap, ap₂, _∙_, subst}
+use mathlib.Core.Bool.{Bool, true, false, not, _&&_}
+use mathlib.Core.List.{List, [], _∷_}
+use Prim.Native.Nat.{ℕ, zero, suc, _+_, _≤_, _<_}
+use native.Mathlib.Decide.{decLt}
+use native.Mathlib.Omega.{arith}
+use borrow.Author.Tests.{eq-eqb}
+use lib.Dec.{eqb}
+use lib.ListN.{length, getD}
+use Rattle.refusals.specs.Order.{Given, Passed}
+use Rattle.refusals.specs.Order.Given.{here, later}
+use Rattle.refusals.specs.Order.Passed.{none, more}
+use Rattle.refusals.specs.Rows.{known}
+use Rattle.refusals.proofs.Order.{passes}
+use Rattle.groups.specs.Layout.{byFactor}
+use Rattle.groups.specs.Table.{encode, slotsFor, sound}
+use Rattle.groups.specs.Splitting.{isDone, stuck, rootsAt, slotsDone, slotsStuck, slotsStepped, slotsAfter}
+use Rattle.groups.specs.Demand.{Demand3, stepCount, groupsAfter}
+use Rattle.groups.proofs.Layouts.{byFactor-lawful}
+use Rattle.groups.proofs.Soundness.{done-encode, stuck-encode}
+use Rattle.groups.proofs.Keeping.{sound-length}
+use Rattle.groups.proofs.Demand.{demand-3, steps-to-done}
+use Rattle.polynomial.specs.Lent.{Lent}
+use Rattle.splitter.specs.Calls.{limit, slots, isSound, stepTests}
+use Rattle.finder.specs.Solving.{begunAfter, Stepping, RunOut}
+
+-- a refusal that is given does not pass
+pub given-passed : {k : ℕ} {ts : List (ℕ × Bool)} → Given k ts → Passed ts → ⊥
+given-passed (later g) (more p) = given-passed g p
+
+-- one step more on slots
+after-more : (n : ℕ) (l : List ℕ) → slotsAfter byFactor (suc n) l ≡ slotsStepped byFactor (slotsAfter byFactor n l)
+unfolding slotsAfter
+after-more zero l = refl
+after-more (suc n) l = after-more n (slotsStepped byFactor l)
+
+-- slot 3 counts the steps
+taken-at : (m c : ℕ) (f : List ℕ) (n : ℕ) → getD (begunAfter m c f n) 3 0 ≡ n
+unfolding encode
+taken-at m c f n = refl
+
+module _ {m c : ℕ} {f table : List ℕ} (s : Stepping m c f table) where
+  n : ℕ
+  n = getD table 3 0
+
+  count : ℕ
+  count = stepCount m c (rootsAt m f)
+
+  D : Demand3 m c (rootsAt m f)
+  D = demand-3 m (s .field) c (s .least) f
+
+  sound-now : isSound table ≡ true
+  unfolding n count
+  sound-now = ap isSound (s .slots-are) ∙ D .sounds byFactor-lawful limit (s .most) (s .few) n (s .taken)
+
+  pub long-now : length table ≡ slots
+  long-now = sound-length byFactor-lawful limit table sound-now
+
+  -- slot 0 is the field degree
+  pub width-now : getD table 0 0 ≡ m
+  unfolding n encode
+  width-now = ap (λ (l : List ℕ). getD l 0 0) (s .slots-are)
+
+  -- so that the tables lent are those of its field
+  pub lent-now : {ls ts : List ℕ} → Lent m ls ts → Lent (getD table 0 0) ls ts
+  lent-now {ls} {ts} l = subst (λ (w : ℕ). Lent w ls ts) (sym width-now) l
+
+  done-now : slotsDone byFactor table ≡ isDone (groupsAfter m c (rootsAt m f) n)
+  unfolding n
+  done-now = ap (slotsDone byFactor) (s .slots-are) ∙ done-encode byFactor-lawful slots (groupsAfter m c (rootsAt m f) n)
+
+  -- after fewer steps 9 is not met, and where the table is done it is not given
+  stuck-now : slotsStuck byFactor table ≡ false
+  unfolding n count
+  stuck-now = ap (slotsStuck byFactor) (s .slots-are) ∙ stuck-encode byFactor-lawful slots (groupsAfter m c (rootsAt m f) n) ∙ go (decLt n count)
+    where
+      go : Dec (n < count) → stuck (groupsAfter m c (rootsAt m f) n) ≡ false
+      go (yes h) = D .before n h .1
+      go (no h) =
+          let t = s .taken in
+          let e : n ≡ count = omega arith in
+          let d : isDone (groupsAfter m c (rootsAt m f) n) ≡ true = ap (λ (k : ℕ). isDone (groupsAfter m c (rootsAt m f) k)) e ∙ D .end in
+          rw d refl
+
+  pub never-refused : Passed (stepTests table)
+  never-refused = passes (ap not (eq-eqb (length table) slots long-now)) (passes (ap not sound-now) (passes stuck-now none))
+
+  -- a table that is not done has a step to take
+  step-left : slotsDone byFactor table ≡ false → n < count
+  unfolding n count
+  step-left h = go (decLt n count)
+    where
+      go : Dec (n < count) → n < count
+      go (yes l) = l
+      go (no l) =
+          let t = s .taken in
+          let e : n ≡ count = omega arith in
+          let z : _≡_ {A = Bool} true false = sym (ap (λ (k : ℕ). isDone (groupsAfter m c (rootsAt m f) k)) e ∙ D .end) ∙ sym done-now ∙ h in
+          let b : _≡_ {A = ℕ} 0 1 = cc in absurd (let x : ⊥ = omega arith in x)
+
+  -- a step goes to the next table
+  next-is : slotsDone byFactor table ≡ false → slotsStepped byFactor table ≡ begunAfter m c f (suc n)
+  unfolding n count
+  next-is h =
+      let l = step-left h in
+      ap (slotsStepped byFactor) (s .slots-are ∙ sym (D .slots byFactor-lawful limit (s .most) (s .few) n (s .taken)))
+      ∙ sym (after-more n (begunAfter m c f 0)) ∙ D .slots byFactor-lawful limit (s .most) (s .few) (suc n) l
+
+  pub run-on : {table′ : List ℕ} → slotsDone byFactor table ≡ false → table′ ≡ slotsStepped byFactor table → Stepping m c f table′
+  unfolding n count
+  run-on {table′} h e =
+      let to : table′ ≡ begunAfter m c f (suc n) = e ∙ next-is h in
+      let k : getD table′ 3 0 ≡ suc n = ap (λ (l : List ℕ). getD l 3 0) to ∙ taken-at m c f (suc n) in
+      let l = step-left h in
+      record {
+        field = s .field;
+        least = s .least;
+        most = s .most;
+        few = s .few;
+        taken = subst (λ (i : ℕ). i ≤ stepCount m c (rootsAt m f)) (sym k) l;
+        slots-are = to ∙ ap (begunAfter m c f) (sym k);
+      }
+
+  pub run-count : {table′ : List ℕ} → slotsDone byFactor table ≡ false → table′ ≡ slotsStepped byFactor table → getD table′ 3 0 ≡ suc (getD table 3 0)
+  unfolding n
+  run-count {table′} h e = ap (λ (l : List ℕ). getD l 3 0) (e ∙ next-is h) ∙ taken-at m c f (suc n)
+
+  pub run-left : slotsDone byFactor table ≡ false → getD table 3 0 < stepCount m c (rootsAt m f)
+  unfolding n count
+  run-left = step-left
+
+  pub run-end : slotsDone byFactor table ≡ true → RunOut m c f table
+  unfolding n count
+  run-end h =
+      let e : n ≡ count = steps-to-done m (s .field) c (s .least) f n (s .taken) (sym done-now ∙ h) in
+      record { slots-are = s .slots-are ∙ ap (begunAfter m c f) e }

@@ -1,0 +1,35 @@
+-- The whole call's engine, over lent tables.
+--   begunAfter   the slots of a begun polynomial's table after n steps, told by groups
+--   Stepping     a table that begin made of an accepted polynomial and our steps alone wrote
+--   Running      what the engine may take for granted;  RunOut  what it leaves: the table after as many steps as groups outnumber c
+-- Assumes nothing.
+use mathlib.Core.Path.{_≡_}
+use mathlib.Core.Bool.{true}
+use mathlib.Core.List.{List}
+use Prim.Native.Nat.{ℕ, _≤_}
+use lib.ListN.{length, getD}
+use Rattle.refusals.specs.Rows.{known}
+use Rattle.groups.specs.Layout.{byFactor}
+use Rattle.groups.specs.Table.{encode}
+use Rattle.groups.specs.Splitting.{rootsAt}
+use Rattle.groups.specs.Demand.{stepCount, groupsAfter}
+use Rattle.polynomial.specs.Lent.{Lent}
+use Rattle.splitter.specs.Calls.{limit, slots}
+
+abbrev pub begunAfter : ℕ → ℕ → List ℕ → ℕ → List ℕ
+begunAfter m c f n = encode byFactor slots (groupsAfter m c (rootsAt m f) n)
+
+pub record Stepping (m c : ℕ) (f table : List ℕ) : Type 0 where
+  pub field : known m ≡ true
+  pub least : 1 ≤ c
+  pub most : c ≤ 3
+  pub few : length (rootsAt m f) ≤ limit
+  pub taken : getD table 3 0 ≤ stepCount m c (rootsAt m f)
+  pub slots-are : table ≡ begunAfter m c f (getD table 3 0)
+
+pub record Running (m c : ℕ) (f ls ts table : List ℕ) : Type 0 where
+  pub tables : Lent m ls ts
+  pub stepping : Stepping m c f table
+
+pub record RunOut (m c : ℕ) (f table : List ℕ) : Type 0 where
+  pub slots-are : table ≡ begunAfter m c f (stepCount m c (rootsAt m f))
