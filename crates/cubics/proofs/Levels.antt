@@ -25,16 +25,19 @@ pub record Seeking (m : ℕ) (p g₀ g : List ℕ) (b i : ℕ) : Type 0 where
   pub power : b ≡ 2 ^ i
   pub none : (j : ℕ) → j < i → Parts m p j → ⊥
 
+-- at level 0 there is none earlier
 pub seek-from : (m : ℕ) (p g : List ℕ) → Seeking m p g g 1 0
 seek-from m p g = record { long = refl; within = omega arith; power = refl; none = λ j l. absurd (not-suc-le-zero l) }
 
 module _ {m : ℕ} {ls ts p g₀ g : List ℕ} {b i : ℕ} (a : Partable m ls ts p g₀) (s : Seeking m p g₀ g b i) where
+  -- what a turn asks
   pub seek-asks : i < m → Cubic m ls ts p g × (b < 2 ^ m)
   seek-asks h = (
     record { tables = a .cubic .tables; small = a .cubic .small; three = a .cubic .three; room = omega (arith, a .cubic .room, s .long) },
     subst (λ n. n < 2 ^ m) (sym (s .power)) (pow-lt h),
   )
 
+  -- a level that parts the cubic is found
   pub seek-found : {n k : ℕ} {g′ : List ℕ} → i < m → 0 < k → k < 3 → n ≡ k → GcdOf m p (traceOf (G m) m b) n g′ → Parted m p k g′
   seek-found {g′ = g′} h u v e d =
       record { level = i; below = pow-lt h; least = u; less = v; low = ap (λ k. take k g′) (sym e) ∙ d .low ∙ ap (λ k. gcd (G m) p (traceOf (G m) m k)) (s .power) }
@@ -45,6 +48,7 @@ module _ {m : ℕ} {ls ts p g₀ g : List ℕ} {b i : ℕ} (a : Partable m ls ts
       ap (λ k. length (gcd (G m) p (traceOf (G m) m k))) (sym (s .power)) ∙ sym (ap length (d .low))
       ∙ length-take-le n g′ (omega (arith, d .count, s .long, a .cubic .room))
 
+  -- a level that does not part it is passed
   pub seek-on : {n : ℕ} {g′ : List ℕ} → i < m → length g′ ≡ length g → GcdOf m p (traceOf (G m) m b) n g′ → n ≢ 1 → n ≢ 2 → Seeking m p g₀ g′ (b * 2) (i + 1)
   seek-on {n} {g′} h l d x y =
       let e = gcd-long l d in
@@ -58,5 +62,6 @@ module _ {m : ℕ} {ls ts p g₀ g : List ℕ} {b i : ℕ} (a : Partable m ls ts
             ⊎-elim (λ z. not-here (subst (Parts m p) z t)) (λ z. s .none j z t) (eq-or-lt-of-le u);
       }
 
+  -- some level parts it, so that the levels do not end
   pub seek-never : {n : ℕ} {g′ : List ℕ} → m ≤ i → Parted m p n g′
   seek-never h = absurd (s .none (a .level) (omega (arith, a .parts .level)) (a .parts))

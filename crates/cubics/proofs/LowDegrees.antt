@@ -48,12 +48,15 @@ poly-never m n k e u = let z : true ≡ false = sym k ∙ row-unknown m (sym e �
 
 -- ---- numbers at the front
 
+-- no number
 pub front-none : (out : List ℕ) {rs : List ℕ} → rs ≡ [] → Front rs 0 out
 front-none out e = record { count = sym (ap length e); front = sym e }
 
+-- one number
 pub front-one : (out : List ℕ) (x : ℕ) {rs : List ℕ} → 0 < length out → rs ≡ x ∷ [] → Front rs 1 (set out 0 x)
 front-one out x h e = record { count = sym (ap length e); front = take-suc-set out 0 x h ∙ sym e }
 
+-- two numbers
 pub front-two : (out : List ℕ) (x y : ℕ) {rs : List ℕ} → 1 < length out → rs ≡ x ∷ y ∷ [] → Front rs 2 (set (set out 0 x) 1 y)
 front-two out x y h e = record {
   count = sym (ap length e);
@@ -66,6 +69,7 @@ front-within {rs} {k} {o} f = omega (arith, f .count, ap length (f .front), leng
 
 -- ---- the quadratic
 
+-- what the solver asks
 pub quadratic-asks : {m poly a b : ℕ} {hs out : List ℕ} → Halvable m hs a b out → poly ≡ polyOf m
     → Listed m poly × Halves (fieldOf m poly) hs × (a < 2 ^ m) × (b < 2 ^ m)
 quadratic-asks {m} {hs = hs} h e = (
@@ -80,18 +84,22 @@ pub quadratic-list : (m a b : ℕ) {poly : ℕ} {q r : Quadratic} → poly ≡ p
     → rootsOf (G m) (2 ^ m) (b ∷ a ∷ 1 ∷ []) ≡ paperRoots r .1
 quadratic-list m a b e h s = ap (λ n. rootsOfQuadratic (fieldOf m n) a b) (sym e) ∙ sym (ap (λ u. u .1) h) ∙ ap (λ u. paperRoots u .1) s
 
+-- one root
 pub quadratic-one : {m a b : ℕ} {hs out : List ℕ} (x : ℕ) {rs : List ℕ} → Halvable m hs a b out → rs ≡ x ∷ [] → Front rs 1 (set out 0 x)
 quadratic-one {out = out} x h e = front-one out x (omega (arith, h .room)) e
 
+-- two roots
 pub quadratic-two : {m a b : ℕ} {hs out : List ℕ} (x y : ℕ) {rs : List ℕ} → Halvable m hs a b out → rs ≡ x ∷ y ∷ [] → Front rs 2 (set (set out 0 x) 1 y)
 quadratic-two {out = out} x y h e = front-two out x y (omega (arith, h .room)) e
 
 -- ---- a list of low coefficients
 
 module _ {m : ℕ} {hs p out : List ℕ} (l : Lowly m hs p out) where
+  -- the field's laws
   N : OnNumbers (G m) (2 ^ m)
   N = known-numbers (listed m (l .degree))
 
+  -- a constant has no root
   pub low-none : length p ≡ 0 → Front (rootsOf (G m) (2 ^ m) (monic (G m) p)) 0 out
   low-none e = front-none out (go p e)
     where
@@ -99,6 +107,7 @@ module _ {m : ℕ} {hs p out : List ℕ} (l : Lowly m hs p out) where
       go [] e = rootsOf-none N
       go (x ∷ p) e = absurd (omega arith)
 
+  -- z + c has the root c
   pub low-one : length p ≡ 1 → Front (rootsOf (G m) (2 ^ m) (monic (G m) p)) 1 (set out 0 (getD p 0 0))
   low-one e = front-one out (getD p 0 0) (omega (arith, l .room)) (go p (l .small) e)
     where
@@ -107,9 +116,11 @@ module _ {m : ℕ} {hs p out : List ℕ} (l : Lowly m hs p out) where
       go (x ∷ []) s e = rootsOf-one N x (s .0)
       go (x ∷ y ∷ p) s e = absurd (omega arith)
 
+  -- the degree that is left
   two : length p ≢ 0 → length p ≢ 1 → length p ≡ 2
   two a b = let h = l .low in omega arith
 
+  -- what a quadratic asks
   pub low-asks : length p ≢ 0 → length p ≢ 1 → Halvable m hs (getD p 1 0) (getD p 0 0) out
   low-asks a b = let s = go p (l .small) (two a b) in record { degree = l .degree; halves = l .halves; small-a = s .0; small-b = s .1; room = omega (arith, two a b, l .room) }
     where
@@ -118,6 +129,7 @@ module _ {m : ℕ} {hs p out : List ℕ} (l : Lowly m hs p out) where
       go (x ∷ []) s e = absurd (omega arith)
       go (x ∷ y ∷ p) s e = (s .1 .0, s .0)
 
+  -- a quadratic's roots
   pub low-two : {k : ℕ} {o : List ℕ} → length p ≢ 0 → length p ≢ 1 → Front (rootsOf (G m) (2 ^ m) (getD p 0 0 ∷ getD p 1 0 ∷ 1 ∷ [])) k o
       → Front (rootsOf (G m) (2 ^ m) (monic (G m) p)) k o
   low-two {k} {o} a b = go p (two a b)

@@ -5,6 +5,7 @@
 --   rest-long, rest-fits, rest-front, rest-count   the other part: its degree, where it stands, and its roots
 --   cofactor-asks            what the division asks
 --   pieces-out               the roots of both are those of the cubic
+--   split-asks               what the search for a level asks
 --   split-piece              the part at a level that parts it is such a part
 --   split-low, split-out     a part that splits of degree at most 2
 --   split-given              a part that splits of degree 3 is parted at some level
@@ -40,16 +41,20 @@ field-laws {m} l = squared-size (fieldAt m) (field-of l)
 -- ---- two parts
 
 module _ {m : ℕ} {ls ts hs p g out : List ℕ} (i : Pieces m ls ts hs p g out) where
+  -- the field's laws
   N : OnNumbers (G m) (2 ^ m)
   N = numbers-of (i .given .tables)
 
+  -- the part's coefficients are elements
   small-g : Below (2 ^ m) g
   small-g = subst (Below (2 ^ m)) (sym (i .is)) (gcd-below N p (i .with) (i .given .small) (i .small))
 
+  -- the part can be solved
   pub piece-low : Lowly m hs g out
   piece-low =
       record { degree = i .given .tables .degree; halves = i .given .halves; small = small-g; low = omega (arith, i .less); room = omega (arith, i .less, i .given .room) }
 
+  -- what the division asks
   pub cofactor-asks : {row f h : List ℕ} → length row ≡ length g → length f ≡ 4 → length h ≡ 3 - length g → Cofactorable m ls ts p g row f h
   cofactor-asks {row} {f} {h} r e k = record {
     tables = i .given .tables;
@@ -61,12 +66,15 @@ module _ {m : ℕ} {ls ts hs p g out : List ℕ} (i : Pieces m ls ts hs p g out)
     room-h = k ∙ ap (λ n. n - length g) (sym (i .three));
   }
 
+  -- the degree of what is left
   pub rest-long : {h : List ℕ} → h ≡ cofactor (G m) p g → length h ≡ 3 - length g
   rest-long e = ap length e ∙ length-cofactor (G m) p g ∙ ap (λ n. n - length g) (i .three)
 
+  -- it has its room
   pub rest-fits : {h : List ℕ} (t : List ℕ) → h ≡ cofactor (G m) p g → 3 - length g ≤ length (h ++ t)
   rest-fits {h} t e = omega (arith, rest-long e, length-append h t)
 
+  -- it can be solved
   pub rest-low : {h o : List ℕ} → h ≡ cofactor (G m) p g → 3 - length g ≤ length o → Lowly m hs h o
   rest-low {h} {o} e k =
       let l = rest-long e in
@@ -82,9 +90,11 @@ module _ {m : ℕ} {ls ts hs p g out : List ℕ} (i : Pieces m ls ts hs p g out)
   pub piece-room : {k : ℕ} {o : List ℕ} → Front (rootsOf (G m) (2 ^ m) (monic (G m) g)) k o → k ≤ length g
   piece-room f = omega (arith, f .count, rootsOf-count N g small-g)
 
+  -- it has few roots
   pub rest-count : {h : List ℕ} {j : ℕ} {u : List ℕ} → h ≡ cofactor (G m) p g → Front (rootsOf (G m) (2 ^ m) (monic (G m) h)) j u → j ≤ 3
   rest-count {h} e f = omega (arith, f .count, rest-long e, rootsOf-count N h (subst (Below (2 ^ m)) (sym e) (cofactor-below N p g (i .given .small) small-g)))
 
+  -- and they have room behind the first
   pub rest-room : {k : ℕ} {o : List ℕ} → Front (rootsOf (G m) (2 ^ m) (monic (G m) g)) k o → length o ≡ length out → 3 - length g ≤ length (take (length o - k) (drop k o))
   rest-room {k} {o} f e = omega (arith, piece-room f, i .less, i .given .room, length-take-le (length o - k) (drop k o) (omega (arith, length-drop k o)))
 
@@ -126,6 +136,7 @@ module _ {m : ℕ} {ls ts hs p g out : List ℕ} (i : Pieces m ls ts hs p g out)
 -- ---- a cubic that some level parts
 
 module _ {m : ℕ} {ls ts hs p out : List ℕ} (s : Split m ls ts hs p out) where
+  -- what the search for a level asks
   pub split-asks : {g : List ℕ} → 3 < length g → Partable m ls ts p g
   split-asks h = record {
     cubic = record { tables = s .given .tables; small = s .given .small; three = s .three; room = h };
@@ -133,6 +144,7 @@ module _ {m : ℕ} {ls ts hs p out : List ℕ} (s : Split m ls ts hs p out) wher
     parts = s .parts;
   }
 
+  -- the part at a level that parts it
   pub split-piece : {n : ℕ} {g : List ℕ} → 3 < length g → Parted m p n g → Pieces m ls ts hs p (take n g) out
   split-piece {n} {g} h d =
       let l : length (take n g) ≡ n = length-take-le n g (omega (arith, d .less)) in
@@ -153,9 +165,11 @@ module _ {m : ℕ} {ls ts hs p out : List ℕ} (s : Solvable m ls ts hs p out) (
     M : OnNumbers (G m) (2 ^ m)
     M = numbers-of (s .tables)
 
+    -- the coefficients are elements
     part-small : Below (2 ^ m) (take n g)
     part-small = subst (Below (2 ^ m)) (sym (d .low)) (gcd-below M p (fieldPoly (G m) m) (s .small) (fieldPoly-below M m))
 
+    -- the degree
     part-long : length (take n g) ≡ n
     part-long = length-take-le n g (omega (arith, d .count))
 
@@ -168,6 +182,7 @@ module _ {m : ℕ} {ls ts hs p out : List ℕ} (s : Solvable m ls ts hs p out) (
     split-low h =
         record { degree = s .tables .degree; halves = s .halves; small = part-small; low = omega (arith, part-long); room = omega (arith, part-long, s .room) }
 
+    -- its roots are those of the cubic
     pub split-out : {k : ℕ} {o : List ℕ} → Front (rootsOf (G m) (2 ^ m) (monic (G m) (take n g))) k o → RootsOut m p k o
     split-out f = front-out (take n g) (s .tables .degree) (s .small) part-roots f
 
@@ -175,6 +190,7 @@ module _ {m : ℕ} {ls ts hs p out : List ℕ} (s : Solvable m ls ts hs p out) (
     whole : 3 ≤ n → take 3 g ≡ take n g
     whole h = let c = d .count in let e : 3 ≡ n = omega arith in ap (λ i. take i g) e
 
+    -- then some level parts it
     pub split-given : 3 ≤ n → Split m ls ts hs (take 3 g) out
     split-given h =
         let c = d .count in

@@ -2,8 +2,8 @@
 --   begun-told, stepped-told, finished-told     two answers with one number and one list of values are one
 --   begin-coincide, step-coincide, finish-coincide   so for each call
 -- Assumes nothing.
-use mathlib.Core.Path.{_≡_, refl, sym, ap, _∙_}
-use mathlib.Core.List.{List, [], _∷_}
+use mathlib.Core.Path.{_≡_, sym, ap, _∙_}
+use mathlib.Core.List.{List}
 use mathlib.Core.Bool.{cond}
 use Prim.Native.Nat.{ℕ}
 use lib.Dec.{eqb}
@@ -21,11 +21,13 @@ use Rattle.splitter.specs.declared.Finished.the-variants.{Listed, NotFin
 begunOf : ℕ × List ℕ → Begun
 begunOf o = by-number NotBegun Ready (o .0)
 
+-- it takes the number back
 begun-back : (r : Begun) → begunOf (paperBegun r) ≡ r
 unfolding begunOf
 begun-back Ready = accepted-back NotBegun Ready
 begun-back (NotBegun k) = refused-back NotBegun Ready k
 
+-- two answers of begin with one number are one
 pub begun-told : (r s : Begun) → paperBegun r ≡ paperBegun s → r ≡ s
 begun-told r s e = sym (begun-back r) ∙ ap begunOf e ∙ begun-back s
 
@@ -33,12 +35,14 @@ begun-told r s e = sym (begun-back r) ∙ ap begunOf e ∙ begun-back s
 steppedOf : ℕ × List ℕ → Stepped
 steppedOf o = by-number NotStepped (cond (eqb (getD (o .1) 0 0) 1) Done Taken) (o .0)
 
+-- it takes number and value back
 stepped-back : (r : Stepped) → steppedOf (paperStepped r) ≡ r
 unfolding steppedOf
 stepped-back Taken = accepted-back NotStepped Taken
 stepped-back Done = accepted-back NotStepped Done
 stepped-back (NotStepped k) = refused-back NotStepped Taken k
 
+-- two answers of a step with one number and value are one
 pub stepped-told : (r s : Stepped) → paperStepped r ≡ paperStepped s → r ≡ s
 stepped-told r s e = sym (stepped-back r) ∙ ap steppedOf e ∙ stepped-back s
 
@@ -46,11 +50,13 @@ stepped-told r s e = sym (stepped-back r) ∙ ap steppedOf e ∙ stepped-back s
 finishedOf : ℕ × List ℕ → Finished
 finishedOf o = by-number NotFinished (Listed (getD (o .1) 0 0)) (o .0)
 
+-- it takes number and value back
 finished-back : (r : Finished) → finishedOf (paperFinished r) ≡ r
 unfolding finishedOf
 finished-back (Listed s) = accepted-back NotFinished (Listed s)
 finished-back (NotFinished k) = refused-back NotFinished (Listed 0) k
 
+-- two answers of finish with one number and value are one
 pub finished-told : (r s : Finished) → paperFinished r ≡ paperFinished s → r ≡ s
 finished-told r s e = sym (finished-back r) ∙ ap finishedOf e ∙ finished-back s
 
@@ -59,10 +65,12 @@ pub begin-coincide : (m c : ℕ) (cs table : List ℕ) (r s : Begun) (x y : List
     → (paperBegun s ≡ beginOutcome m c cs table) × (y ≡ beginMemory m c cs table) → (r ≡ s) × (x ≡ y)
 begin-coincide m c cs table r s x y h k = (begun-told r s (h .0 ∙ sym (k .0)), h .1 ∙ sym (k .1))
 
+-- of a step
 pub step-coincide : (table : List ℕ) (r s : Stepped) (x y : List ℕ) → (paperStepped r ≡ stepOutcome table) × (x ≡ stepMemory table)
     → (paperStepped s ≡ stepOutcome table) × (y ≡ stepMemory table) → (r ≡ s) × (x ≡ y)
 step-coincide table r s x y h k = (stepped-told r s (h .0 ∙ sym (k .0)), h .1 ∙ sym (k .1))
 
+-- of finish
 pub finish-coincide : (table list : List ℕ) (r s : Finished) (x y : List ℕ) → (paperFinished r ≡ finishOutcome table list) × (x ≡ finishMemory table list)
     → (paperFinished s ≡ finishOutcome table list) × (y ≡ finishMemory table list) → (r ≡ s) × (x ≡ y)
 finish-coincide table list r s x y h k = (finished-told r s (h .0 ∙ sym (k .0)), h .1 ∙ sym (k .1))

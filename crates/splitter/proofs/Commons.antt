@@ -7,7 +7,7 @@
 use mathlib.Core.Path.{_≡_, refl, sym, ap, ap₂, subst, _∙_}
 use mathlib.Core.Bool.{true}
 use mathlib.Core.List.{List, [], _∷_, _++_}
-use Prim.Native.Nat.{ℕ, suc, _+_, _-_, _*_, _^_, _≤_, _<_}
+use Prim.Native.Nat.{ℕ, suc, _-_, _*_, _^_, _≤_, _<_}
 use native.Mathlib.Omega.{arith}
 use borrow.Author.Tests.{lt-ltb}
 use lib.Dec.{lit<}
@@ -16,17 +16,16 @@ use lib.Seq.{take-at, length-take-le}
 use Rattle.refusals.specs.Rows.{known}
 use Rattle.refusals.proofs.Rows.{by-row, listed}
 use Rattle.algebra.specs.Field.{power}
-use Rattle.algebra.specs.Polynomial.{Below, traceOf}
+use Rattle.algebra.specs.Polynomial.{Below}
 use Rattle.algebra.specs.Routines.{rem, traceMod, gcd}
 use Rattle.algebra.proofs.Lengths.{length-rem, length-traceMod}
 use Rattle.algebra.proofs.StaysBelow.{power-below, rem-below, traceMod-below}
 use Rattle.algebra.proofs.NumberSteps.{trace-run}
 use Rattle.field.specs.Field.{order, fieldAt}
 use Rattle.field.specs.Tables.{antilogOf}
-use Rattle.field.proofs.Generator.{Generated}
 use Rattle.slots.specs.Lists.{copied}
 use Rattle.slots.proofs.Lists.{copied-front, length-copied}
-use Rattle.polynomial.specs.Lent.{G, Lent}
+use Rattle.polynomial.specs.Lent.{G}
 use Rattle.polynomial.specs.Euclid.{Turnable, GcdIs}
 use Rattle.polynomial.proofs.Logs.{field-of, numbers-of}
 use Rattle.groups.specs.Splitting.{halvingAt}
@@ -41,18 +40,22 @@ pub refilled : {n : ℕ} (x z : List ℕ) → length x ≡ n → n ≤ length z 
 refilled {n} x z e h = omega (arith, length-append x (drop n z), length-drop n z)
 
 module _ {m : ℕ} {ls ts p : List ℕ} {i : ℕ} (s : Splittable m ls ts p i) where
+  -- the level indexes the antilog table
   pub level-fits : i < length ts
   level-fits = omega (arith, s .level, s .tables .antilogs .entries, degree-less m (s .tables .degree))
 
+  -- and its entry there is a^i
   pub level-power : getD ts i 0 ≡ power (G m) 2 i
   unfolding antilogOf
   level-power =
       let h : i < 2 * order (fieldAt m) = omega (arith, s .level, degree-less m (s .tables .degree)) in
       s .tables .antilogs .entry i (omega arith) ∙ rw (lt-ltb i (2 * order (fieldAt m)) h)
 
+  -- a^i is an element
   pub power-small : power (G m) 2 i < 2 ^ m
   power-small = power-below (numbers-of (s .tables)) 2 i (field-of (s .tables) .two)
 
+  -- so is the entry
   pub level-small : getD ts i 0 < 2 ^ m
   level-small = subst (λ b. b < 2 ^ m) (sym level-power) power-small
 
@@ -60,29 +63,36 @@ module _ {m : ℕ} {ls ts p : List ℕ} {i : ℕ} (s : Splittable m ls ts p i) w
   abbrev start : List ℕ
   start = rem (G m) p (0 ∷ power (G m) 2 i ∷ [])
 
+  -- Tr(a^i z) modulo the factor
   abbrev trace : List ℕ
   trace = traceMod (G m) p m start
 
+  -- what the code sums up is that
   pub traced : {t : List ℕ} → t ≡ traceMod (G m) p m (rem (G m) p (0 ∷ getD ts i 0 ∷ [])) → t ≡ trace
   traced e = e ∙ ap (λ b. traceMod (G m) p m (rem (G m) p (0 ∷ b ∷ []))) level-power
 
+  -- it is as long as the factor
   pub traced-long : {t : List ℕ} → t ≡ trace → length t ≡ length p
   traced-long {t} e =
       let j : m ≡ suc (m - 1) = omega (arith, s .level) in
       ap length e ∙ ap (λ k. length (traceMod (G m) p k start)) j ∙ length-traceMod (G m) p (m - 1) start (length-rem (G m) p (0 ∷ power (G m) 2 i ∷ []))
 
+  -- its coefficients are elements
   trace-small : Below (2 ^ m) trace
   trace-small =
       let n = numbers-of (s .tables) in
       traceMod-below n p m start (s .small) (rem-below n p (0 ∷ power (G m) 2 i ∷ []) (s .small) (omega (arith, power-small), (power-small, tt)))
 
   module _ {t g : List ℕ} (g₀ z : List ℕ) (e : t ≡ trace) (c : g ≡ copied p g₀) (l : length p < length g₀) where
+    -- the copy of the factor
     front-g : take (length p) g ≡ p
     front-g = ap (take (length p)) c ∙ copied-front p g₀ refl
 
+    -- the trace sum at the front of its room
     front-t : take (length p) (t ++ z) ≡ trace
     front-t = take-at t z (length p) (traced-long e) ∙ e
 
+    -- what Euclid's loop may take for granted
     pub gcd-asks : {row : List ℕ} → length p ≤ length row → Turnable m ls ts row g (length p) (t ++ z) (length p)
     gcd-asks r = record {
       tables = s .tables;
@@ -94,6 +104,7 @@ module _ {m : ℕ} {ls ts p : List ℕ} {i : ℕ} (s : Splittable m ls ts p i) w
       small-b = subst (Below (2 ^ m)) (sym front-t) trace-small;
     }
 
+    -- what it leaves is the first part
     pub common-is : {r : ℕ} {g′ : List ℕ} → GcdIs m g (length p) (t ++ z) (length p) r g′ → length p < length g′ → IsCommon m i p r g′
     common-is {r} {g′} q h =
         let low : take r g′ ≡ halvingAt m .low i p =

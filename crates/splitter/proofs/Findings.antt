@@ -6,7 +6,7 @@
 -- Assumes nothing.
 use mathlib.Core.Path.{_≡_, refl, sym, ap, ap₂, _∙_}
 use mathlib.Core.Logic.{_≢_}
-use mathlib.Core.Bool.{Bool, true, false, not, cond, _&&_, _||_}
+use mathlib.Core.Bool.{Bool, true, false, not, cond, _&&_}
 use mathlib.Core.List.{List, [], _∷_, _++_, append-assoc}
 use Prim.Native.Nat.{ℕ, suc, _+_, _*_, _/_, _≤_, _<_}
 use native.Mathlib.Omega.{arith}
@@ -42,24 +42,29 @@ use Rattle.splitter.specs.declared.judging.Verdict.the-variants.{Refused
 
 -- a factor above c is the place, and another is passed
 module _ (c : ℕ) (s : List ℕ) (n at : ℕ) (h : at + 1 < length s) {d : ℕ} (e : getD s (at + 1) 0 ≡ d) where
+  -- the place is here
   seek-here : ltb c d ≡ true → seek c s (suc n) at ≡ At at
   unfolding seek
   seek-here t = rw (lt-leb (length s) (at + 1) h, e, t)
 
+  -- the place is further on
   seek-past : ltb c d ≡ false → seek c s (suc n) at ≡ seek c s n (at + (d + 2))
   unfolding seek
   seek-past t = rw (lt-leb (length s) (at + 1) h, e, t)
 
 -- slots behind `pre`: those of a factor, then the rest
 module _ (e : Factor) (fs : List Factor) (pre z : List ℕ) where
+  -- its slots join those before
   again : pre ++ (blocks (e ∷ fs) ++ z) ≡ (pre ++ slotsOf e) ++ (blocks fs ++ z)
   unfolding blocks
   again = simp append-assoc
 
+  -- its degree is a slot of the list
   long : length pre + 1 < length (pre ++ (blocks (e ∷ fs) ++ z))
   unfolding blocks
   long = simp length-append (omega arith)
 
+  -- and stands there
   degree : getD (pre ++ (blocks (e ∷ fs) ++ z)) (length pre + 1) 0 ≡ length (e .1)
   unfolding blocks
   degree = getD-append-add pre (blocks (e ∷ fs) ++ z) 1 0
@@ -102,6 +107,7 @@ module _ (l : List ℕ) where
   pub judge-short : length l ≢ slots → Judged l (Refused Room)
   judge-short n = refused {k = Room} (holds (ap not (ne-eqb (length l) slots n)))
 
+  -- test 7 fails
   long-enough : length l ≡ slots → not (eqb (length l) slots) ≡ false
   long-enough h = ap not (eq-eqb (length l) slots h)
 
@@ -114,6 +120,7 @@ module _ (l : List ℕ) where
       go true k q = (k, cc)
       go false k q = let x : _≡_ {A = ℕ} 0 1 = cc in absurd (omega arith)
 
+  -- none is answered for other tables
   unsound-of : sums.Unsound ≡ summed l → isSound l ≡ false
   unfolding summed
   unsound-of e = go (isSound l) e
@@ -127,18 +134,23 @@ module _ (l : List ℕ) where
   judge-unsound h e u = refused {k = Unsound} (fails (long-enough h) (holds (ap not (unsound-of (sym u ∙ e)))))
 
   module _ (h : length l ≡ slots) {r : Sum} (e : r ≡ summed l) {sum : ℕ} (o : r ≡ Of sum) where
+    -- the table is sound
     is-sound : isSound l ≡ true
     is-sound = sound-of (sym o ∙ e) .0
 
+    -- what it holds is valid
     valid : Valid known limit t
     valid = sound-valid byFactor-lawful known limit l is-sound
 
+    -- and the slots are its encoding
     encoded : encode byFactor slots t ≡ l
     encoded = sound-encoded byFactor-lawful known limit l is-sound
 
+    -- the sum is that of its degrees
     sum-is : sum ≡ degreeSum (t .factors)
     sum-is = sound-of (sym o ∙ e) .1
 
+    -- it is at most the limit
     pub sum-small : sum ≤ limit
     sum-small = omega (arith, sum-is, valid .sum)
 
@@ -147,10 +159,12 @@ module _ (l : List ℕ) where
     unfolding decode
     cutoff-is = refl
 
+    -- the limit of slot 3, in the slots' own words
     limit-is : getD l 0 0 * (sum / suc (getD l 1 0)) ≡ limitOf t
     unfolding decode
     limit-is = ap (λ s. getD l 0 0 * (s / suc (getD l 1 0))) sum-is
 
+    -- what `find` answers
     sought : {f : Place} → f ≡ seek (getD l 1 0) l (getD l 2 0) 4 → f ≡ cond (isDone t) Nowhere (At (place t))
     unfolding encode
     sought f =
@@ -180,6 +194,7 @@ module _ (l : List ℕ) where
       within : at < length l
 
     module _ {f : Place} (s : f ≡ seek (getD l 1 0) l (getD l 2 0) 4) {at : ℕ} (a : f ≡ At at) where
+      -- what an answer of `find` tells
       spot : Spot at
       spot = go (isDone t) refl (sym a ∙ sought s)
         where
@@ -195,6 +210,7 @@ module _ (l : List ℕ) where
                 within = omega (arith, ap length (sym encoded ∙ around), length-append (leading t) (slotsOf (firstFactor t) ++ (blocks (beyond t) ++ replicate (spare slots t) 0)));
               }
 
+      -- the place is one of the slots
       pub place-within : at < length l
       place-within = spot .within
 
@@ -203,15 +219,18 @@ module _ (l : List ℕ) where
       unfolding slotsStuck
       nine b q = q
 
+      -- refusal 9 is given
       stuck-by : stuck t ≡ true → Judged l (Refused Stuck)
       stuck-by q = refused {k = Stuck} (fails (long-enough h) (fails (ap not is-sound) (holds (nine true q))))
 
+      -- its level is m
       pub judge-level : getD l 0 0 ≤ getD l at 0 → Judged l (Refused Stuck)
       unfolding decode
       judge-level m =
           let k : t .width ≤ firstFactor t .0 = omega (arith, spot .level) in
           stuck-by (stuck-order valid ∙ rw (spot .more, le-leb (t .width) (firstFactor t .0) k))
 
+      -- slot 3 is at its limit
       pub judge-steps : getD l at 0 < getD l 0 0 → getD l 0 0 * (sum / suc (getD l 1 0)) ≤ getD l 3 0 → Judged l (Refused Stuck)
       unfolding decode
       judge-steps m n =
@@ -219,6 +238,7 @@ module _ (l : List ℕ) where
           let j : limitOf t ≤ t .taken = omega (arith, limit-is) in
           stuck-by (stuck-order valid ∙ rw (spot .more, lt-leb (t .width) (firstFactor t .0) k, le-leb (limitOf t) (t .taken) j))
 
+      -- neither: it is split
       pub judge-split : getD l at 0 < getD l 0 0 → getD l 3 0 < getD l 0 0 * (sum / suc (getD l 1 0)) → Judged l (Split at)
       unfolding decode slotsDone
       judge-split m n =

@@ -7,7 +7,6 @@ pub mod Laying
 pub mod Writing
 -- the passes over the slots
 pub mod Passes
-pub mod Tallies
 pub mod Summing
 pub mod Findings
 -- the step

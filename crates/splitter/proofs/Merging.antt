@@ -1,9 +1,11 @@
 -- The walk over the factors of a done table, whose roots are merged into one list.
---   solvable, merge-asks, merge-is    one factor: its roots are found and merged
+--   solvable, roots-long, merge-asks, merge-is   one factor: its roots are found and merged
 --   table-long, table-known           a sound table has its slots, and its field is known
 --   lent-on                           the fronts that are lent on are the tables of the field
+--   Zero                              some factor is 0 at an element
 --   Finishing                         what holds at each turn: what lies ahead, and what has been merged
 --   finish-from, finish-on, finish-end  the start, a turn, the end
+--   Here, here                        the factor in front, and the others
 --   front-within, front-degree, front-is, part-is, turn-asks   the factor in front, and what a turn asks
 -- Assumes nothing.
 use mathlib.Core.Path.{_≡_, refl, sym, ap, ap₂, _∙_, subst}
@@ -41,16 +43,20 @@ use Rattle.splitter.proofs.Lending.{lent-is}
 -- ---- one factor
 
 module _ {m : ℕ} {ls ts hs p roots : List ℕ} {n : ℕ} (g : Mergeable m ls ts hs p roots n) where
+  -- what the solver asks
   pub solvable : (out : List ℕ) → length out ≡ 3 → Solvable m ls ts hs p out
   solvable out e = record { tables = g .tables; halves = g .halves; small = g .small; low = g .low; room = omega arith }
 
   module _ {k : ℕ} {out : List ℕ} (e : length out ≡ 3) (o : RootsOut m p k out) where
+    -- as many as it says
     pub roots-long : length (take k out) ≡ k
     roots-long = length-take-le k out (omega (arith, o .count, g .low))
 
+    -- what the merge asks
     pub merge-asks : n + length (take k out) ≤ length roots
     merge-asks = omega (arith, roots-long, o .count, g .room)
 
+    -- what it leaves
     pub merge-is : {j : ℕ} {roots′ : List ℕ} → Merged n (take k out) roots j roots′ → RootsIn m p n roots j roots′
     merge-is h = record { roots = take k out; few = omega (arith, roots-long, o .count); members = o .members; merged = h }
 
@@ -58,9 +64,11 @@ module _ {m : ℕ} {ls ts hs p roots : List ℕ} {n : ℕ} (g : Mergeable m ls t
 
 -- slots behind `pre`: those of a factor, then the rest
 module _ (e : Factor) (fs : List Factor) (pre z : List ℕ) where
+  -- all of them
   abbrev slotsAhead : List ℕ
   slotsAhead = pre ++ (blocks (e ∷ fs) ++ z)
 
+  -- the factor is there, whole
   ahead-long : length pre + 2 + length (e .1) ≤ length slotsAhead
   unfolding blocks
   ahead-long = omega (
@@ -70,24 +78,29 @@ module _ (e : Factor) (fs : List Factor) (pre z : List ℕ) where
     length-append (e .1) (blocks fs),
   )
 
+  -- its degree
   ahead-degree : getD slotsAhead (length pre + 1) 0 ≡ length (e .1)
   unfolding blocks
   ahead-degree = getD-append-add pre (blocks (e ∷ fs) ++ z) 1 0
 
+  -- its coefficients
   ahead-coefficients : take (length (e .1)) (drop (length pre + 2) slotsAhead) ≡ e .1
   unfolding blocks
   ahead-coefficients =
       ap (take (length (e .1))) (drop-append-add pre (blocks (e ∷ fs) ++ z) 2 ∙ append-assoc (e .1) (blocks fs) z) ∙ take-append-seam (e .1) (blocks fs ++ z)
 
+  -- it goes over to what is before
   ahead-again : slotsAhead ≡ (pre ++ (e .0 ∷ length (e .1) ∷ e .1)) ++ (blocks fs ++ z)
   unfolding blocks
   ahead-again = simp append-assoc
 
+  -- where the next stands
   ahead-next : length (pre ++ (e .0 ∷ length (e .1) ∷ e .1)) ≡ length pre + 2 + length (e .1)
   ahead-next = length-append pre (e .0 ∷ length (e .1) ∷ e .1) ∙ omega arith
 
 -- ---- the loop
 
+-- one of two tests
 either : (a b : Bool) → T (a || b) ↔ (T a ⊎ T b)
 either true b = (λ t. inl tt, λ o. tt)
 either false b = (λ t. inr t, λ o. ⊎-elim (λ t. absurd t) (λ t. t) o)
@@ -130,9 +143,11 @@ zero-none m x z = z .1
 
 -- a sound table has its slots, and its field is known
 module _ {l list : List ℕ} (g : Lendable l list) where
+  -- its slots
   pub table-long : length l ≡ slots
   table-long = sound-rules byFactor known limit l .0 (g .sound) .size
 
+  -- its field
   pub table-known : known (getD l 0 0) ≡ true
   table-known = sound-rules byFactor known limit l .0 (g .sound) .field
 
@@ -151,6 +166,7 @@ module _ {ls ts hs l list : List ℕ} (g : Listable ls ts hs l list) where
   abbrev t : Table
   t = decode byFactor l
 
+  -- the table keeps the rules
   valid : Valid known limit t
   valid = sound-valid byFactor-lawful known limit l (g .given .sound)
 
@@ -159,14 +175,17 @@ module _ {ls ts hs l list : List ℕ} (g : Listable ls ts hs l list) where
   unfolding encode
   apart = sym (sound-encoded byFactor-lawful known limit l (g .given .sound))
 
+  -- the cutoff is at most 3
   cutoff-small : getD l 1 0 ≤ 3
   unfolding decode
   cutoff-small = valid .cutoff-most
 
+  -- each factor keeps the rules
   all-fair : All (Fair (getD l 0 0)) (t .factors)
   unfolding decode
   all-fair = valid .factors
 
+  -- none is above the cutoff
   all-low : done (getD l 1 0) (t .factors) ≡ true
   unfolding decode slotsDone
   all-low = g .given .done
@@ -193,6 +212,7 @@ module _ {ls ts hs l list : List ℕ} (g : Listable ls ts hs l list) where
   -- ---- a turn
 
   module _ {list′ : List ℕ} {left at k : ℕ} (f : Finishing (getD l 0 0) (getD l 1 0) (t .factors) l list list′ left at k) where
+    -- no more are listed than were merged
     k-few : k ≤ length (f .seen)
     k-few = omega (arith, merged-count (f .merged) (omega arith))
 
@@ -203,6 +223,7 @@ module _ {ls ts hs l list : List ℕ} (g : Listable ls ts hs l list) where
         pub others : List Factor
         pub split : f .ahead ≡ first ∷ others
 
+      -- there is one
       pub here : Here
       here = go (f .ahead) refl
         where
@@ -214,18 +235,23 @@ module _ {ls ts hs l list : List ℕ} (g : Listable ls ts hs l list) where
       abbrev pub p : List ℕ
       p = here .first .1
 
+      -- where it stands
       spread : l ≡ slotsAhead (here .first) (here .others) (f .pre) (f .behind)
       spread = f .slots ∙ ap (λ u. f .pre ++ (blocks u ++ f .behind)) (here .split)
 
+      -- those ahead keep the rules
       all-ahead : All (Fair (getD l 0 0)) (here .first ∷ here .others)
       all-ahead = subst (All (Fair (getD l 0 0))) (here .split) (f .fair)
 
+      -- it is there, whole
       pub front-within : at + 2 + length p ≤ length l
       front-within = omega (arith, f .place, ap length spread, ahead-long (here .first) (here .others) (f .pre) (f .behind))
 
+      -- its degree stands before it
       pub front-degree : getD l (at + 1) 0 ≡ length p
       front-degree = ap₂ (λ u j. getD u (j + 1) 0) spread (f .place) ∙ ahead-degree (here .first) (here .others) (f .pre) (f .behind)
 
+      -- its coefficients stand there
       pub front-is : take (getD l (at + 1) 0) (drop (at + 2) l) ≡ p
       front-is =
           ap (λ n. take n (drop (at + 2) l)) front-degree ∙ ap₂ (λ u j. take (length p) (drop (j + 2) u)) spread (f .place)
@@ -235,10 +261,12 @@ module _ {ls ts hs l list : List ℕ} (g : Listable ls ts hs l list) where
       pub part-is : take (at + 2 + getD l (at + 1) 0 - (at + 2)) (drop (at + 2) l) ≡ p
       part-is = let e : at + 2 + getD l (at + 1) 0 - (at + 2) ≡ getD l (at + 1) 0 = omega arith in ap (λ n. take n (drop (at + 2) l)) e ∙ front-is
 
+      -- it is not above the cutoff, nor are the others
       both : (not (above (getD l 1 0) (here .first)) ≡ true) × (done (getD l 1 0) (here .others) ≡ true)
       unfolding done
       both = and-eq-true-iff _ _ .0 (subst (λ u. done (getD l 1 0) u ≡ true) (here .split) (f .low))
 
+      -- so its degree is at most 3
       degree-low : length p ≤ 3
       degree-low = omega (arith, ltb-false (getD l 1 0) (length (here .first .1)) (unflip (above (getD l 1 0) (here .first)) (both .0)), cutoff-small)
         where
@@ -246,10 +274,12 @@ module _ {ls ts hs l list : List ℕ} (g : Listable ls ts hs l list) where
           unflip true e = sym e
           unflip false e = refl
 
+      -- the sum of degrees, without it
       sum-split : degreeSum (f .ahead) ≡ length p + degreeSum (here .others)
       unfolding degreeSum
       sum-split = ap degreeSum (here .split)
 
+      -- what a turn asks
       pub turn-asks : {q : List ℕ} → q ≡ p → Mergeable (getD l 0 0) ls ts hs q list′ k
       turn-asks {q} e =
           let d = degree-low in
@@ -262,6 +292,7 @@ module _ {ls ts hs l list : List ℕ} (g : Listable ls ts hs l list) where
             room = omega (arith, ap length e, k-few, f .few, f .room, f .long);
           }
 
+      -- a turn: its roots are merged
       pub finish-on : {q : List ℕ} {j next : ℕ} {list″ : List ℕ} → q ≡ p → RootsIn (getD l 0 0) q k list′ j list″ → length list″ ≡ length list′
           → next ≡ at + 2 + getD l (at + 1) 0 → Finishing (getD l 0 0) (getD l 1 0) (t .factors) l list list″ (left - 1) next j
       finish-on {q} {j} {next} {list″} e r h n =

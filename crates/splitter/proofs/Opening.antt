@@ -34,19 +34,23 @@ use Rattle.splitter.specs.declared.Finished.the-variants.{Listed, NotFin
 
 -- ---- the first test, or a later one
 
+-- a refusal is that of the first test, or of a later one
 given-cases : {k j : ℕ} {b : Bool} {ts : List (ℕ × Bool)} → Given k ((j, b) ∷ ts) → ((k ≡ j) × (b ≡ true)) ⊎ ((b ≡ false) × Given k ts)
 given-cases here = inl (refl, refl)
 given-cases (later g) = inr (refl, g)
 
+-- there is a test
 Some : List (ℕ × Bool) → Type 0
 Some [] = ⊥
 Some (t ∷ ts) = Unit {0}
 
+-- a refusal is that of some test
 given-some : {k : ℕ} {ts : List (ℕ × Bool)} → Given k ts → Some ts
 unfolding Some
 given-some here = tt
 given-some (later g) = tt
 
+-- so none is given without one
 given-none : {k : ℕ} → Given k [] → ⊥
 unfolding Some
 given-none g = given-some g
@@ -63,6 +67,7 @@ module _ (l list : List ℕ) where
       go false e = e
 
   module _ (h : limit ≤ length list) where
+    -- the list has room
     roomy : ltb (length list) limit ≡ false
     roomy = le-ltb (length list) limit h
 
@@ -117,9 +122,11 @@ module _ (l list : List ℕ) where
 -- ---- from there to what finish promises
 
 module _ {l list : List ℕ} where
+  -- a refusal writes nothing
   pub closed-is : {k : Refusal} → Opens l list (Closed k) → (paperFinished (NotFinished k) ≡ finishOutcome l list) × (list ≡ finishMemory l list)
   closed-is (closed g) = (sym (order.refused _ g), sym (order.unwritten _ _ g))
 
+  -- what the tests tell of the table and the list
   pub opened-asks : Opens l list Open → Lendable l list
   opened-asks (opened p) = record {
     sound = unflip (isSound l) (failed (others p));
@@ -135,6 +142,7 @@ module _ {l list : List ℕ} where
       right true e = absurd (true≢false e)
       right false e = e
 
+  -- the list is made
   pub opened-is : {k : ℕ} {list′ : List ℕ} → Opens l list Open → ListedIn l list k list′
       → (paperFinished (Listed k) ≡ finishOutcome l list) × (list′ ≡ finishMemory l list)
   opened-is (opened p) h = (ap (λ n. (0, n ∷ [])) (h .count) ∙ sym (order.accepted _ p), h .slots ∙ sym (order.written _ _ p))

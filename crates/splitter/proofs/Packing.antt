@@ -7,7 +7,7 @@
 use mathlib.Core.Path.{_≡_, refl, sym, ap, ap₂, subst, _∙_}
 use mathlib.Core.Logic.{_≢_}
 use mathlib.Core.List.{List, [], _∷_, _++_, append-nil}
-use Prim.Native.Nat.{ℕ, zero, suc, _+_, _-_, _^_, _≤_, _<_}
+use Prim.Native.Nat.{ℕ, zero, suc, _+_, _-_, _^_, _≤_}
 use native.Mathlib.Nat.{not-suc-le-zero, le-of-suc-le-suc, add-zero}
 use native.Mathlib.Numerals.{add-one, add-two}
 use native.Mathlib.Omega.{arith}
@@ -25,11 +25,11 @@ use Rattle.groups.specs.Splitting.{halvingAt}
 use Rattle.groups.proofs.Layouts.{blocks-append}
 use Rattle.groups.proofs.Fields.{known-field}
 use Rattle.groups.proofs.Keeping.{Halves, trace-halves}
-use Rattle.splitter.specs.Calls.{limit}
 use Rattle.splitter.specs.Parting.{Splittable, Restable, IsCommon, Appended, Parted}
 
 -- ---- one part
 
+-- a constant part leaves everything as it was
 pub append-none : (at level : ℕ) (low w : List ℕ) → length low ≡ 0 → Appended at level low w at w
 unfolding unlessEmpty blocks pasted
 append-none at level [] w h = record { slots = sym (ap (λ n. take at w ++ drop n w) (add-zero at) ∙ take-append-drop at w); place = omega arith }
@@ -48,6 +48,7 @@ unfolding unlessEmpty blocks
 solid-slots level [] n = absurd (n refl)
 solid-slots level (x ∷ low) n = ap (λ l. level ∷ suc (length low) ∷ x ∷ l) (append-nil low)
 
+-- any other is written with its level and degree
 pub append-some : (at level : ℕ) (low w : List ℕ) {w₁ : List ℕ} → length low ≢ 0 → at + (length low + 2) ≤ length w → w₁ ≡ pasted (at + 2) low w
     → Appended at level low w (at + 2 + length low) (set (set w₁ at level) (at + 1) (length low))
 unfolding pasted
@@ -62,6 +63,7 @@ append-some at level low w {w₁} n h e =
       place = omega (arith, ap length f);
     }
 
+-- two slots more than coefficients, or none
 some-slots : (i : ℕ) (low : List ℕ) → length (blocks (unlessEmpty i low)) ≤ length low + 2
 unfolding unlessEmpty blocks
 some-slots i [] = omega arith
@@ -70,12 +72,15 @@ some-slots i (x ∷ low) = omega (arith, length-append low [])
 -- ---- both parts
 
 module _ {m : ℕ} {ls ts p : List ℕ} {i : ℕ} (s : Splittable m ls ts p i) {k : ℕ} {g : List ℕ} (c : IsCommon m i p k g) where
+  -- the two parts have, together, the factor's degree
   halves : Halves (halvingAt m) m i p
   halves = trace-halves (known-field m (s .tables .degree)) i p (s .small)
 
+  -- the first has at most that
   pub degree-within : k ≤ length p
   degree-within = omega (arith, c .degree, halves .sum)
 
+  -- what `rest_of` may take for granted
   pub rest-asks : {h : List ℕ} → length h ≡ length p - k → Restable m ls ts p (take k g) h
   rest-asks e = record {
     tables = s .tables;
@@ -86,22 +91,28 @@ module _ {m : ℕ} {ls ts p : List ℕ} {i : ℕ} (s : Splittable m ls ts p i) {
     room = omega (arith, ap length (c .low), c .degree);
   }
 
+  -- the first part has as many coefficients as its degree
   pub first-long : length (take k g) ≡ k
   first-long = ap length (c .low) ∙ sym (c .degree)
 
+  -- and takes at most two slots more
   pub first-room : {at level : ℕ} {w w₁ : List ℕ} → Appended 0 level (take k g) w at w₁ → at ≤ k + 2
   first-room {level = level} r = omega (arith, r .place, some-slots level (take k g), first-long)
 
   module _ {h : List ℕ} (z : List ℕ) (e : h ≡ cofactor (G m) p (take k g)) where
+    -- as many coefficients are left
     left-long : length h ≡ length p - k
     left-long = ap length e ∙ length-cofactor (G m) p (take k g) ∙ ap (λ n. length p - n) first-long
 
+    -- they are within the list
     pub rest-fits : length p - k ≤ length (h ++ z)
     rest-fits = omega (arith, left-long, length-append h z)
 
+    -- they are its front
     pub rest-front : take (length p - k) (h ++ z) ≡ cofactor (G m) p (take k g)
     rest-front = take-at h z (length p - k) left-long ∙ e
 
+    -- the front has as many
     pub rest-long : length (take (length p - k) (h ++ z)) ≡ length p - k
     rest-long = length-take-le (length p - k) (h ++ z) rest-fits
 
@@ -109,6 +120,7 @@ module _ {m : ℕ} {ls ts p : List ℕ} {i : ℕ} (s : Splittable m ls ts p i) {
   second-is : {h : List ℕ} → h ≡ cofactor (G m) p (take k g) → h ≡ halvingAt m .high i p
   second-is e = e ∙ ap (cofactor (G m) p) (c .low)
 
+  -- both stand one behind the other
   pub parted : {at r : ℕ} {h w w₁ w₂ : List ℕ} → h ≡ cofactor (G m) p (take k g) → at ≤ length w₁ → Appended 0 (i + 1) (take k g) w at w₁ → Appended at (i + 1) h w₁ r w₂ → Parted m i p r w₂
   unfolding parts
   parted {at} {r} {h} {w} {w₁} {w₂} e n x y =

@@ -1,21 +1,23 @@
 -- The loops that pass over slots: the answer for all of them is the answer for what lies ahead.
 --   rest               `&s[at..]` is what lies ahead
---   Front, front-tells   what an answer of `front` other than 0 tells
---   Walking, Taken, walk-from, walk-taken, walk-on, walk-stop, walk-end   the loop that adds up the degrees
+--   front-constant, front-short, Front, front-tells, front-fails          the factor at the front
+--   Walking, Taken, walk-from, walk-room, walk-taken, walk-on, walk-stop, walk-end   the loop that adds up the degrees
 --   Seeking, seek-from, seek-cut, seek-hit, seek-on, seek-end             the loop that looks for a degree above c
 -- Assumes nothing.
-use mathlib.Core.Path.{_≡_, refl, sym, ap, _∙_}
+use mathlib.Core.Path.{_≡_, refl, sym, ap, ap₂, _∙_}
 use mathlib.Core.Logic.{_≢_}
 use mathlib.Core.Bool.{Bool, true, false, cond, _&&_, and-eq-true-iff}
-use mathlib.Core.List.{List}
-use Prim.Native.Nat.{ℕ, suc, _+_, _-_, _≤_, _<_}
+use mathlib.Core.List.{List, [], _∷_}
+use Prim.Native.Nat.{ℕ, suc, _+_, _-_, _*_, _^_, _≤_, _<_}
+use native.Mathlib.Nat.{sub-zero}
 use native.Mathlib.Omega.{arith}
-use borrow.Author.Tests.{leb-true, le-leb, lt-leb, lt-ltb, le-ltb, eq-eqb, ne-eqb}
+use borrow.Author.Tests.{leb-true, le-leb, lt-leb, lt-ltb, le-ltb}
 use lib.Dec.{leb}
 use lib.ListN.{length, getD, take, drop, length-drop}
 use lib.Seq.{drop-drop, take-all}
 use Rattle.slots.specs.Bounded.{allBelow, allZero}
-use Rattle.splitter.specs.Walk.{frontFits, front, tally, seek}
+use Rattle.groups.specs.Layout.{statedSum, behind, readBlocks, fairFront, fairBlocks}
+use Rattle.splitter.specs.Walk.{front, tally, seek}
 use Rattle.splitter.specs.declared.judging.Sum.the-variants.{Of, Unsound}
 use Rattle.splitter.specs.declared.judging.Place.the-variants.{At, Nowhere}
 
@@ -25,102 +27,147 @@ rest s at = take-all (length s - at) (drop at s) (omega (arith, length-drop at s
 
 -- ---- the factor at the front
 
+-- a test of two parts
 both : (a b : Bool) → (a && b) ≡ true → (a ≡ true) × (b ≡ true)
 both a b = and-eq-true-iff a b .0
 
-pub record Front (m size room : ℕ) (s : List ℕ) : Type 0 where
-  pub two : 2 ≤ length s
-  pub level : getD s 0 0 ≤ m
-  pub degree : 1 ≤ getD s 1 0
-  pub roomy : getD s 1 0 ≤ room
-  pub whole : getD s 1 0 ≤ length s - 2
-  pub coefficients : allBelow size (take (getD s 1 0) (drop 2 s)) ≡ true
-  pub slots : front m size room s ≡ getD s 1 0 + 2
-
-pub front-tells : {m size room : ℕ} {s : List ℕ} → front m size room s ≢ 0 → Front m size room s
-unfolding front frontFits
-front-tells {m} {size} {room} {s} n = go (frontFits m size room s) refl
+-- no factor has a degree of 0, and so none stands in fewer than two slots
+pub front-constant : (m room : ℕ) (s : List ℕ) → getD s 1 0 < 1 → 0 ≡ front m room s
+unfolding front
+front-constant m room s h = sym (ap (λ b. cond b (getD s 1 0 + 2) 0) (go (leb (getD s 0 0) m) (lt-leb 1 (getD s 1 0) h)))
   where
-    go : (b : Bool) → frontFits m size room s ≡ b → Front m size room s
+    go : (a : Bool) → leb 1 (getD s 1 0) ≡ false → (a && leb 1 (getD s 1 0) && leb (getD s 1 0) room && allBelow (2 ^ m) (take (getD s 1 0) (drop 2 s))) ≡ false
+    go true e = rw e
+    go false e = refl
+
+-- nor in a list of one slot
+pub front-short : (m room : ℕ) (s : List ℕ) → length s < 2 → 0 ≡ front m room s
+front-short m room [] h = front-constant m room [] (omega arith)
+front-short m room (x ∷ []) h = front-constant m room (x ∷ []) (omega arith)
+front-short m room (x ∷ y ∷ s) h = absurd (omega arith)
+
+-- what is known of a factor within the rules
+pub record Front (m room : ℕ) (s : List ℕ) : Type 0 where
+  pub fair : fairFront m room s ≡ true
+  pub least : 1 ≤ getD s 1 0
+  pub most : getD s 1 0 ≤ room
+  pub slots : front m room s ≡ getD s 1 0 + 2
+
+-- an answer other than 0 tells that
+pub front-tells : {m room : ℕ} {s : List ℕ} → front m room s ≢ 0 → Front m room s
+unfolding front
+front-tells {m} {room} {s} n = go (fairFront m room s) refl
+  where
+    go : (b : Bool) → fairFront m room s ≡ b → Front m room s
     go false e = absurd (n (rw e))
     go true e =
-        let p₅ = both _ _ e in
-        let p₄ = both _ _ (p₅ .0) in
-        let p₃ = both _ _ (p₄ .0) in
-        let p₂ = both _ _ (p₃ .0) in
-        let p₁ = both _ _ (p₂ .0) in
-        record {
-          two = leb-true _ _ (p₁ .0);
-          level = leb-true _ _ (p₁ .1);
-          degree = leb-true _ _ (p₂ .1);
-          roomy = leb-true _ _ (p₃ .1);
-          whole = leb-true _ _ (p₄ .1);
-          coefficients = p₅ .1;
-          slots = rw e;
-        }
+        let d : ℕ = getD s 1 0 in
+        let p = both (leb (getD s 0 0) m && leb 1 d && leb d room) (allBelow (2 ^ m) (take d (drop 2 s))) e in
+        let q = both (leb (getD s 0 0) m && leb 1 d) (leb d room) (p .0) in
+        record { fair = e; least = leb-true 1 d (both (leb (getD s 0 0) m) (leb 1 d) (q .0) .1); most = leb-true d room (q .1); slots = rw e }
+
+-- 0 tells that some rule is broken
+pub front-fails : (m room : ℕ) (s : List ℕ) → front m room s ≡ 0 → fairFront m room s ≡ false
+unfolding front
+front-fails m room s n = go (fairFront m room s) n
+  where
+    go : (b : Bool) → cond b (getD s 1 0 + 2) 0 ≡ 0 → b ≡ false
+    go true e = absurd (omega arith)
+    go false e = refl
 
 -- ---- the sum of the degrees
 
-pub record Walking (s : List ℕ) (m size count limit left sum at : ℕ) : Type 0 where
-  pub within : at ≤ length s
+-- what a pass has to find from `at` on, and what it has summed up
+pub record Walking (s : List ℕ) (m count limit left sum at : ℕ) : Type 0 where
+  pub enough : 3 * limit ≤ length s
+  pub within : at ≤ 3 * sum
   pub small : sum ≤ limit
-  pub same : tally m size limit count 0 s ≡ tally m size limit left sum (drop at s)
+  pub same : fairBlocks m limit count s ≡ fairBlocks m (limit - sum) left (drop at s)
+  pub sums : statedSum (readBlocks count s) ≡ sum + statedSum (readBlocks left (drop at s))
 
-pub walk-from : (s : List ℕ) (m size count limit : ℕ) → Walking s m size count limit count 0 0
-walk-from s m size count limit = record { within = omega arith; small = omega arith; same = refl }
+-- at the start all lies ahead
+pub walk-from : (s : List ℕ) (m count limit : ℕ) → 3 * limit ≤ length s → Walking s m count limit count 0 0
+walk-from s m count limit h = record { enough = h; within = omega arith; small = omega arith; same = ap (λ k. fairBlocks m k count s) (sym (sub-zero limit)); sums = omega arith }
 
 -- the front's slots, as the loop sees them
 pub record Taken (s : List ℕ) (limit sum at n : ℕ) : Type 0 where
   pub two : 2 ≤ n
-  pub within : at + n ≤ length s
+  pub within : at + n ≤ 3 * (sum + (n - 2))
   pub small : sum + (n - 2) ≤ limit
 
-module _ {s : List ℕ} {m size count limit left sum at : ℕ} (w : Walking s m size count limit left sum at) {n : ℕ}
-    (answer : n ≡ front m size (limit - sum) (take (length s - at) (drop at s))) where
-  slots-ahead : n ≡ front m size (limit - sum) (drop at s)
-  slots-ahead = answer ∙ ap (front m size (limit - sum)) (rest s at)
+module _ {s : List ℕ} {m count limit left sum at : ℕ} (w : Walking s m count limit left sum at) where
+  -- there is room for the degree that is still allowed
+  pub walk-room : limit - sum ≤ length (take (length s - at) (drop at s)) - 2
+  walk-room = omega (arith, ap length (rest s at), length-drop at s, w .enough, w .within, w .small)
 
-  pub walk-taken : n ≢ 0 → Taken s limit sum at n
-  walk-taken h =
-      let e = slots-ahead in
-      let f = front-tells {m = m} {size = size} {room = limit - sum} {s = drop at s} (λ z. h (e ∙ z)) in
-      let l = length-drop at s in
-      record {
-        two = omega (arith, f .slots);
-        within = omega (arith, f .slots, f .whole, f .two, w .within);
-        small = omega (arith, f .slots, f .roomy, w .small);
-      }
+  module _ {n : ℕ} (answer : n ≡ front m (limit - sum) (take (length s - at) (drop at s))) where
+    -- the answer is for what lies ahead
+    slots-ahead : n ≡ front m (limit - sum) (drop at s)
+    slots-ahead = answer ∙ ap (front m (limit - sum)) (rest s at)
 
-  pub walk-on : n ≢ 0 → 0 < left → Walking s m size count limit (left - 1) (sum + (n - 2)) (at + n)
-  unfolding tally
-  walk-on h l =
-      let t = walk-taken h in
-      let p : left ≡ suc (left - 1) = omega arith in
-      record {
-        within = t .within;
-        small = t .small;
-        same = w .same ∙ ap (λ k. tally m size limit k sum (drop at s)) p ∙ rw (← slots-ahead, ne-eqb n 0 h, drop-drop);
-      }
+    -- where it is not 0, a factor stands there
+    tells : n ≢ 0 → Front m (limit - sum) (drop at s)
+    tells h = front-tells (λ z. h (slots-ahead ∙ z))
 
-  pub walk-stop : n ≡ 0 → 0 < left → Unsound ≡ tally m size limit count 0 s
-  unfolding tally
-  walk-stop h l =
-      let p : left ≡ suc (left - 1) = omega arith in
-      sym (w .same ∙ ap (λ k. tally m size limit k sum (drop at s)) p ∙ rw (← slots-ahead, eq-eqb n 0 h))
+    -- its slots are within the list, and its degree within the limit
+    pub walk-taken : n ≢ 0 → Taken s limit sum at n
+    walk-taken h =
+        let f = tells h in
+        let e = slots-ahead in
+        record {
+          two = omega (arith, f .slots);
+          within = omega (arith, f .slots, f .least, w .within);
+          small = omega (arith, f .slots, f .most, w .small);
+        }
 
-pub walk-end : {s : List ℕ} {m size count limit left sum at : ℕ} {b : Bool} (v : Bool) → Walking s m size count limit left sum at → left ≤ 0
-    → b ≡ allZero (take (length s - at) (drop at s)) → b ≡ v → cond v (Of sum) Unsound ≡ tally m size limit count 0 s
-unfolding tally
-walk-end {s} {m} {size} {count} {limit} {left} {sum} {at} v w l e f =
+    -- a turn passes it
+    pub walk-on : n ≢ 0 → 0 < left → Walking s m count limit (left - 1) (sum + (n - 2)) (at + n)
+    unfolding fairBlocks readBlocks statedSum
+    walk-on h l =
+        let t = walk-taken h in
+        let f = tells h in
+        let d = getD (drop at s) 1 0 in
+        let p : left ≡ suc (left - 1) = omega arith in
+        let k : n ≡ 2 + d = slots-ahead ∙ f .slots ∙ omega arith in
+        let j : limit - sum - d ≡ limit - (sum + (n - 2)) = omega (arith, k) in
+        let b : behind (drop at s) ≡ drop (at + n) s = drop-drop d 2 (drop at s) ∙ drop-drop (2 + d) at s ∙ ap (λ i. drop (at + i) s) (sym k) in
+        let q : sum + (d + statedSum (readBlocks (left - 1) (drop (at + n) s))) ≡ sum + (n - 2) + statedSum (readBlocks (left - 1) (drop (at + n) s)) = omega (arith, k) in
+        record {
+          enough = w .enough;
+          within = t .within;
+          small = t .small;
+          same = w .same ∙ ap (λ i. fairBlocks m (limit - sum) i (drop at s)) p ∙ rw (f .fair, j, b);
+          sums = w .sums ∙ ap (λ i. sum + statedSum (readBlocks i (drop at s))) p ∙ ap (λ u. sum + (d + statedSum (readBlocks (left - 1) u))) b ∙ q;
+        }
+
+    -- where it is 0, the slots are not sound
+    pub walk-stop : n ≡ 0 → 0 < left → Unsound ≡ tally m limit count s
+    unfolding tally fairBlocks
+    walk-stop h l =
+        let p : left ≡ suc (left - 1) = omega arith in
+        let no : fairBlocks m limit count s ≡ false =
+        w .same ∙ ap (λ i. fairBlocks m (limit - sum) i (drop at s)) p ∙ rw (front-fails m (limit - sum) (drop at s) (sym slots-ahead ∙ h)) in
+        sym (rw no)
+
+-- at the end zeros decide
+pub walk-end : {s : List ℕ} {m count limit left sum at : ℕ} {b : Bool} (v : Bool) → Walking s m count limit left sum at → left ≤ 0
+    → b ≡ allZero (take (length s - at) (drop at s)) → b ≡ v → cond v (Of sum) Unsound ≡ tally m limit count s
+unfolding tally fairBlocks readBlocks statedSum
+walk-end {s} {m} {count} {limit} {left} {sum} {at} v w l e f =
     let p : left ≡ 0 = omega arith in
-    sym (w .same ∙ ap (λ k. tally m size limit k sum (drop at s)) p ∙ rw (sym (ap allZero (rest s at)) ∙ sym e ∙ f))
+    let zeros : fairBlocks m limit count s ≡ v =
+    w .same ∙ ap (λ i. fairBlocks m (limit - sum) i (drop at s)) p ∙ sym (ap allZero (rest s at)) ∙ sym e ∙ f in
+    let all : statedSum (readBlocks count s) ≡ sum = w .sums ∙ ap (λ i. sum + statedSum (readBlocks i (drop at s))) p ∙ omega arith in
+    sym (ap₂ (λ (x : Bool) (y : ℕ). cond x (Of y) Unsound) zeros all)
 
 -- ---- the first degree above c
 
+-- the answer for all is the answer from `at` on
 pub record Seeking (s : List ℕ) (c count left at : ℕ) : Type 0 where
   pub within : at ≤ length s + 65537
   pub same : seek c s count 4 ≡ seek c s left at
 
+-- at the start all lies ahead
 pub seek-from : (s : List ℕ) (c count : ℕ) → Seeking s c count count 4
 seek-from s c count = record { within = omega arith; same = refl }
 
@@ -129,18 +176,22 @@ module _ {s : List ℕ} {c count left at : ℕ} (k : Seeking s c count left at) 
   one-left : 0 < left → seek c s count 4 ≡ seek c s (suc (left - 1)) at
   one-left h = let p : left ≡ suc (left - 1) = omega arith in k .same ∙ ap (λ n. seek c s n at) p
 
+  -- the slots end before
   pub seek-cut : 0 < left → length s ≤ at + 1 → Nowhere ≡ seek c s count 4
   unfolding seek
   seek-cut h l = sym (one-left h ∙ rw (le-leb (length s) (at + 1) l))
 
+  -- a degree above c
   pub seek-hit : 0 < left → at + 1 < length s → c < getD s (at + 1) 0 → At at ≡ seek c s count 4
   unfolding seek
   seek-hit h l g = sym (one-left h ∙ rw (lt-leb (length s) (at + 1) l, lt-ltb c (getD s (at + 1) 0) g))
 
+  -- a degree that is not
   pub seek-on : 0 < left → at + 1 < length s → getD s (at + 1) 0 ≤ c → getD s (at + 1) 0 < 65536 → Seeking s c count (left - 1) (at + (getD s (at + 1) 0 + 2))
   unfolding seek
   seek-on h l g b = record { within = omega arith; same = one-left h ∙ rw (lt-leb (length s) (at + 1) l, le-ltb c (getD s (at + 1) 0) g) }
 
+  -- no factor is left
   pub seek-end : left ≤ 0 → Nowhere ≡ seek c s count 4
   unfolding seek
   seek-end h = let p : left ≡ 0 = omega arith in sym (k .same ∙ ap (λ n. seek c s n at) p)

@@ -9,12 +9,10 @@ use mathlib.Core.Bool.{Bool, true, false, not, true≢false}
 use mathlib.Core.List.{List, [], _∷_, _++_}
 use Prim.Native.Nat.{ℕ, zero, suc, _+_, _-_, _*_, _/_, _^_, _≤_, _<_}
 use native.Mathlib.Nat.{le-trans, mul-le-mul, div-le-self}
-use native.Mathlib.Numerals.{add-one, add-two}
 use native.Mathlib.Omega.{arith}
 use lib.ListN.{length, getD, take, drop, set, replicate, length-append, length-replicate}
 use Rattle.algebra.specs.Polynomial.{Below}
 use Rattle.refusals.specs.Rows.{known}
-use Rattle.refusals.specs.Order.{Passed}
 use Rattle.refusals.proofs.Rows.{by-row, listed}
 use Rattle.refusals.proofs.Order.{failed, others}
 use Rattle.polynomial.specs.Lent.{Lent}
@@ -22,17 +20,18 @@ use Rattle.slots.specs.Lists.{spliced}
 use Rattle.slots.proofs.Lists.{length-spliced}
 use Rattle.groups.specs.Entries.{Halving, parts, entryAt, firstAbove, done}
 use Rattle.groups.specs.Layout.{Factor, degreeSum, blocks, byFactor}
-use Rattle.groups.specs.Table.{Table, limitOf, encode, decode}
-use Rattle.groups.specs.Splitting.{isDone, firstFactor, stuck, halvingAt, slotsDone, slotsStuck, slotsStepped}
+use Rattle.groups.specs.Table.{Table, encode, decode}
+use Rattle.groups.specs.Splitting.{isDone, firstFactor, halvingAt, slotsDone, slotsStuck, slotsStepped}
 use Rattle.groups.proofs.Layouts.{byFactor-lawful}
 use Rattle.groups.proofs.Soundness.{Valid, sound-valid, sound-encoded, count-within}
 use Rattle.groups.proofs.Fields.{known-field}
 use Rattle.groups.proofs.Keeping.{Free, free, Halves, trace-halves, sound-length, step-slots}
-use Rattle.groups.proofs.Places.{beyond, leading, place, slotsOf, spare, encode-around, level-at, degree-at, coefficients-at, first-fair, first-large, room, parts-few, parts-some, length-new, step-spliced}
-use Rattle.splitter.specs.Calls.{limit, slots, isSound, stepTests}
+use Rattle.groups.proofs.Places.{beyond, leading, place, slotsOf, spare, encode-around, level-at, degree-at, coefficients-at, first-fair, room, parts-few, parts-some, length-new, step-spliced}
+use Rattle.splitter.specs.Calls.{limit, slots, isSound}
 use Rattle.splitter.specs.Verdicts.{Chosen}
 use Rattle.splitter.specs.Parting.{Splittable, Parted}
 
+-- a test that fails to fail holds
 un-not : (b : Bool) → not b ≡ false → b ≡ true
 un-not true e = refl
 un-not false e = sym e
@@ -48,6 +47,7 @@ entry-most [] k = omega arith
 entry-most (e ∷ l) zero = omega arith
 entry-most (e ∷ l) (suc k) = omega (arith, entry-most l k)
 
+-- and so it has one factor at least
 some-factor : (c : ℕ) (l : List Factor) → done c l ≡ false → 1 ≤ length l
 unfolding done
 some-factor c [] d = absurd (true≢false d)
@@ -68,33 +68,42 @@ module _ (l : List ℕ) {o : ℕ} (c : Chosen l o) where
   abbrev t : Table
   t = decode byFactor l
 
+  -- the first above the cutoff
   abbrev P : Factor
   P = firstFactor t
 
+  -- test 8 failed: the table is sound
   is-sound : isSound l ≡ true
   is-sound = un-not (isSound l) (failed (others (c .passed)))
 
+  -- its field is known
   pub is-known : known (getD l 0 0) ≡ true
   unfolding decode
   is-known = sound-valid byFactor-lawful known limit l is-sound .field
 
+  -- what it holds is valid
   valid : Valid known limit t
   valid = sound-valid byFactor-lawful known limit l is-sound
 
+  -- and the slots are its encoding
   encoded : encode byFactor slots t ≡ l
   encoded = sound-encoded byFactor-lawful known limit l is-sound
 
+  -- it is not done
   open-still : isDone t ≡ false
   unfolding slotsDone
   open-still = c .more
 
+  -- test 9 failed: the factor is below level m, and slot 3 below its limit
   is-free : Free t
   unfolding slotsStuck
   is-free = free t valid open-still (failed (others (others (c .passed))))
 
+  -- the level that the code reads
   level-is : getD l o 0 ≡ P .0
   level-is = ap₂ (λ u k. getD u k 0) (sym encoded) (c .at) ∙ level-at t valid open-still slots
 
+  -- the degree that it reads
   degree-is : getD l (o + 1) 0 ≡ length (P .1)
   degree-is = ap₂ (λ u k. getD u (k + 1) 0) (sym encoded) (c .at) ∙ degree-at t valid open-still slots
 
@@ -102,6 +111,7 @@ module _ (l : List ℕ) {o : ℕ} (c : Chosen l o) where
   abbrev read : List ℕ
   read = take (o + 2 + getD l (o + 1) 0 - (o + 2)) (drop (o + 2) l)
 
+  -- they are the factor's
   read-is : read ≡ P .1
   read-is =
       let n : o + 2 + getD l (o + 1) 0 - (o + 2) ≡ length (P .1) = omega (arith, degree-is) in
@@ -121,14 +131,17 @@ module _ (l : List ℕ) {o : ℕ} (c : Chosen l o) where
         room t valid open-still,
       )
 
+  -- slot 2
   count-is : getD l 2 0 ≡ length (t .factors)
   unfolding encode
   count-is = ap (λ u. getD u 2 0) (sym encoded)
 
+  -- slot 3
   taken-is : getD l 3 0 ≡ t .taken
   unfolding decode
   taken-is = refl
 
+  -- all that is read
   pub reads : Reads l o
   reads = record {
     long = sound-length byFactor-lawful limit l is-sound;
@@ -145,6 +158,7 @@ module _ (l : List ℕ) {o : ℕ} (c : Chosen l o) where
     few = omega (arith, degree-is, entry-most (t .factors) (firstAbove (t .cutoff) (t .factors)), valid .sum);
   }
 
+  -- what is read can be split
   pub split-asks : {ls ts : List ℕ} → Lent (getD l 0 0) ls ts → Splittable (getD l 0 0) ls ts read (getD l o 0)
   unfolding decode
   split-asks a = record {
@@ -158,14 +172,17 @@ module _ (l : List ℕ) {o : ℕ} (c : Chosen l o) where
   abbrev H : Halving ℕ
   H = halvingAt (t .width)
 
+  -- each factor is parted in two that have its degree together
   halves : (i : ℕ) (p : List ℕ) → Below (2 ^ t .width) p → Halves H (t .width) i p
   halves = trace-halves (known-field (t .width) (valid .field))
 
   module _ {q : ℕ} {w : List ℕ} (r : Parted (getD l 0 0) (getD l o 0) read q w) where
+    -- the new slots are those of the parts
     new-is : take q w ≡ blocks (parts H P)
     unfolding decode
     new-is = r .slots ∙ ap₂ (λ (i : ℕ) (p : List ℕ). blocks (parts H (i, p))) level-is read-is
 
+    -- two for each part, and the coefficients
     new-long : q ≡ 2 * length (parts H P) + getD l (o + 1) 0
     unfolding decode
     new-long =
@@ -177,16 +194,19 @@ module _ (l : List ℕ) {o : ℕ} (c : Chosen l o) where
       pub least : getD l (o + 1) 0 + 2 ≤ q
       pub most : q ≤ getD l (o + 1) 0 + 4
 
+    -- so they are two or four more than the degree
     pub sizes : Sizes
     sizes = record {
       least = omega (arith, new-long, parts-some H (t .width) halves P (first-fair t valid open-still));
       most = omega (arith, new-long, parts-few H P);
     }
 
+    -- the table stays as long as it is
     pub replaced-long : {s : List ℕ} → length (take q w) ≡ q → s ≡ spliced o (getD l (o + 1) 0 + 2) (take q w) l → length s ≡ 100
     replaced-long n e =
         ap length e ∙ length-spliced o (getD l (o + 1) 0 + 2) (take q w) l (omega (arith, sizes .least)) (omega (arith, sizes .most, reads .room, reads .long)) ∙ reads .long
 
+    -- and its slots are those of the table after the step
     pub replaced : {s : List ℕ} → s ≡ spliced o (getD l (o + 1) 0 + 2) (take q w) l
         → set (set s 2 (getD l 2 0 - 1 + (q - getD l (o + 1) 0) / 2)) 3 (getD l 3 0 + 1) ≡ slotsStepped byFactor l
     replaced {s} e =

@@ -3,136 +3,121 @@
 --   few      the sum is at most the limit
 --   accept   no test fails: the table is sound, and the sum is that of its degrees
 -- Assumes nothing.
-use mathlib.Core.Path.{_≡_, refl, sym, ap, ap₂, _∙_}
+use mathlib.Core.Path.{_≡_, refl, sym, ap, _∙_}
 use mathlib.Core.Bool.{Bool, true, false, cond, true≢false}
-use mathlib.Core.List.{List, [], _∷_, _++_}
-use Prim.Native.Nat.{ℕ, suc, _+_, _*_, _-_, _/_, _^_, _≤_, _<_}
+use mathlib.Core.List.{List}
+use Prim.Native.Nat.{ℕ, suc, _-_, _*_, _/_, _^_, _≤_, _<_}
 use native.Mathlib.Omega.{arith}
-use lib.ListN.{length, getD, take, drop, replicate, length-append, length-replicate, length-drop}
-use lib.Seq.{drop-cons}
+use lib.ListN.{length, getD, take, drop, replicate, length-drop}
 use Rattle.refusals.specs.Rows.{known, IsRow, rowAt}
 use Rattle.refusals.specs.declared.Row.{Row}
 use Rattle.refusals.specs.declared.Found.{Found}
 use Rattle.refusals.specs.declared.Found.the-variants.{At, Unknown}
 use Rattle.refusals.proofs.Rows.{row-known, row-unknown}
-use Rattle.groups.specs.Layout.{degreeSum, blocks, byFactor}
-use Rattle.groups.specs.Table.{Table, encode, decode}
+use Rattle.groups.specs.Layout.{degreeSum, statedSum, readBlocks, byFactor, fairBlocks}
+use Rattle.groups.specs.Table.{Table, stepLimit, encode, decode}
 use Rattle.groups.proofs.Layouts.{byFactor-lawful}
+use Rattle.groups.proofs.Soundness.{stated-sum, sound-encoded}
+use Rattle.groups.proofs.Scanning.{Passed, scan-exactly, sound-by-pass}
 use Rattle.groups.proofs.Places.{spare}
-use Rattle.groups.proofs.Soundness.{Valid, sound-valid, sound-encoded, encode-sound, decode-encode}
 use Rattle.splitter.specs.Calls.{limit, slots, isSound}
 use Rattle.splitter.specs.Walk.{tally}
 use Rattle.splitter.specs.Verdicts.{summed}
 use Rattle.splitter.specs.declared.judging.Sum.{Sum}
 use Rattle.splitter.specs.declared.judging.Sum.the-variants.{Of, Unsound}
 use Rattle.splitter.proofs.Passes.{rest}
-use Rattle.splitter.proofs.Tallies.{Ahead, tally-holds, tally-tells}
-
--- the slots of a list of four or more
-four : (l : List ℕ) → 4 ≤ length l → l ≡ getD l 0 0 ∷ getD l 1 0 ∷ getD l 2 0 ∷ getD l 3 0 ∷ drop 4 l
-four l h =
-    drop-cons l 0 0 (omega arith)
-    ∙ ap (λ u. getD l 0 0 ∷ u)
-    (drop-cons l 1 0 (omega arith) ∙ ap (λ u. getD l 1 0 ∷ u) (drop-cons l 2 0 (omega arith) ∙ ap (λ u. getD l 2 0 ∷ u) (drop-cons l 3 0 (omega arith))))
 
 module _ (l : List ℕ) where
   -- the table that the slots hold
   abbrev t : Table
   t = decode byFactor l
 
-  valid : isSound l ≡ true → Valid known limit t
-  valid = sound-valid byFactor-lawful known limit l
-
-  encoded : isSound l ≡ true → encode byFactor slots t ≡ l
-  encoded = sound-encoded byFactor-lawful known limit l
+  -- what its slots state of its degrees
+  abbrev stated-degrees : ℕ
+  stated-degrees = statedSum (readBlocks (getD l 2 0) (drop 4 l))
 
   -- a table that is not sound
-  deny : (isSound l ≡ true → ⊥) → Unsound ≡ summed l
+  deny : (Passed known limit l → ⊥) → Unsound ≡ summed l
   unfolding summed
   deny n = go (isSound l) refl
     where
       go : (b : Bool) → isSound l ≡ b → Unsound ≡ cond b (Of (degreeSum (t .factors))) Unsound
-      go true e = absurd (n e)
+      go true e = absurd (n (sound-by-pass known limit l .0 e))
       go false e = refl
 
+  -- of a sound table they are its degrees
+  degrees-stated : isSound l ≡ true → stated-degrees ≡ degreeSum (t .factors)
+  unfolding encode
+  degrees-stated s =
+      ap (λ u. statedSum (readBlocks (getD u 2 0) (drop 4 u))) (sym (sound-encoded byFactor-lawful known limit l s))
+      ∙ ap statedSum (byFactor-lawful .read-write (t .factors) (replicate (spare slots t) 0)) ∙ stated-sum (t .factors)
+
+  -- the field is not known
   pub deny-field : {r : Found} → r ≡ rowAt (getD l 0 0) → r ≡ Unknown → Unsound ≡ summed l
-  unfolding decode
-  deny-field e u = deny (λ s. true≢false (sym (valid s .field) ∙ row-unknown (getD l 0 0) (sym e ∙ u)))
+  deny-field e u = deny (λ s. true≢false (sym (s .field) ∙ row-unknown (getD l 0 0) (sym e ∙ u)))
 
+  -- the cutoff is 0
   pub deny-low : getD l 1 0 < 1 → Unsound ≡ summed l
-  unfolding decode
-  deny-low h = deny (λ s. let k : 1 ≤ getD l 1 0 = valid s .cutoff-least in omega arith)
+  deny-low h = deny (λ s. omega (arith, s .cutoff-least))
 
+  -- the cutoff is above 3
   pub deny-high : 3 < getD l 1 0 → Unsound ≡ summed l
-  unfolding decode
-  deny-high h = deny (λ s. let k : getD l 1 0 ≤ 3 = valid s .cutoff-most in omega arith)
+  deny-high h = deny (λ s. omega (arith, s .cutoff-most))
 
-  module _ {f : Found} (e : f ≡ rowAt (getD l 0 0)) {row : Row} (at : f ≡ At row)
-      {r : Sum} (w : r ≡ tally (getD l 0 0) (row .size) limit (getD l 2 0) 0 (take (length l - 4) (drop 4 l))) where
+  module _ {f : Found} (e : f ≡ rowAt (getD l 0 0)) {row : Row} (at : f ≡ At row) where
+    -- the row is that of slot 0
     is-row : IsRow (getD l 0 0) row
     is-row = row-known (getD l 0 0) (sym e ∙ at)
 
-    -- what `walk` answers, by the field alone
-    walked : r ≡ tally (getD l 0 0) (2 ^ getD l 0 0) limit (getD l 2 0) 0 (drop 4 l)
-    walked = w ∙ ap₂ (λ z u. tally (getD l 0 0) z limit (getD l 2 0) 0 u) (is-row .size) (rest l 4)
+    -- what `walk` may take for granted
+    pub walk-asks : length l ≡ slots → (row .size ≡ 2 ^ getD l 0 0) × (3 * limit ≤ length (take (length l - 4) (drop 4 l)))
+    walk-asks h = (is-row .size, omega (arith, ap length (rest l 4), length-drop 4 l))
 
-    -- of a sound table it is the sum of its degrees
-    holds : isSound l ≡ true → r ≡ Of (degreeSum (t .factors))
-    unfolding encode
-    holds s =
-        walked ∙ ap (λ u. tally (getD u 0 0) (2 ^ getD u 0 0) limit (getD u 2 0) 0 (drop 4 u)) (sym (encoded s))
-        ∙ tally-holds (t .width) limit (t .factors) (valid s .factors) 0 (spare slots t) (omega (arith, valid s .sum))
-        ∙ ap Of (omega arith)
+    module _ {r : Sum} (w : r ≡ tally (getD l 0 0) limit (getD l 2 0) (take (length l - 4) (drop 4 l))) where
+      -- what `walk` answers: the sum where the pass finds nothing against the rules
+      walked : r ≡ cond (fairBlocks (getD l 0 0) limit (getD l 2 0) (drop 4 l)) (Of stated-degrees) Unsound
+      unfolding tally
+      walked = w ∙ ap (tally (getD l 0 0) limit (getD l 2 0)) (rest l 4)
 
-    pub deny-walk : r ≡ Unsound → Unsound ≡ summed l
-    deny-walk u = deny (λ s. let q = holds s in let x : _≡_ {A = ℕ} 0 1 = cc in omega arith)
-
-    module _ {sum : ℕ} (o : r ≡ Of sum) where
-      ahead : Ahead (getD l 0 0) limit (getD l 2 0) 0 sum (drop 4 l)
-      ahead = tally-tells (getD l 0 0) limit (getD l 2 0) 0 sum (drop 4 l) (omega arith) (sym walked ∙ o)
-
-      pub few : sum ≤ limit
-      few = ahead .small
-
-      pub deny-steps : getD l 0 0 * (sum / suc (getD l 1 0)) < getD l 3 0 → Unsound ≡ summed l
-      unfolding decode
-      deny-steps h = deny (λ s.
-          let q = holds s in
-          let same : sum ≡ degreeSum (t .factors) = cc in
-          let k : getD l 3 0 ≤ getD l 0 0 * (degreeSum (t .factors) / suc (getD l 1 0)) = valid s .steps in
-          let p : getD l 0 0 * (sum / suc (getD l 1 0)) ≡ getD l 0 0 * (degreeSum (t .factors) / suc (getD l 1 0)) = ap (λ z. getD l 0 0 * (z / suc (getD l 1 0))) same in
+      -- the pass found a rule broken
+      pub deny-walk : r ≡ Unsound → Unsound ≡ summed l
+      deny-walk u = deny (λ s.
+          let q : r ≡ Of stated-degrees = walked ∙ ap (λ b. cond b (Of stated-degrees) Unsound) (s .pass) in
+          let x : _≡_ {A = ℕ} 0 1 = cc in
           omega arith)
 
-      -- the table that was passed over
-      abbrev passed : Table
-      passed = record { width = getD l 0 0; cutoff = getD l 1 0; taken = getD l 3 0; factors = ahead .factors }
+      module _ {sum : ℕ} (o : r ≡ Of sum) where
+        -- the pass found none broken, and gave the sum of what is stated
+        found : (fairBlocks (getD l 0 0) limit (getD l 2 0) (drop 4 l) ≡ true) × (sum ≡ stated-degrees)
+        found = go (fairBlocks (getD l 0 0) limit (getD l 2 0) (drop 4 l)) (sym o ∙ walked)
+          where
+            go : (b : Bool) → Of sum ≡ cond b (Of stated-degrees) Unsound → (b ≡ true) × (sum ≡ stated-degrees)
+            go true q = (refl, cc)
+            go false q = let x : _≡_ {A = ℕ} 0 1 = cc in absurd (omega arith)
 
-      sum-is : sum ≡ degreeSum (ahead .factors)
-      sum-is = ahead .degrees ∙ omega arith
+        -- the sum is at most the limit
+        pub few : sum ≤ limit
+        few = omega (arith, found .1, scan-exactly (getD l 0 0) limit (getD l 2 0) (drop 4 l) .0 (found .0) .sum)
 
-      passed-valid : 1 ≤ getD l 1 0 → getD l 1 0 ≤ 3 → getD l 3 0 ≤ getD l 0 0 * (sum / suc (getD l 1 0)) → Valid known limit passed
-      passed-valid low high lim = record {
-        field = is-row .list .degree;
-        cutoff-least = low;
-        cutoff-most = high;
-        factors = ahead .each;
-        sum = omega (arith, sum-is, ahead .small);
-        steps = rw (← sum-is) lim;
-      }
+        -- the limit of slot 3, by the sum
+        limit-is : getD l 0 0 * (sum / suc (getD l 1 0)) ≡ stepLimit (getD l 0 0) (getD l 1 0) stated-degrees
+        limit-is = ap (λ z. getD l 0 0 * (z / suc (getD l 1 0))) (found .1)
 
-      passed-encoded : length l ≡ slots → encode byFactor slots passed ≡ l
-      unfolding encode
-      passed-encoded h =
-          let a = ahead in
-          let spare : a .spare ≡ slots - length (getD l 0 0 ∷ getD l 1 0 ∷ length (a .factors) ∷ getD l 3 0 ∷ blocks (a .factors)) =
-          omega (arith, length-drop 4 l, ap length (a .slots), length-append (blocks (a .factors)) (replicate (a .spare) 0), length-replicate {A = ℕ} (a .spare) 0) in
-          sym (four l (omega arith)
-          ∙ ap₂ (λ k u. getD l 0 0 ∷ getD l 1 0 ∷ k ∷ getD l 3 0 ∷ u) (a .count) (a .slots ∙ ap (λ k. blocks (a .factors) ++ replicate k 0) spare))
+        -- slot 3 is above its limit
+        pub deny-steps : getD l 0 0 * (sum / suc (getD l 1 0)) < getD l 3 0 → Unsound ≡ summed l
+        deny-steps h = deny (λ s. omega (arith, s .steps, limit-is))
 
-      pub accept : length l ≡ slots → 1 ≤ getD l 1 0 → getD l 1 0 ≤ 3 → getD l 3 0 ≤ getD l 0 0 * (sum / suc (getD l 1 0)) → Of sum ≡ summed l
-      unfolding summed
-      accept h low high lim =
-          let e = passed-encoded h in
-          let s : isSound l ≡ true = ap isSound (sym e) ∙ encode-sound byFactor-lawful known limit passed (passed-valid low high lim) in
-          let d : t ≡ passed = ap (decode byFactor) (sym e) ∙ decode-encode byFactor-lawful slots passed in
-          rw s (ap Of (sum-is ∙ ap (λ u. degreeSum (u .factors)) (sym d)))
+        -- no test fails
+        pub accept : length l ≡ slots → 1 ≤ getD l 1 0 → getD l 1 0 ≤ 3 → getD l 3 0 ≤ getD l 0 0 * (sum / suc (getD l 1 0)) → Of sum ≡ summed l
+        unfolding summed
+        accept h low high lim =
+            let s : isSound l ≡ true =
+            sound-by-pass known limit l .1 (record {
+              size = h;
+              field = is-row .list .degree;
+              cutoff-least = low;
+              cutoff-most = high;
+              pass = found .0;
+              steps = omega (arith, limit-is);
+            }) in
+            rw s (ap Of (found .1 ∙ degrees-stated s))

@@ -1,6 +1,6 @@
 // What is decided of a work table before anything is written: whether it is sound, in one pass over its slots, and where the first factor above the cutoff stands.
 ghost use mathlib.Core.Path.{_≡_};
-ghost use Prim.Native.Nat.{suc, _*_, _/_, _≤_};
+ghost use Prim.Native.Nat.{suc, _-_, _*_, _/_, _^_, _≤_};
 ghost use lib.ListN.{length};
 ghost use Rattle.splitter.specs.Calls.{limit, slots};
 ghost use Rattle.splitter.specs.Walk.{front, tally, seek};
@@ -35,7 +35,8 @@ pub enum Verdict {
 
 // The slots that the factor at the front of s takes, or 0 where none stands there that fits.
 fn front_slots(s: &[u16], m: u16, size: u16, room: usize) -> usize
-    ensures { λ r. ⌜ r ≡ front m size room (now (s .entry)) ⌝ }
+    requires { ⌜ (size ≡ 2 ^ m) × (room ≤ length (now s) - 2) ⌝ }
+    ensures { λ r. ⌜ r ≡ front m room (now (s .entry)) ⌝ }
 {
     if s.len() < 2 {
         return 0;
@@ -50,9 +51,6 @@ fn front_slots(s: &[u16], m: u16, size: u16, room: usize) -> usize
     if room < d {
         return 0;
     }
-    if s.len() - 2 < d {
-        return 0;
-    }
     let e = d + 2;
     if slots::all_below(&s[2..e], size) {
         return e;
@@ -62,7 +60,8 @@ fn front_slots(s: &[u16], m: u16, size: u16, room: usize) -> usize
 
 // The sum of the degrees of `count` factors in s, if they fit and zeros follow.
 fn walk(s: &[u16], m: u16, size: u16, count: u16, limit: usize) -> Sum
-    ensures { λ r. ⌜ r ≡ tally m size limit count 0 (now (s .entry)) ⌝ }
+    requires { ⌜ (size ≡ 2 ^ m) × (3 * limit ≤ length (now s)) ⌝ }
+    ensures { λ r. ⌜ r ≡ tally m limit count (now (s .entry)) ⌝ }
 {
     let mut left = count;
     let mut sum = 0;

@@ -2,88 +2,67 @@
 -- Assumes nothing.
 use native.Mathlib.Omega.{arith}
 use denote.Ref.{now}
-use Rattle.splitter.proofs.Summing.{deny-field, deny-low, deny-high, deny-walk, deny-steps, few, accept}
+use Rattle.splitter.proofs.Summing.{walk-asks, deny-field, deny-low, deny-high, deny-walk, deny-steps, few, accept}
 use borrow.Author.Needs.{needs}
 use Rattle.splitter.proofs.judging.degrees.Statement.{statement}
 use Rattle.splitter.proofs.judging.degrees.Tie as tie
-use Rattle.splitter.proofs.judging.degrees.Reads as reads
-use Rattle.splitter.proofs.judging.degrees.Lts as lts
-use Rattle.refusals.proofs.row_of.Reads as row-of-reads
-use Rattle.splitter.proofs.judging.step_limit.Reads as step-limit-reads
-use Rattle.splitter.proofs.judging.walk.Reads as walk-reads
 
--- src/judging.rt:117:13
 shared-slice-read-m : tie.Need-shared-slice-read-m
 shared-slice-read-m c = search needs
 
--- src/judging.rt:118:13
 shared-slice-read-c : tie.Need-shared-slice-read-c
 shared-slice-read-c c = search needs
 
--- src/judging.rt:119:26
 row-of-requires : tie.Need-row-of-requires
 row-of-requires c κs = search needs
 
--- src/judging.rt:119:19
 enum-known-row : tie.Need-enum-known-row
 enum-known-row c = search needs
 
--- src/judging.rt:120:9
 enum-told : tie.Need-enum-told
 enum-told c = search needs
 
--- src/judging.rt:120:9
 returns : tie.Need-returns
 returns c = deny-field _ (c .before .before .row-of .ensures) (c .enum-told .given .1)
 
--- src/judging.rt:123:9
 returns-2 : tie.Need-returns-2
 returns-2 c = deny-low _ (c .if1 .taken)
 
--- src/judging.rt:126:9
 returns-3 : tie.Need-returns-3
 returns-3 c = deny-high _ (c .if2 .taken)
 
--- src/judging.rt:128:29
 sub-walk : tie.Need-sub-walk
 sub-walk c = search needs
 
--- src/judging.rt:128:29
 part-walk-start : tie.Need-part-walk-start
 part-walk-start c = search needs
 
--- src/judging.rt:128:29
 part-walk-end : tie.Need-part-walk-end
 part-walk-end c = search needs
 
--- src/judging.rt:128:55
 shared-slice-read-walk : tie.Need-shared-slice-read-walk
 shared-slice-read-walk c = search needs
 
--- src/judging.rt:128:24
 walk-requires : tie.Need-walk-requires
-walk-requires c κs = search needs
+walk-requires c κs =
+    let k = c .before .before .before .before .before in
+    walk-asks (now (k .before .before .before .before .before .before .args .table)) (k .before .before .row-of .ensures) (k .row .given .1) (search needs)
 
--- src/judging.rt:128:17
 enum-known-sum : tie.Need-enum-known-sum
 enum-known-sum c = search needs
 
--- src/judging.rt:129:9
 enum-told-2 : tie.Need-enum-told-2
 enum-told-2 c = search needs
 
--- src/judging.rt:129:9
 returns-4 : tie.Need-returns-4
 returns-4 c =
     let w = c .before .before in
     let k = w .before .before .before .before .before .before in
     deny-walk _ (k .before .before .row-of .ensures) (k .row .given .1) (w .walk .ensures) (c .enum-told2 .given .1)
 
--- src/judging.rt:131:17
 shared-slice-read-taken : tie.Need-shared-slice-read-taken
 shared-slice-read-taken c = search needs
 
--- src/judging.rt:132:8
 step-limit-requires : tie.Need-step-limit-requires
 step-limit-requires c κs =
     let s = c .before .before in
@@ -91,11 +70,9 @@ step-limit-requires c κs =
     let k = w .before .before .before .before .before .before in
     few (now (k .before .before .before .before .before .before .args .table)) (k .before .before .row-of .ensures) (k .row .given .1) (w .walk .ensures) (s .sum .given .1)
 
--- src/judging.rt:132:32
 cast-if3 : tie.Need-cast-if3
 cast-if3 c = omega (arith, c .before .shared-slice-known5 .given 3)
 
--- src/judging.rt:133:9
 returns-5 : tie.Need-returns-5
 returns-5 c =
     let s = c .before .before .before .before in
@@ -104,7 +81,6 @@ returns-5 c =
     deny-steps _ (k .before .before .row-of .ensures) (k .row .given .1) (w .walk .ensures) (s .sum .given .1)
     (omega (arith, c .before .step-limit .ensures, c .if3 .taken))
 
--- src/judging.rt:113:1
 returns-6 : tie.Need-returns-6
 returns-6 c =
     let s = c .before .before .before .before in

@@ -1,35 +1,38 @@
--- `splitter::judging::front_slots` meets its contract: each return says which test of `frontFits` failed.
+-- `splitter::judging::front_slots` meets its contract: each return says which test of `fairFront` failed.
 -- Assumes nothing.
 use mathlib.Core.Path.{_≡_, sym, ap, _∙_}
-use mathlib.Core.Bool.{Bool}
-use Prim.Native.Nat.{ℕ, _+_, _-_}
+use Prim.Native.Nat.{_^_}
 use native.Mathlib.Nat.{add-sub-cancel}
 use native.Mathlib.Omega.{arith}
 use borrow.Author.Tests.{le-leb, lt-leb}
 use denote.Ref.{now}
 use lib.ListN.{getD, take, drop}
 use Rattle.slots.specs.Bounded.{allBelow}
-use Rattle.splitter.specs.Walk.{front, frontFits}
+use Rattle.splitter.specs.Walk.{front}
+use Rattle.splitter.proofs.Passes.{front-constant, front-short}
 use borrow.Author.Needs.{needs}
 use Rattle.splitter.proofs.judging.front_slots.Statement.{statement}
 use Rattle.splitter.proofs.judging.front_slots.Tie as tie
 
 -- the last test is what `all_below` answered
 coefficients : (c : tie.After-all-below) →
-    let s = now (c .before .before .before .before .before .before .before .before .before .before .args .s) in
-    allBelow (c .before .before .before .before .before .before .before .before .before .before .args .size) (take (getD s 1 0) (drop 2 s)) ≡ c .all-below .result
-coefficients c = sym (c .all-below .ensures ∙ rw add-sub-cancel)
+    let k = c .before .before .before .before .before .before .before .before .before in
+    let s = now (k .args .s) in
+    allBelow (2 ^ k .args .m) (take (getD s 1 0) (drop 2 s)) ≡ c .all-below .result
+coefficients c =
+    let k = c .before .before .before .before .before .before .before .before .before in
+    let s = now (k .args .s) in
+    sym (c .all-below .ensures ∙ rw add-sub-cancel (ap (λ b. allBelow b (take (getD s 1 0) (drop 2 s))) (k .pre .0)))
 
 returns : tie.Need-returns
-unfolding front frontFits
-returns c = simp (lt-leb _ _ (c .if1 .taken))
+returns c = front-short _ _ _ (c .if1 .taken)
 
 shared-slice-read-if2 : tie.Need-shared-slice-read-if2
 shared-slice-read-if2 c = search needs
 
 returns-2 : tie.Need-returns-2
-unfolding front frontFits
-returns-2 c = simp (le-leb _ _ (c .before .before .if1 .left), lt-leb _ _ (c .if2 .taken))
+unfolding front
+returns-2 c = simp (lt-leb _ _ (c .if2 .taken))
 
 shared-slice-read-d : tie.Need-shared-slice-read-d
 shared-slice-read-d c = search needs
@@ -38,19 +41,13 @@ cast-d : tie.Need-cast-d
 cast-d c = omega (arith, c .shared-slice-known3 .given 1)
 
 returns-3 : tie.Need-returns-3
-unfolding front frontFits
-returns-3 c = let e = c .before .before in simp (le-leb _ _ (e .before .before .if1 .left), le-leb _ _ (e .if2 .left), lt-leb _ _ (c .if3 .taken))
+returns-3 c = front-constant _ _ _ (c .if3 .taken)
 
 returns-4 : tie.Need-returns-4
-unfolding front frontFits
-returns-4 c = let e = c .before .before .before in simp (le-leb _ _ (e .before .before .if1 .left), le-leb _ _ (e .if2 .left), le-leb _ _ (c .before .if3 .left), lt-leb _ _ (c .if4 .taken))
-
-sub-if5 : tie.Need-sub-if5
-sub-if5 c = search needs
-
-returns-5 : tie.Need-returns-5
-unfolding front frontFits
-returns-5 c = let e = c .before .before .before .before in simp (le-leb _ _ (e .before .before .if1 .left), le-leb _ _ (e .if2 .left), le-leb _ _ (c .before .before .if3 .left), le-leb _ _ (c .before .if4 .left), lt-leb _ _ (c .if5 .taken))
+unfolding front
+returns-4 c =
+    let e = c .before .before .before in
+    simp (le-leb _ _ (e .if2 .left), le-leb _ _ (c .before .if3 .left), lt-leb _ _ (c .if4 .taken))
 
 add-e : tie.Need-add-e
 add-e c = search needs
@@ -67,13 +64,19 @@ part-all-below-end c = search needs
 all-below-requires : tie.Need-all-below-requires
 all-below-requires c κs = search needs
 
-returns-6 : tie.Need-returns-6
-unfolding front frontFits
-returns-6 c = let f = c .before .before .before in let e = f .before .before .before .before in simp (le-leb _ _ (e .before .before .if1 .left), le-leb _ _ (e .if2 .left), le-leb _ _ (f .before .before .if3 .left), le-leb _ _ (f .before .if4 .left), le-leb _ _ (f .if5 .left), coefficients (c .before), c .if6 .taken)
+returns-5 : tie.Need-returns-5
+unfolding front
+returns-5 c =
+    let f = c .before .before .before in
+    let e = f .before .before .before in
+    simp (le-leb _ _ (e .if2 .left), le-leb _ _ (f .before .if3 .left), le-leb _ _ (f .if4 .left), coefficients (c .before), c .if5 .taken)
 
-returns-7 : tie.Need-returns-7
-unfolding front frontFits
-returns-7 c = let f = c .before .before .before in let e = f .before .before .before .before in simp (le-leb _ _ (e .before .before .if1 .left), le-leb _ _ (e .if2 .left), le-leb _ _ (f .before .before .if3 .left), le-leb _ _ (f .before .if4 .left), le-leb _ _ (f .if5 .left), coefficients (c .before), c .if6 .left)
+returns-6 : tie.Need-returns-6
+unfolding front
+returns-6 c =
+    let f = c .before .before .before in
+    let e = f .before .before .before in
+    simp (le-leb _ _ (e .if2 .left), le-leb _ _ (f .before .if3 .left), le-leb _ _ (f .if4 .left), coefficients (c .before), c .if5 .left)
 
 pub front-slots-spec : {M : Type 1} → statement M
 front-slots-spec =
@@ -86,12 +89,10 @@ front-slots-spec =
     cast-d
     returns-3
     returns-4
-    sub-if5
-    returns-5
     add-e
     sub-all-below
     part-all-below-start
     part-all-below-end
     all-below-requires
-    returns-6
-    returns-7)
+    returns-5
+    returns-6)

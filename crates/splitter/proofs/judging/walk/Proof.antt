@@ -2,19 +2,19 @@
 -- Assumes nothing.
 use mathlib.Core.Bool.{true, false}
 use native.Mathlib.Omega.{arith}
-use Rattle.splitter.proofs.Passes.{Walking, walk-from, walk-taken, walk-on, walk-stop, walk-end}
+use Rattle.splitter.proofs.Passes.{Walking, walk-from, walk-room, walk-taken, walk-on, walk-stop, walk-end}
 use borrow.Author.Needs.{needs}
 use Rattle.splitter.proofs.judging.walk.Statement.{statement}
 use Rattle.splitter.proofs.judging.walk.Tie as tie
 
 abbrev Inv-loop : tie.InvT-loop
-Inv-loop s m size count limit left₀ sum₀ at₀ left sum at = Walking s m size count limit left sum at
+Inv-loop s m size count limit left₀ sum₀ at₀ left sum at = Walking s m count limit left sum at
 
 abbrev μ-loop : tie.MeasureT-loop
 μ-loop s m size count limit left₀ sum₀ at₀ left sum at = left
 
 loop-holds : tie.Need-loop-holds Inv-loop μ-loop
-loop-holds c = walk-from _ _ _ _ _
+loop-holds c = walk-from _ _ _ _ (c .before .pre .1)
 
 mul-front-slots : tie.Need-mul-front-slots Inv-loop μ-loop
 mul-front-slots c = search needs
@@ -32,7 +32,7 @@ sub-front-slots-2 : tie.Need-sub-front-slots-2 Inv-loop μ-loop
 sub-front-slots-2 c = search needs
 
 front-slots-requires : tie.Need-front-slots-requires Inv-loop μ-loop
-front-slots-requires c κs = search needs
+front-slots-requires c κs = (c .before .before .before .before .pre .0, walk-room (c .before .before .loop .inv))
 
 returns : tie.Need-returns Inv-loop μ-loop
 returns c = walk-stop (c .before .before .before .before .loop .inv) (c .before .front-slots .ensures) (c .if1 .taken) (omega arith)

@@ -6,31 +6,22 @@ use lib.Seq.{length-take-le}
 use borrow.Author.Needs.{needs}
 use Rattle.splitter.proofs.stepping.rest_of.Statement.{statement}
 use Rattle.splitter.proofs.stepping.rest_of.Tie as tie
-use Rattle.splitter.proofs.stepping.rest_of.Reads as reads
-use Rattle.splitter.proofs.stepping.rest_of.Lts as lts
-use Rattle.polynomial.proofs.euclid.cofactor.Reads as cofactor-reads
 
--- src/stepping.rt:56:13
 add-j : tie.Need-add-j
 add-j c = search needs
 
--- src/stepping.rt:59:39
 array-borrow-prefix-row : tie.Need-array-borrow-prefix-row
 array-borrow-prefix-row c = search needs
 
--- src/stepping.rt:59:39
 slice-aggregate-cofactor : tie.Need-slice-aggregate-cofactor
 slice-aggregate-cofactor c = sym (length-take-le _ _ (omega (arith, c .before .before .before .before .before .before .pre .few, c .before .before .before .before .before .before .pre .shorter)))
 
--- src/stepping.rt:59:54
 array-borrow-prefix-f : tie.Need-array-borrow-prefix-f
 array-borrow-prefix-f c = search needs
 
--- src/stepping.rt:59:54
 slice-aggregate-cofactor-2 : tie.Need-slice-aggregate-cofactor-2
 slice-aggregate-cofactor-2 c = sym (length-take-le _ _ (omega (arith, c .before .before .before .before .before .before .before .pre .few)))
 
--- src/stepping.rt:59:5
 cofactor-requires : tie.Need-cofactor-requires
 cofactor-requires c κs =
     let s = c .before .before .before .before .before .before .before .before .pre in
@@ -44,11 +35,9 @@ cofactor-requires c κs =
       room-h = s .room;
     }
 
--- src/stepping.rt:51:1
 same-length : tie.Need-same-length
 same-length c = search needs
 
--- src/stepping.rt:51:1
 returns : tie.Need-returns
 returns c = search needs
 

@@ -7,52 +7,37 @@ use Rattle.splitter.proofs.Outcomes.{step-refused, step-over, chosen-of
 use borrow.Author.Needs.{needs}
 use Rattle.splitter.proofs.stepping.step.Statement.{statement}
 use Rattle.splitter.proofs.stepping.step.Tie as tie
-use Rattle.splitter.proofs.stepping.step.Reads as reads
-use Rattle.splitter.proofs.stepping.step.Lts as lts
-use Rattle.splitter.proofs.judging.judge.Reads as judge-reads
-use Rattle.splitter.proofs.stepping.step_at.Reads as step-at-reads
 
--- src/stepping.rt:133:11
 judge-requires : tie.Need-judge-requires
 judge-requires c κs = search needs
 
--- src/stepping.rt:134:26
 enum-known-k : tie.Need-enum-known-k
 enum-known-k c = search needs
 
--- src/stepping.rt:135:26
 enum-told : tie.Need-enum-told
 enum-told c = search needs
 
--- src/stepping.rt:136:24
 enum-known-o : tie.Need-enum-known-o
 enum-known-o c = search needs
 
--- src/stepping.rt:137:13
 step-at-requires : tie.Need-step-at-requires
 step-at-requires c κs = chosen-of (subst (Judged (now (c .before .before .before .before .before .before .before .args .table))) (c .before .before .o .given .1) (c .before .before .before .before .judge .ensures))
 
--- src/stepping.rt:130:1
 same-length : tie.Need-same-length
 same-length c = search needs
 
--- src/stepping.rt:130:1
 returns : tie.Need-returns
 returns c = step-refused (subst (Judged (now (c .before .before .before .before .before .before .args .table))) (c .before .k .given .1) (c .before .before .before .judge .ensures))
 
--- src/stepping.rt:130:1
 same-length-2 : tie.Need-same-length-2
 same-length-2 c = search needs
 
--- src/stepping.rt:130:1
 returns-2 : tie.Need-returns-2
 returns-2 c = step-over (subst (Judged (now (c .before .before .before .before .before .args .table))) (c .enum-told .given .1) (c .before .before .judge .ensures))
 
--- src/stepping.rt:130:1
 same-length-3 : tie.Need-same-length-3
 same-length-3 c = search needs
 
--- src/stepping.rt:130:1
 returns-3 : tie.Need-returns-3
 returns-3 c = step-taken (chosen-of (subst (Judged (now (c .before .before .before .before .before .before .before .before .before .before .args .table))) (c .before .before .before .before .before .o .given .1) (c .before .before .before .before .before .before .before .judge .ensures))) (c .before .before .step-at .ensures)
 

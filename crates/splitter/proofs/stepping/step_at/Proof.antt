@@ -13,63 +13,46 @@ use Rattle.splitter.proofs.Lending.{logs-room, antilogs-room, lent-is}
 use borrow.Author.Needs.{needs}
 use Rattle.splitter.proofs.stepping.step_at.Statement.{statement}
 use Rattle.splitter.proofs.stepping.step_at.Tie as tie
-use Rattle.splitter.proofs.stepping.step_at.Reads as reads
-use Rattle.splitter.proofs.stepping.step_at.Lts as lts
-use Rattle.refusals.proofs.row_of.Reads as row-of-reads
-use Rattle.splitter.proofs.stepping.step_lent.Reads as step-lent-reads
-use Rattle.tables.proofs.lent.antilogs.Reads as antilogs-reads
-use Rattle.tables.proofs.lent.logs.Reads as logs-reads
 
--- src/stepping.rt:116:13
 slice-read-m : tie.Need-slice-read-m
 slice-read-m c =
     let k = c .before .before in
     let r = reads (now (k .args .table)) (k .pre) in
     omega arith
 
--- src/stepping.rt:117:26
 row-of-requires : tie.Need-row-of-requires
 row-of-requires c κs = search needs
 
--- src/stepping.rt:117:19
 enum-known-row : tie.Need-enum-known-row
 enum-known-row c = search needs
 
--- src/stepping.rt:118:9
 enum-told : tie.Need-enum-told
 enum-told c = search needs
 
--- src/stepping.rt:118:9
 returns : tie.Need-returns
 returns c =
     let k = c .before .before .before .before .before in
     absurd (true≢false (sym (is-known (now (k .args .table)) (k .pre)) ∙ row-unknown _ (sym (c .before .before .row-of .ensures) ∙ c .enum-told .given .1)))
 
--- src/stepping.rt:122:27
 slice-aggregate-logs : tie.Need-slice-aggregate-logs
 slice-aggregate-logs c = search needs
 
--- src/stepping.rt:122:5
 logs-requires : tie.Need-logs-requires
 logs-requires c κs =
     let k = c .before .before .before .before .before .before .before in
     ((is-known (now (k .args .table)) (k .pre)), logs-room _ (is-known (now (k .args .table)) (k .pre)))
 
--- src/stepping.rt:123:31
 slice-aggregate-antilogs : tie.Need-slice-aggregate-antilogs
 slice-aggregate-antilogs c = search needs
 
--- src/stepping.rt:123:5
 antilogs-requires : tie.Need-antilogs-requires
 antilogs-requires c κs =
     let k = c .before .before .before .before .before .before .before .before .before .before in
     ((is-known (now (k .args .table)) (k .pre)), antilogs-room _ (is-known (now (k .args .table)) (k .pre)))
 
--- src/stepping.rt:124:16
 cast-size : tie.Need-cast-size
 cast-size c = search needs
 
--- src/stepping.rt:125:20
 sub-end : tie.Need-sub-end
 sub-end c =
     let k = c .before .before .before .before .before .before .before .before .before .before .before .before .before in
@@ -77,11 +60,9 @@ sub-end c =
     let w = row-known _ (sym (f .before .before .row-of .ensures) ∙ f .row .given .1) in
     omega (arith, w .size, pow-pos (getD (now (k .args .table)) 0 0))
 
--- src/stepping.rt:125:15
 mul-end : tie.Need-mul-end
 mul-end c = search needs
 
--- src/stepping.rt:126:22
 array-share-prefix-logs : tie.Need-array-share-prefix-logs
 array-share-prefix-logs c =
     let k = c .before .before .before .before .before .before .before .before .before .before .before .before .before .before in
@@ -89,7 +70,6 @@ array-share-prefix-logs c =
     let w = row-known _ (sym (f .before .before .row-of .ensures) ∙ f .row .given .1) in
     omega (arith, w .size, logs-room (getD (now (k .args .table)) 0 0) (is-known (now (k .args .table)) (k .pre)), c .before .before .before .before .before .before .logs2 .ensures .1)
 
--- src/stepping.rt:126:22
 slice-aggregate-step-lent : tie.Need-slice-aggregate-step-lent
 slice-aggregate-step-lent c =
     let k = c .before .before .before .before .before .before .before .before .before .before .before .before .before .before .before in
@@ -97,7 +77,6 @@ slice-aggregate-step-lent c =
     let w = row-known _ (sym (f .before .before .row-of .ensures) ∙ f .row .given .1) in
     sym (length-take-le _ _ (omega (arith, w .size, logs-room (getD (now (k .args .table)) 0 0) (is-known (now (k .args .table)) (k .pre)), c .before .before .before .before .before .before .before .logs2 .ensures .1)))
 
--- src/stepping.rt:126:37
 array-share-prefix-antilogs : tie.Need-array-share-prefix-antilogs
 array-share-prefix-antilogs c =
     let k = c .before .before .before .before .before .before .before .before .before .before .before .before .before .before .before in
@@ -106,7 +85,6 @@ array-share-prefix-antilogs c =
     let e = w .size in
     omega (arith, antilogs-room (getD (now (k .args .table)) 0 0) (is-known (now (k .args .table)) (k .pre)), c .before .before .before .before .antilogs2 .ensures .1)
 
--- src/stepping.rt:126:37
 slice-aggregate-step-lent-2 : tie.Need-slice-aggregate-step-lent-2
 slice-aggregate-step-lent-2 c =
     let k = c .before .before .before .before .before .before .before .before .before .before .before .before .before .before .before .before in
@@ -115,7 +93,6 @@ slice-aggregate-step-lent-2 c =
     let e = w .size in
     sym (length-take-le _ _ (omega (arith, antilogs-room (getD (now (k .args .table)) 0 0) (is-known (now (k .args .table)) (k .pre)), c .before .before .before .before .before .antilogs2 .ensures .1)))
 
--- src/stepping.rt:126:5
 step-lent-requires : tie.Need-step-lent-requires
 step-lent-requires c κs =
     let k = c .before .before .before .before .before .before .before .before .before .before .before .before .before .before .before .before in
@@ -123,11 +100,9 @@ step-lent-requires c κs =
     let w = row-known _ (sym (f .before .before .row-of .ensures) ∙ f .row .given .1) in
     record { chosen = k .pre; tables = lent-is _ (is-known (now (k .args .table)) (k .pre)) _ _ (w .size) (c .before .before .before .before .before .before .before .before .logs2 .ensures .0) (c .before .before .before .before .before .antilogs2 .ensures .0) }
 
--- src/stepping.rt:112:1
 same-length : tie.Need-same-length
 same-length c = search needs
 
--- src/stepping.rt:112:1
 returns-2 : tie.Need-returns-2
 returns-2 c = search needs
 

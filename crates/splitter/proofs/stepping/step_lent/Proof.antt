@@ -9,142 +9,117 @@ use Rattle.splitter.proofs.Replacing.{reads, split-asks, sizes, replace
 use borrow.Author.Needs.{needs}
 use Rattle.splitter.proofs.stepping.step_lent.Statement.{statement}
 use Rattle.splitter.proofs.stepping.step_lent.Tie as tie
-use Rattle.splitter.proofs.stepping.step_lent.Reads as reads
-use Rattle.splitter.proofs.stepping.step_lent.Lts as lts
-use Rattle.slots.proofs.splice.Reads as splice-reads
-use Rattle.splitter.proofs.stepping.parts_of.Reads as parts-of-reads
 
--- src/stepping.rt:97:13
 slice-read-m : tie.Need-slice-read-m
 slice-read-m c =
     let k = c .before .before .before .before in
     let r = reads (now (k .args .table)) (k .pre .chosen) in
     omega arith
 
--- src/stepping.rt:98:18
 slice-read-others : tie.Need-slice-read-others
 slice-read-others c =
     let k = c .before .before .before .before .before in
     let r = reads (now (k .args .table)) (k .pre .chosen) in
     omega arith
 
--- src/stepping.rt:98:18
 sub-others : tie.Need-sub-others
 sub-others c =
     let k = c .before .before .before .before .before in
     let r = reads (now (k .args .table)) (k .pre .chosen) in
     omega arith
 
--- src/stepping.rt:99:17
 slice-read-taken : tie.Need-slice-read-taken
 slice-read-taken c =
     let k = c .before .before .before .before .before .before in
     let r = reads (now (k .args .table)) (k .pre .chosen) in
     omega arith
 
--- src/stepping.rt:99:17
 add-taken : tie.Need-add-taken
 add-taken c =
     let k = c .before .before .before .before .before .before in
     let r = reads (now (k .args .table)) (k .pre .chosen) in
     omega arith
 
--- src/stepping.rt:100:17
 mul-level : tie.Need-mul-level
 mul-level c =
     let k = c .before .before .before .before .before .before in
     let r = reads (now (k .args .table)) (k .pre .chosen) in
     omega arith
 
--- src/stepping.rt:100:17
 slice-read-level : tie.Need-slice-read-level
 slice-read-level c =
     let k = c .before .before .before .before .before .before .before in
     let r = reads (now (k .args .table)) (k .pre .chosen) in
     omega arith
 
--- src/stepping.rt:101:19
 add-d : tie.Need-add-d
 add-d c =
     let k = c .before .before .before .before .before .before .before in
     let r = reads (now (k .args .table)) (k .pre .chosen) in
     omega arith
 
--- src/stepping.rt:101:13
 mul-d : tie.Need-mul-d
 mul-d c =
     let k = c .before .before .before .before .before .before .before in
     let r = reads (now (k .args .table)) (k .pre .chosen) in
     omega arith
 
--- src/stepping.rt:101:13
 slice-read-d : tie.Need-slice-read-d
 slice-read-d c =
     let k = c .before .before .before .before .before .before .before .before in
     let r = reads (now (k .args .table)) (k .pre .chosen) in
     omega arith
 
--- src/stepping.rt:101:13
 cast-d : tie.Need-cast-d
 cast-d c =
     let k = c .before .before .before .before .before .before .before .before in
     let r = reads (now (k .args .table)) (k .pre .chosen) in
     omega arith
 
--- src/stepping.rt:102:13
 add-b : tie.Need-add-b
 add-b c =
     let k = c .before .before .before .before .before .before .before .before in
     let r = reads (now (k .args .table)) (k .pre .chosen) in
     omega arith
 
--- src/stepping.rt:103:13
 add-e : tie.Need-add-e
 add-e c =
     let k = c .before .before .before .before .before .before .before .before in
     let r = reads (now (k .args .table)) (k .pre .chosen) in
     omega arith
 
--- src/stepping.rt:105:41
 mul-parts-of : tie.Need-mul-parts-of
 mul-parts-of c =
     let k = c .before .before .before .before .before .before .before .before in
     let r = reads (now (k .args .table)) (k .pre .chosen) in
     omega arith
 
--- src/stepping.rt:105:41
 sub-parts-of : tie.Need-sub-parts-of
 sub-parts-of c = search needs
 
--- src/stepping.rt:105:41
 part-parts-of-start : tie.Need-part-parts-of-start
 part-parts-of-start c = search needs
 
--- src/stepping.rt:105:41
 part-parts-of-end : tie.Need-part-parts-of-end
 part-parts-of-end c =
     let k = c .before .before .before .before .before .before .before .before .before in
     let r = reads (now (k .args .table)) (k .pre .chosen) in
     omega arith
 
--- src/stepping.rt:105:62
 slice-aggregate-parts-of : tie.Need-slice-aggregate-parts-of
 slice-aggregate-parts-of c = search needs
 
--- src/stepping.rt:105:9
 parts-of-requires : tie.Need-parts-of-requires
 parts-of-requires c κs =
     let k = c .before .before .before .before .before .before .before .before .before .before .before in
     (split-asks (now (k .args .table)) (k .pre .chosen) (k .pre .tables), omega arith)
 
--- src/stepping.rt:106:29
 add-splice : tie.Need-add-splice
 add-splice c =
     let k = c .before .before .before .before .before .before .before .before .before .before .before .before .before .before in
     let r = reads (now (k .args .table)) (k .pre .chosen) in
     omega arith
 
--- src/stepping.rt:106:36
 array-share-prefix-w : tie.Need-array-share-prefix-w
 array-share-prefix-w c =
     let k = c .before .before .before .before .before .before .before .before .before .before .before .before .before .before in
@@ -153,7 +128,6 @@ array-share-prefix-w c =
     let z = sizes (now (k .args .table)) (k .pre .chosen) p in
     search needs
 
--- src/stepping.rt:106:36
 slice-aggregate-splice : tie.Need-slice-aggregate-splice
 slice-aggregate-splice c =
     let k = c .before .before .before .before .before .before .before .before .before .before .before .before .before .before .before in
@@ -162,7 +136,6 @@ slice-aggregate-splice c =
     let z = sizes (now (k .args .table)) (k .pre .chosen) p in
     sym (length-take-le _ _ (search needs))
 
--- src/stepping.rt:106:5
 splice-requires : tie.Need-splice-requires
 splice-requires c κs =
     let k = c .before .before .before .before .before .before .before .before .before .before .before .before .before .before .before in
@@ -171,7 +144,6 @@ splice-requires c κs =
     let z = sizes (now (k .args .table)) (k .pre .chosen) p in
     simp length-take (omega arith)
 
--- src/stepping.rt:107:27
 sub-table : tie.Need-sub-table
 sub-table c =
     let k = c .before .before .before .before .before .before .before .before .before .before .before .before .before .before .before .before .before .before in
@@ -180,7 +152,6 @@ sub-table c =
     let z = sizes (now (k .args .table)) (k .pre .chosen) p in
     omega arith
 
--- src/stepping.rt:107:25
 cast-table : tie.Need-cast-table
 cast-table c =
     let k = c .before .before .before .before .before .before .before .before .before .before .before .before .before .before .before .before .before .before in
@@ -189,7 +160,6 @@ cast-table c =
     let z = sizes (now (k .args .table)) (k .pre .chosen) p in
     omega arith
 
--- src/stepping.rt:107:16
 add-table : tie.Need-add-table
 add-table c =
     let k = c .before .before .before .before .before .before .before .before .before .before .before .before .before .before .before .before .before .before in
@@ -198,7 +168,6 @@ add-table c =
     let z = sizes (now (k .args .table)) (k .pre .chosen) p in
     omega arith
 
--- src/stepping.rt:107:5
 slice-write-table : tie.Need-slice-write-table
 slice-write-table c =
     let k = c .before .before .before .before .before .before .before .before .before .before .before .before .before .before .before .before .before .before in
@@ -208,7 +177,6 @@ slice-write-table c =
     let l = replaced-long (now (k .args .table)) (k .pre .chosen) p (length-take-le _ _ (search needs)) (c .before .before .splice .ensures) in
     omega arith
 
--- src/stepping.rt:108:5
 slice-write-table-2 : tie.Need-slice-write-table-2
 slice-write-table-2 c =
     let k = c .before .before .before .before .before .before .before .before .before .before .before .before .before .before .before .before .before .before in
@@ -218,11 +186,9 @@ slice-write-table-2 c =
     let l = replaced-long (now (k .args .table)) (k .pre .chosen) p (length-take-le _ _ (search needs)) (c .before .before .splice .ensures) in
     simp length-set (omega arith)
 
--- src/stepping.rt:93:1
 same-length : tie.Need-same-length
 same-length c = search needs
 
--- src/stepping.rt:93:1
 returns : tie.Need-returns
 returns c =
     let k = c .before .before .before .before .before .before .before .before .before .before .before .before .before .before .before .before .before .before in

@@ -7,47 +7,34 @@ use Rattle.splitter.proofs.Commons.{level-fits, level-small, traced}
 use borrow.Author.Needs.{needs}
 use Rattle.splitter.proofs.stepping.trace_at.Statement.{statement}
 use Rattle.splitter.proofs.stepping.trace_at.Tie as tie
-use Rattle.splitter.proofs.stepping.trace_at.Reads as reads
-use Rattle.splitter.proofs.stepping.trace_at.Lts as lts
-use Rattle.polynomial.proofs.powers.trace_of.Reads as trace-of-reads
 
--- src/stepping.rt:29:13
 add-e : tie.Need-add-e
 add-e c = search needs
 
--- src/stepping.rt:30:13
 mul-b : tie.Need-mul-b
 mul-b c = search needs
 
--- src/stepping.rt:30:13
 shared-slice-read-b : tie.Need-shared-slice-read-b
 shared-slice-read-b c = level-fits (c .before .before .before .before .before .pre .0)
 
--- src/stepping.rt:34:39
 array-borrow-prefix-row : tie.Need-array-borrow-prefix-row
 array-borrow-prefix-row c = search needs
 
--- src/stepping.rt:34:39
 slice-aggregate-trace-of : tie.Need-slice-aggregate-trace-of
 slice-aggregate-trace-of c = sym (length-take-le _ _ (omega (arith, c .before .before .before .before .before .before .pre .0 .few)))
 
--- src/stepping.rt:34:54
 array-borrow-prefix-w : tie.Need-array-borrow-prefix-w
 array-borrow-prefix-w c = search needs
 
--- src/stepping.rt:34:54
 slice-aggregate-trace-of-2 : tie.Need-slice-aggregate-trace-of-2
 slice-aggregate-trace-of-2 c = sym (length-take-le _ _ (omega (arith, c .before .before .before .before .before .before .before .pre .0 .few)))
 
--- src/stepping.rt:34:67
 array-borrow-prefix-s : tie.Need-array-borrow-prefix-s
 array-borrow-prefix-s c = search needs
 
--- src/stepping.rt:34:67
 slice-aggregate-trace-of-3 : tie.Need-slice-aggregate-trace-of-3
 slice-aggregate-trace-of-3 c = sym (length-take-le _ _ (omega (arith, c .before .before .before .before .before .before .before .before .pre .0 .few)))
 
--- src/stepping.rt:34:5
 trace-of-requires : tie.Need-trace-of-requires
 trace-of-requires c κs =
     let s = c .before .before .before .before .before .before .before .before .before .pre in (
@@ -62,11 +49,9 @@ trace-of-requires c κs =
       s .1,
     )
 
--- src/stepping.rt:24:1
 same-length : tie.Need-same-length
 same-length c = search needs
 
--- src/stepping.rt:24:1
 returns : tie.Need-returns
 returns c = traced (c .before .before .before .before .before .before .before .before .before .before .before .before .before .before .before .pre .0) (c .before .before .before .before .before .trace-of .ensures)
 
