@@ -18,15 +18,18 @@ use Rattle.refusals.specs.Rows.{known}
 use Rattle.refusals.proofs.Order.{passes}
 use Rattle.groups.specs.Layout.{byFactor}
 use Rattle.groups.specs.Table.{encode, slotsFor, sound}
-use Rattle.groups.specs.Splitting.{isDone, stuck, rootsAt, slotsDone, slotsStuck, slotsStepped, slotsAfter}
+use Rattle.groups.specs.Splitting.{isDone, stuck, rootsAt, slotsRoots, slotsDone, slotsStuck, slotsStepped, slotsAfter}
 use Rattle.groups.specs.Demand.{Demand3, stepCount, groupsAfter}
 use Rattle.groups.proofs.Layouts.{byFactor-lawful}
-use Rattle.groups.proofs.Soundness.{done-encode, stuck-encode}
+use Rattle.groups.proofs.Soundness.{done-encode, stuck-encode, roots-encode}
 use Rattle.groups.proofs.Keeping.{sound-length}
 use Rattle.groups.proofs.Demand.{demand-3, steps-to-done}
 use Rattle.polynomial.specs.Lent.{Lent}
 use Rattle.splitter.specs.Calls.{limit, slots, isSound, stepTests}
-use Rattle.finder.specs.Solving.{begunAfter, Stepping, RunOut}
+use Rattle.finder.specs.Solving.{begunAfter, Stepping, RunOut, Solvable}
+use Rattle.field.specs.Field.{fieldAt}
+use Rattle.field.specs.Tables.{Halves}
+use Rattle.splitter.specs.Finishing.{Listable}
 
 -- a refusal that is given does not pass
 pub given-passed : {k : ℕ} {ts : List (ℕ × Bool)} → Given k ts → Passed ts → ⊥
@@ -138,3 +141,46 @@ module _ {m c : ℕ} {f table : List ℕ} (s : Stepping m c f table) where
   run-end h =
       let e : n ≡ count = steps-to-done m (s .field) c (s .least) f n (s .taken) (sym done-now ∙ h) in
       record { slots-are = s .slots-are ∙ ap (begunAfter m c f) e }
+
+-- ---- at the end
+
+-- the table that is done is a begun one too
+pub out-stepping : {m c : ℕ} {f table table′ : List ℕ} → Stepping m c f table → RunOut m c f table′ → Stepping m c f table′
+out-stepping {m} {c} {f} {table′ = table′} s r =
+    let n : ℕ = stepCount m c (rootsAt m f) in
+    let k : getD table′ 3 0 ≡ n = ap (λ (l : List ℕ). getD l 3 0) (r .slots-are) ∙ taken-at m c f n in
+    record {
+      field = s .field;
+      least = s .least;
+      most = s .most;
+      few = s .few;
+      taken = subst (λ (i : ℕ). i ≤ n) (sym k) (omega arith);
+      slots-are = r .slots-are ∙ ap (begunAfter m c f) (sym k);
+    }
+
+pub out-taken : {m c : ℕ} {f table : List ℕ} → RunOut m c f table → getD table 3 0 ≡ stepCount m c (rootsAt m f)
+out-taken {m} {c} {f} r = ap (λ (l : List ℕ). getD l 3 0) (r .slots-are) ∙ taken-at m c f (stepCount m c (rootsAt m f))
+
+-- what finish asks of it
+pub out-asks : {m c : ℕ} {f ls ts hs table table′ roots : List ℕ} → Solvable m c f ls ts hs table roots → RunOut m c f table′
+    → Listable ls ts hs table′ roots
+unfolding n
+out-asks {m} {c} {f} {hs = hs} {table′ = table′} g r =
+    let s = g .running .stepping in
+    let t = out-stepping s r in
+    record {
+      given = record {
+        sound = sound-now t;
+        done = ap (slotsDone byFactor) (r .slots-are) ∙ done-encode byFactor-lawful slots (groupsAfter m c (rootsAt m f) (stepCount m c (rootsAt m f)))
+            ∙ demand-3 m (s .field) c (s .least) f .end;
+        room = g .room;
+      };
+      tables = lent-now t (g .running .tables);
+      halves = subst (λ (w : ℕ). Halves (fieldAt w) hs) (sym (width-now t)) (g .halves);
+    }
+
+-- what finish lists is the roots
+pub out-roots : {m c : ℕ} {f table table′ : List ℕ} → Stepping m c f table → RunOut m c f table′ → slotsRoots byFactor table′ ≡ rootsAt m f
+out-roots {m} {c} {f} s r =
+    let k : ℕ = stepCount m c (rootsAt m f) in
+    ap (slotsRoots byFactor) (r .slots-are) ∙ roots-encode byFactor-lawful slots (groupsAfter m c (rootsAt m f) k) ∙ demand-3 m (s .field) c (s .least) f .finish k

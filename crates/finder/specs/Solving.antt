@@ -2,6 +2,7 @@
 --   begunAfter   the slots of a begun polynomial's table after n steps, told by groups
 --   Stepping     a table that begin made of an accepted polynomial and our steps alone wrote
 --   Running      what the engine may take for granted;  RunOut  what it leaves: the table after as many steps as groups outnumber c
+--   Solvable, SolvedOut   the same with the list: the roots at its front, their number and that of the steps
 -- Assumes nothing.
 use mathlib.Core.Path.{_≡_}
 use mathlib.Core.Bool.{true}
@@ -14,7 +15,11 @@ use Rattle.groups.specs.Table.{encode}
 use Rattle.groups.specs.Splitting.{rootsAt}
 use Rattle.groups.specs.Demand.{stepCount, groupsAfter}
 use Rattle.polynomial.specs.Lent.{Lent}
+use Rattle.slots.specs.Lists.{copied}
+use Rattle.field.specs.Field.{fieldAt}
+use Rattle.field.specs.Tables.{Halves}
 use Rattle.splitter.specs.Calls.{limit, slots}
+use Rattle.finder.specs.declared.solving.Counts.{Counts}
 
 abbrev pub begunAfter : ℕ → ℕ → List ℕ → ℕ → List ℕ
 begunAfter m c f n = encode byFactor slots (groupsAfter m c (rootsAt m f) n)
@@ -33,3 +38,13 @@ pub record Running (m c : ℕ) (f ls ts table : List ℕ) : Type 0 where
 
 pub record RunOut (m c : ℕ) (f table : List ℕ) : Type 0 where
   pub slots-are : table ≡ begunAfter m c f (stepCount m c (rootsAt m f))
+
+pub record Solvable (m c : ℕ) (f ls ts hs table roots : List ℕ) : Type 0 where
+  pub running : Running m c f ls ts table
+  pub halves : Halves (fieldAt m) hs
+  pub room : limit ≤ length roots
+
+pub record SolvedOut (m c : ℕ) (f roots : List ℕ) (r : Counts) (roots′ : List ℕ) : Type 0 where
+  pub count : r .s ≡ length (rootsAt m f)
+  pub steps : r .steps ≡ stepCount m c (rootsAt m f)
+  pub slots-are : roots′ ≡ copied (rootsAt m f) roots
