@@ -1,2 +1,3 @@
 pub mod Trying
+pub mod Admitting
 pub mod Running

@@ -42,7 +42,7 @@ after-more zero l = refl
 after-more (suc n) l = after-more n (slotsStepped byFactor l)
 
 -- slot 3 counts the steps
-taken-at : (m c : ℕ) (f : List ℕ) (n : ℕ) → getD (begunAfter m c f n) 3 0 ≡ n
+pub taken-at : (m c : ℕ) (f : List ℕ) (n : ℕ) → getD (begunAfter m c f n) 3 0 ≡ n
 unfolding encode
 taken-at m c f n = refl
 

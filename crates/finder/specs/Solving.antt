@@ -3,12 +3,15 @@
 --   Stepping     a table that begin made of an accepted polynomial and our steps alone wrote
 --   Running      what the engine may take for granted;  RunOut  what it leaves: the table after as many steps as groups outnumber c
 --   Solvable, SolvedOut   the same with the list: the roots at its front, their number and that of the steps
+--   Admitted   what passed the whole call's tests, in a field of `size` elements
 -- Assumes nothing.
 use mathlib.Core.Path.{_≡_}
 use mathlib.Core.Bool.{true}
-use mathlib.Core.List.{List}
-use Prim.Native.Nat.{ℕ, _≤_}
+use mathlib.Core.List.{List, [], _∷_}
+use Prim.Native.Nat.{ℕ, _^_, _≤_}
+use lib.Dec.{ltb}
 use lib.ListN.{length, getD}
+use Rattle.refusals.specs.Order.{Passed}
 use Rattle.refusals.specs.Rows.{known}
 use Rattle.groups.specs.Layout.{byFactor}
 use Rattle.groups.specs.Table.{encode}
@@ -18,7 +21,7 @@ use Rattle.polynomial.specs.Lent.{Lent}
 use Rattle.slots.specs.Lists.{copied}
 use Rattle.field.specs.Field.{fieldAt}
 use Rattle.field.specs.Tables.{Halves}
-use Rattle.splitter.specs.Calls.{limit, slots}
+use Rattle.splitter.specs.Calls.{limit, slots, polynomialTests}
 use Rattle.finder.specs.declared.solving.Counts.{Counts}
 
 abbrev pub begunAfter : ℕ → ℕ → List ℕ → ℕ → List ℕ
@@ -48,3 +51,7 @@ pub record SolvedOut (m c : ℕ) (f roots : List ℕ) (r : Counts) (roots′ : L
   pub count : r .s ≡ length (rootsAt m f)
   pub steps : r .steps ≡ stepCount m c (rootsAt m f)
   pub slots-are : roots′ ≡ copied (rootsAt m f) roots
+
+pub record Admitted (m size cutoff : ℕ) (f roots : List ℕ) : Type 0 where
+  pub passed : Passed (polynomialTests m f ((6, ltb 3 cutoff) ∷ (7, ltb (length roots) limit) ∷ []))
+  pub elements : size ≡ 2 ^ m

@@ -1,5 +1,18 @@
 // The whole call's engine: the table of a begun polynomial is stepped until it is done, over tables that are lent once.
-ghost use Rattle.finder.specs.Solving.{Running, RunOut, Solvable, SolvedOut};
+ghost use mathlib.Core.Path.{_≡_};
+ghost use mathlib.Core.List.{[], _∷_};
+ghost use lib.Dec.{ltb};
+ghost use Rattle.refusals.specs.Admitting.{Admits};
+ghost use Rattle.groups.specs.Cutoff.{inForce};
+ghost use Rattle.splitter.specs.Calls.{limit, polynomialTests};
+ghost use Rattle.finder.specs.Calls.{solveOutcome, solveTests, rootMemory, paperSolved};
+ghost use Rattle.finder.specs.Solving.{Running, RunOut, Solvable, SolvedOut, Admitted};
+use crate::Solved;
+use refusals::Admission;
+use refusals::Refusal;
+use splitter::beginning::admit_polynomial;
+use splitter::beginning::begin;
+use splitter::beginning::in_force;
 use splitter::finishing::finish_lent;
 use splitter::judging::Verdict;
 use splitter::judging::judge;
@@ -48,5 +61,65 @@ pub fn solve_lent(
     Counts {
         s: s as u16,
         steps: table[3],
+    }
+}
+
+// The roots and steps of an accepted polynomial, in a field of `size` elements. The field's tables are lent here.
+fn solve_in(m: u16, size: usize, coeffs: &[u16], cutoff: u16, roots: &mut [u16]) -> Counts
+    requires { ⌜ Admitted m size cutoff (now coeffs) (now roots) ⌝ }
+    ensures { λ r. ⌜ SolvedOut m (inForce cutoff) (now (coeffs .entry)) (now (roots .entry)) r (now (roots .exit)) ⌝ }
+{
+    let mut logs = [0u16; 2048];
+    let mut antilogs = [0u16; 6141];
+    let mut halves = [0u16; 2048];
+    let mut table = [0u16; 100];
+    tables::lent::logs(m, &mut logs);
+    tables::lent::antilogs(m, &mut antilogs);
+    tables::lent::halves(m, &mut halves);
+    begin(m, coeffs, cutoff, &mut table);
+    let c = in_force(cutoff);
+    let end = 3 * (size - 1);
+    solve_lent(
+        m,
+        c,
+        coeffs,
+        &logs[..size],
+        &antilogs[..end],
+        &halves[..size],
+        &mut table,
+        roots,
+    )
+}
+
+// Refusals 1 to 7 of the whole call.
+fn admit(m: u16, coeffs: &[u16], cutoff: u16, room: usize) -> Admission
+    ensures { λ r. ⌜ Admits (polynomialTests m (now (coeffs .entry)) ((6, ltb 3 cutoff) ∷ (7, ltb room limit) ∷ [])) m r ⌝ }
+{
+    let found = admit_polynomial(m, coeffs);
+    let Admission::In(row) = found else {
+        return found;
+    };
+    if 3 < cutoff {
+        return Admission::Out(Refusal::Cutoff);
+    }
+    if room < 32 {
+        return Admission::Out(Refusal::Room);
+    }
+    Admission::In(row)
+}
+
+// The whole call: all distinct roots, ascending, at the front of the list, and the number of roots and of steps.
+pub fn solve(m: u16, coeffs: &[u16], cutoff: u16, roots: &mut [u16]) -> Solved
+    ensures { λ r. ⌜ (paperSolved r ≡ solveOutcome m cutoff (now (coeffs .entry)) (now (roots .entry))) × (now (roots .exit) ≡ rootMemory (solveTests m cutoff (now (coeffs .entry)) (now (roots .entry))) m (now (coeffs .entry)) (now (roots .entry))) ⌝ }
+{
+    match admit(m, coeffs, cutoff, roots.len()) {
+        Admission::Out(k) => Solved::NotSolved(k),
+        Admission::In(row) => {
+            let n = solve_in(m, row.size as usize, coeffs, cutoff, roots);
+            Solved::Found {
+                s: n.s,
+                steps: n.steps,
+            }
+        }
     }
 }

@@ -1,0 +1,139 @@
+-- The whole call's and the search's refusals, and what is known of what was let in.
+--   roots-few                         a polynomial that was let in has no more roots than the limit
+--   cutoff-given, room-given, solve-in  which refusal the further tests show
+--   admitted-in                       what is known of the polynomial;  cutoff-most  and of the cutoff
+--   begin-passes, begun-stepping      begin refuses nothing, and the table it leaves can be stepped
+--   solvable                          with the tables lent, the engine can run;  solved-at  what it gives at the cutoff in force
+-- Assumes nothing.
+use mathlib.Core.Path.{_≡_, refl, sym, ap, _∙_, subst}
+use mathlib.Core.Bool.{Bool, true, false, not}
+use mathlib.Core.Option.{Option, none, some}
+use mathlib.Core.List.{List, [], _∷_}
+use Prim.Native.Nat.{ℕ, _-_, _*_, _^_, _≤_, _<_}
+use native.Mathlib.Omega.{arith}
+use borrow.Author.Tests.{eq-eqb, lt-ltb, le-ltb, ltb-false}
+use lib.Dec.{eqb, ltb}
+use lib.Pow.{pow-pos}
+use lib.ListN.{length, take, getD}
+use Rattle.refusals.specs.Order.{Given, Passed}
+use Rattle.refusals.specs.Order.Passed.{none as none-left}
+use Rattle.refusals.proofs.Order.{holds, fails, passes, failed, others, written}
+use Rattle.refusals.specs.Rows.{known}
+use Rattle.algebra.specs.Field.{OnNumbers}
+use Rattle.algebra.specs.Routines.{norm}
+use Rattle.algebra.proofs.NumberMonic.{norm-made, norm-none}
+use Rattle.algebra.proofs.RootList.{rootsOf-degree}
+use Rattle.algebra.proofs.StaysBelow.{below-from}
+use Rattle.slots.specs.Bounded.{allZero}
+use Rattle.slots.proofs.Bounded.{allBelow-exactly}
+use Rattle.field.specs.Field.{numbers, fieldAt}
+use Rattle.field.specs.Tables.{Logs, Antilogs, Halves}
+use Rattle.groups.specs.Layout.{byFactor}
+use Rattle.groups.specs.Cutoff.{houseDefault, inForce}
+use Rattle.groups.specs.Splitting.{rootsAt, slotsBegun}
+use Rattle.groups.specs.Demand.{stepCount}
+use Rattle.groups.proofs.HouseDefault.{inForce-least, inForce-most}
+use Rattle.groups.proofs.Demand.{begin-slots}
+use Rattle.groups.proofs.Fields.{known-field}
+use Rattle.polynomial.specs.Lent.{Lent}
+use Rattle.splitter.specs.Calls.{limit, slots, polynomialTests, beginTests, beginMemory}
+use Rattle.splitter.proofs.PolynomialTests.{PolynomialIn, polynomial-told, passed-given, passed-more}
+use Rattle.splitter.proofs.Lending.{logs-room, lent-is}
+use Rattle.finder.specs.Solving.{begunAfter, Stepping, Solvable, SolvedOut, Admitted}
+use Rattle.finder.specs.declared.solving.Counts.{Counts}
+use Rattle.finder.proofs.Running.{taken-at}
+
+-- ---- the roots of what was let in
+
+-- no more than the limit
+pub roots-few : {m : ℕ} {f : List ℕ} → PolynomialIn m f → length (rootsAt m f) ≤ limit
+roots-few {m} {f} t = go (norm (numbers (fieldAt m)) (length f) f) refl
+  where
+    N : OnNumbers (numbers (fieldAt m)) (2 ^ m)
+    N = known-field m (t .field) .numbers
+
+    go : (o : Option (List ℕ)) → norm (numbers (fieldAt m)) (length f) f ≡ o → length (rootsAt m f) ≤ limit
+    go none e =
+        let zeros : allZero f ≡ true = allBelow-exactly 1 f .1 (below-from 1 f (λ i l. let z : getD f i 0 ≡ 0 = norm-none N f (t .small) e i in omega arith)) in
+        let b : _≡_ {A = Bool} true false = sym zeros ∙ t .nonzero in
+        let o : _≡_ {A = ℕ} 0 1 = cc in
+        absurd (let x : ⊥ = omega arith in x)
+    go (some s) e = omega (arith, rootsOf-degree N f (t .small) e, norm-made N f (t .small) e .shorter, t .few)
+
+-- ---- refusals 6 and 7 of the whole call
+
+module _ (m : ℕ) (cs : List ℕ) (c room : ℕ) where
+  -- the two tests behind those of a polynomial
+  abbrev further : List (ℕ × Bool)
+  further = (6, ltb 3 c) ∷ (7, ltb room limit) ∷ []
+
+  -- the cutoff is above 3
+  pub cutoff-given : Passed (polynomialTests m cs []) → 3 < c → Given 6 (polynomialTests m cs further)
+  cutoff-given p h = passed-given m cs p (holds (lt-ltb 3 c h))
+
+  -- the list has too few slots
+  pub room-given : Passed (polynomialTests m cs []) → c ≤ 3 → room < limit → Given 7 (polynomialTests m cs further)
+  room-given p h n = passed-given m cs p (fails (le-ltb 3 c h) (holds (lt-ltb room limit n)))
+
+  -- none of the seven holds
+  pub solve-in : Passed (polynomialTests m cs []) → c ≤ 3 → limit ≤ room → Passed (polynomialTests m cs further)
+  solve-in p h e = passed-more m cs p (passes (le-ltb 3 c h) (passes (le-ltb room limit e) none-left))
+
+-- ---- what was let in
+
+module _ {m size c : ℕ} {f roots : List ℕ} (g : Admitted m size c f roots) where
+  -- the polynomial
+  pub admitted-in : PolynomialIn m f
+  admitted-in = polynomial-told m f (g .passed)
+
+  six : Passed ((6, ltb 3 c) ∷ (7, ltb (length roots) limit) ∷ [])
+  six = others (others (others (others (others (g .passed)))))
+
+  -- the cutoff
+  cutoff-most : c ≤ 3
+  cutoff-most = ltb-false 3 c (failed six)
+
+  -- the list
+  pub list-room : limit ≤ length roots
+  list-room = ltb-false (length roots) limit (failed (others six))
+
+  -- the size of the field
+  pub size-fits : (1 ≤ size) × (size ≤ 2048)
+  size-fits = (omega (arith, pow-pos m, g .elements), omega (arith, logs-room m (admitted-in .field), g .elements))
+
+  -- begin refuses nothing
+  begin-passes : (table : List ℕ) → length table ≡ slots → Passed (beginTests m c f table)
+  begin-passes table e =
+      let p = g .passed in
+      passes (failed p) (passes (failed (others p)) (passes (failed (others (others p))) (passes (failed (others (others (others p))))
+      (passes (failed (others (others (others (others p))))) (passes (failed six) (passes (ap not (eq-eqb (length table) slots e)) none-left))))))
+
+  -- and the table it leaves can be stepped
+  begun-stepping : (table : List ℕ) {table′ : List ℕ} → length table ≡ slots → table′ ≡ beginMemory m c f table → Stepping m (inForce c) f table′
+  begun-stepping table {table′} l e =
+      let least : 1 ≤ inForce c = inForce-least houseDefault c (omega arith) in
+      let to : table′ ≡ begunAfter m (inForce c) f 0 =
+      e ∙ written _ _ (begin-passes table l) ∙ begin-slots m (admitted-in .field) (inForce c) least f byFactor slots in
+      let k : getD table′ 3 0 ≡ 0 = ap (λ (x : List ℕ). getD x 3 0) to ∙ taken-at m (inForce c) f 0 in
+      record {
+        field = admitted-in .field;
+        least = least;
+        most = inForce-most houseDefault c (omega arith) cutoff-most;
+        few = roots-few admitted-in;
+        taken = subst (λ (i : ℕ). i ≤ stepCount m (inForce c) (rootsAt m f)) (sym k) (omega arith);
+        slots-are = to ∙ ap (begunAfter m (inForce c) f) (sym k);
+      }
+
+  -- with the tables lent, the engine can run
+  pub solvable : (table : List ℕ) {k : ℕ} {table′ : List ℕ} (x y z : List ℕ) → Logs (fieldAt m) (take (2 ^ m) x) → Antilogs (fieldAt m) (take (3 * (2 ^ m - 1)) y)
+      → Halves (fieldAt m) (take (2 ^ m) z) → k ≡ inForce c → length table ≡ slots → table′ ≡ beginMemory m c f table
+      → Solvable m k f (take size x) (take (3 * (size - 1)) y) (take size z) table′ roots
+  solvable table {k} {table′} x y z a b h i l e = subst (λ (w : ℕ). Solvable m w f (take size x) (take (3 * (size - 1)) y) (take size z) table′ roots) (sym i) (record {
+    running = record { tables = lent-is m (admitted-in .field) x y (g .elements) a b; stepping = begun-stepping table l e };
+    halves = subst (λ (n : ℕ). Halves (fieldAt m) (take n z)) (sym (g .elements)) h;
+    room = list-room;
+  })
+
+-- what the engine gives at the cutoff in force
+pub solved-at : {m c k : ℕ} {f roots roots′ : List ℕ} {r : Counts} → k ≡ c → SolvedOut m k f roots r roots′ → SolvedOut m c f roots r roots′
+solved-at {m} {f = f} {roots} {roots′} {r} e s = subst (λ (w : ℕ). SolvedOut m w f roots r roots′) e s
