@@ -4,6 +4,7 @@
 --   admitted-in                       what is known of the polynomial;  cutoff-most  and of the cutoff
 --   begin-passes, begun-stepping      begin refuses nothing, and the table it leaves can be stepped
 --   solvable                          with the tables lent, the engine can run;  solved-at  what it gives at the cutoff in force
+--   search-given, search-in           the same of the search;  letIn-in, letIn-fits, searchable  and what is known of what it lets in
 -- Assumes nothing.
 use mathlib.Core.Path.{_≡_, refl, sym, ap, _∙_, subst}
 use mathlib.Core.Bool.{Bool, true, false, not}
@@ -39,6 +40,7 @@ use Rattle.polynomial.specs.Lent.{Lent}
 use Rattle.splitter.specs.Calls.{limit, slots, polynomialTests, beginTests, beginMemory}
 use Rattle.splitter.proofs.PolynomialTests.{PolynomialIn, polynomial-told, passed-given, passed-more}
 use Rattle.splitter.proofs.Lending.{logs-room, lent-is}
+use Rattle.finder.specs.Searching.{Searchable, LetIn}
 use Rattle.finder.specs.Solving.{begunAfter, Stepping, Solvable, SolvedOut, Admitted}
 use Rattle.finder.specs.declared.solving.Counts.{Counts}
 use Rattle.finder.proofs.Running.{taken-at}
@@ -137,3 +139,34 @@ module _ {m size c : ℕ} {f roots : List ℕ} (g : Admitted m size c f roots) w
 -- what the engine gives at the cutoff in force
 pub solved-at : {m c k : ℕ} {f roots roots′ : List ℕ} {r : Counts} → k ≡ c → SolvedOut m k f roots r roots′ → SolvedOut m c f roots r roots′
 solved-at {m} {f = f} {roots} {roots′} {r} e s = subst (λ (w : ℕ). SolvedOut m w f roots r roots′) e s
+
+-- ---- refusal 7 of the plain search
+
+module _ (m : ℕ) (cs : List ℕ) (room : ℕ) where
+  -- the list has too few slots
+  pub search-given : Passed (polynomialTests m cs []) → room < limit → Given 7 (polynomialTests m cs ((7, ltb room limit) ∷ []))
+  search-given p n = passed-given m cs p (holds (lt-ltb room limit n))
+
+  -- none of the six holds
+  pub search-in : Passed (polynomialTests m cs []) → limit ≤ room → Passed (polynomialTests m cs ((7, ltb room limit) ∷ []))
+  search-in p e = passed-more m cs p (passes (le-ltb room limit e) none-left)
+
+-- ---- what was let in
+
+module _ {m size : ℕ} {f roots : List ℕ} (g : LetIn m size f roots) where
+  -- the polynomial
+  pub letIn-in : PolynomialIn m f
+  letIn-in = polynomial-told m f (g .passed)
+
+  -- the size of the field
+  pub letIn-fits : (1 ≤ size) × (size ≤ 2048)
+  letIn-fits = (omega (arith, pow-pos m, g .elements), omega (arith, logs-room m (letIn-in .field), g .elements))
+
+  -- with the tables lent, the elements can be tried
+  pub searchable : (x y : List ℕ) → Logs (fieldAt m) (take (2 ^ m) x) → Antilogs (fieldAt m) (take (3 * (2 ^ m - 1)) y)
+      → Searchable m (take size x) (take (3 * (size - 1)) y) f roots
+  searchable x y a b = record {
+    tables = lent-is m (letIn-in .field) x y (g .elements) a b;
+    small = letIn-in .small;
+    room = omega (arith, roots-few letIn-in, ltb-false (length roots) limit (failed (others (others (others (others (others (g .passed))))))));
+  }

@@ -1,21 +1,25 @@
 -- The plain search over lent tables.
 --   Searchable   what it may take for granted: the tables, coefficients below 2^m, and room for every root
 --   SearchedOut  what it leaves: the roots at the front of the list, ascending, and their number
+--   LetIn        what passed the search's tests, in a field of `size` elements
 --   below        the roots below x
 --   Tried        the elements below x were tried: their roots stand at the front of the list, and k is their number
 --   Noted        an element x with the value v was noted: a root goes behind the k that stand there
 -- Assumes nothing.
 use mathlib.Core.Path.{_≡_}
 use mathlib.Core.Bool.{Bool}
-use mathlib.Core.List.{List}
+use mathlib.Core.List.{List, [], _∷_}
 use Prim.Native.Nat.{ℕ, _+_, _^_, _≤_}
+use lib.Dec.{ltb}
 use lib.ListN.{length, set}
+use Rattle.refusals.specs.Order.{Passed}
 use Rattle.algebra.specs.Trial.{keep, upFrom}
 use Rattle.algebra.specs.Polynomial.{Below, isRoot}
 use Rattle.field.specs.Field.{numbers, fieldAt}
 use Rattle.slots.specs.Lists.{copied}
 use Rattle.groups.specs.Splitting.{rootsAt}
 use Rattle.polynomial.specs.Lent.{Lent}
+use Rattle.splitter.specs.Calls.{limit, polynomialTests}
 
 pub record Searchable (m : ℕ) (ls ts f roots : List ℕ) : Type 0 where
   pub tables : Lent m ls ts
@@ -25,6 +29,10 @@ pub record Searchable (m : ℕ) (ls ts f roots : List ℕ) : Type 0 where
 pub record SearchedOut (m : ℕ) (f roots : List ℕ) (k : ℕ) (roots′ : List ℕ) : Type 0 where
   pub count : k ≡ length (rootsAt m f)
   pub slots : roots′ ≡ copied (rootsAt m f) roots
+
+pub record LetIn (m size : ℕ) (f roots : List ℕ) : Type 0 where
+  pub passed : Passed (polynomialTests m f ((7, ltb (length roots) limit) ∷ []))
+  pub elements : size ≡ 2 ^ m
 
 -- is f 0 at x?
 abbrev pub test : ℕ → List ℕ → ℕ → Bool

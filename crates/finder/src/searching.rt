@@ -1,10 +1,19 @@
 // The plain search: the polynomial is evaluated at every element, four side by side, so that their chains of table loads overlap.
 ghost use mathlib.Core.Path.{_≡_};
+ghost use mathlib.Core.List.{[], _∷_};
 ghost use Prim.Native.Nat.{_<_};
+ghost use lib.Dec.{ltb};
 ghost use lib.ListN.{length};
-ghost use Rattle.finder.specs.Searching.{Searchable, SearchedOut, Tried, Noted};
+ghost use Rattle.refusals.specs.Admitting.{Admits};
+ghost use Rattle.splitter.specs.Calls.{limit, polynomialTests};
+ghost use Rattle.finder.specs.Calls.{searchOutcome, searchTests, rootMemory, paperSearched};
+ghost use Rattle.finder.specs.Searching.{Searchable, SearchedOut, Tried, Noted, LetIn};
+use crate::Searched;
 use polynomial::values::evaluate;
 use polynomial::values::evaluate_four;
+use refusals::Admission;
+use refusals::Refusal;
+use splitter::beginning::admit_polynomial;
 
 // Puts the element x behind the k roots at the front of the list where its value v is 0. Returns how many there are then.
 fn note(v: u16, x: u16, roots: &mut [u16], k: u16) -> u16
@@ -50,4 +59,41 @@ pub fn search_lent(m: u16, logs: &[u16], antilogs: &[u16], f: &[u16], roots: &mu
         x += 4;
     }
     k
+}
+
+// The roots of an accepted polynomial, in a field of `size` elements. The field's tables are lent here.
+fn search_in(m: u16, size: usize, f: &[u16], roots: &mut [u16]) -> u16
+    requires { ⌜ LetIn m size (now f) (now roots) ⌝ }
+    ensures { λ k. ⌜ SearchedOut m (now (f .entry)) (now (roots .entry)) k (now (roots .exit)) ⌝ }
+{
+    let mut logs = [0u16; 2048];
+    let mut antilogs = [0u16; 6141];
+    tables::lent::logs(m, &mut logs);
+    tables::lent::antilogs(m, &mut antilogs);
+    let end = 3 * (size - 1);
+    search_lent(m, &logs[..size], &antilogs[..end], f, roots)
+}
+
+// Refusals 1 to 5 and 7 of the plain search.
+fn admit(m: u16, coeffs: &[u16], room: usize) -> Admission
+    ensures { λ r. ⌜ Admits (polynomialTests m (now (coeffs .entry)) ((7, ltb room limit) ∷ [])) m r ⌝ }
+{
+    let found = admit_polynomial(m, coeffs);
+    let Admission::In(row) = found else {
+        return found;
+    };
+    if room < 32 {
+        return Admission::Out(Refusal::Room);
+    }
+    Admission::In(row)
+}
+
+// The plain search: every element is tried, the distinct roots stand ascending at the front of the list, and their number is returned.
+pub fn search(m: u16, coeffs: &[u16], roots: &mut [u16]) -> Searched
+    ensures { λ r. ⌜ (paperSearched r ≡ searchOutcome m (now (coeffs .entry)) (now (roots .entry))) × (now (roots .exit) ≡ rootMemory (searchTests m (now (coeffs .entry)) (now (roots .entry))) m (now (coeffs .entry)) (now (roots .entry))) ⌝ }
+{
+    match admit(m, coeffs, roots.len()) {
+        Admission::Out(k) => Searched::NotSearched(k),
+        Admission::In(row) => Searched::Seen(search_in(m, row.size as usize, coeffs, roots)),
+    }
 }

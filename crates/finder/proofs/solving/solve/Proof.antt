@@ -1,9 +1,8 @@
 -- `finder::solving::solve` meets its contract: the tests decide, and the answer is that of the engine.
 -- Assumes nothing.
 use mathlib.Core.Path.{sym, ap₂, _∙_}
-use mathlib.Core.List.{List, [], _∷_}
+use mathlib.Core.List.{[], _∷_}
 use Prim.Native.Nat.{ℕ}
-use denote.Ref.{now}
 use Rattle.refusals.proofs.Admitting.{let-in, turned-away}
 use Rattle.refusals.proofs.Order.{refused, accepted, unwritten, written}
 use borrow.Author.Needs.{needs}

@@ -1,0 +1,45 @@
+-- `finder::searching::admit` meets its contract: the five tests of a polynomial, then that of the list.
+-- Assumes nothing.
+use denote.Ref.{now}
+use Rattle.refusals.proofs.Admitting.{let-in}
+use Rattle.splitter.proofs.PolynomialTests.{out-more}
+use Rattle.finder.proofs.Admitting.{search-given, search-in}
+use borrow.Author.Needs.{needs}
+use Rattle.finder.proofs.searching.admit.Statement.{statement}
+use Rattle.finder.proofs.searching.admit.Tie as tie
+
+admit-polynomial-requires : tie.Need-admit-polynomial-requires
+admit-polynomial-requires c κs = search needs
+
+enum-known-found : tie.Need-enum-known-found
+enum-known-found c = search needs
+
+enum-told : tie.Need-enum-told
+enum-told c = search needs
+
+returns : tie.Need-returns
+returns c = out-more _ (now (c .before .before .before .before .args .coeffs)) _ (c .before .before .admit-polynomial .ensures) (c .enum-told .given .1)
+
+returns-2 : tie.Need-returns-2
+returns-2 c =
+    let f = c .before in
+    let s = f .before .before .before .before .before in
+    search-given (s .args .m) (now (s .args .coeffs)) (s .args .room) (let-in (f .before .before .before .admit-polynomial .ensures) (f .before .found .given .1) .0) (c .if1 .taken)
+
+returns-3 : tie.Need-returns-3
+returns-3 c =
+    let f = c .before in
+    let s = f .before .before .before .before .before in
+    let i = let-in (f .before .before .before .admit-polynomial .ensures) (f .before .found .given .1) in
+    (search-in (s .args .m) (now (s .args .coeffs)) (s .args .room) (i .0) (c .if1 .left), i .1)
+
+pub admit-spec : {M : Type 1} → statement M
+admit-spec =
+    tie.close
+    (tie.spec
+    admit-polynomial-requires
+    enum-known-found
+    enum-told
+    returns
+    returns-2
+    returns-3)
