@@ -1,4 +1,4 @@
-/* Drives begin, step and finish of the proved library on the cases of tests/second/tables.py, and prints their lines. Lent memory stands between
+/* Drives begin, step, finish, the whole call and the search of the proved library on the cases of tests/second/tables.py, and prints their lines. Lent memory stands between
    guards, so that a write outside it is seen. */
 #include <stdint.h>
 #include <stdio.h>
@@ -8,6 +8,8 @@
 uint16_t face_begin(uint16_t m, const uint16_t *coeffs, size_t n, uint16_t cutoff, uint16_t *table, size_t slots);
 uint16_t face_step(uint16_t *table, size_t slots);
 uint16_t face_finish(const uint16_t *table, size_t slots, uint16_t *roots, size_t room);
+uint32_t face_solve(uint16_t m, const uint16_t *coeffs, size_t n, uint16_t cutoff, uint16_t *roots, size_t room);
+uint16_t face_search(uint16_t m, const uint16_t *coeffs, size_t n, uint16_t *roots, size_t room);
 
 enum { GUARD = 64, GUARDED = 0xA5A5 };
 
@@ -49,6 +51,8 @@ static void print(int op, unsigned outcome, const uint16_t *slots, size_t n)
 {
     if (outcome == 1000)
         printf("%d done |", op);
+    else if (outcome >= 100000)
+        printf("%d 0 %u %u |", op, outcome % 1000, (outcome - 100000) / 1000);
     else if (outcome >= 2000)
         printf("%d 0 %u |", op, outcome - 2000);
     else
@@ -77,6 +81,20 @@ int main(void)
             unsigned outcome = face_step(table, slots);
             print(op, outcome, table, slots);
             check(table, slots);
+        } else if (op == 3) {
+            unsigned m = word(), cutoff = word(), n = word(), room = word();
+            uint16_t *coeffs = list(n), *roots = list(room);
+            unsigned outcome = face_solve((uint16_t)m, coeffs, n, (uint16_t)cutoff, roots, room);
+            print(op, outcome, roots, room);
+            check(coeffs, n);
+            check(roots, room);
+        } else if (op == 4) {
+            unsigned m = word(), n = word(), room = word();
+            uint16_t *coeffs = list(n), *roots = list(room);
+            unsigned outcome = face_search((uint16_t)m, coeffs, n, roots, room);
+            print(op, outcome, roots, room);
+            check(coeffs, n);
+            check(roots, room);
         } else {
             unsigned slots = word(), room = word();
             uint16_t *table = list(slots), *roots = list(room);

@@ -1,4 +1,4 @@
-"""Cases and expected lines for begin, step and finish.
+"""Cases and expected lines for begin, step, finish, the whole call and the search.
 
     tables.py cases --seed S --count N > cases.bin
     tables.py lines < cases.bin
@@ -10,10 +10,13 @@ Numbers are 16 bits, low byte first, except the first byte of a case, the op:
     0 begin   m, cutoff, n, slots, n coefficients, the old table's slots
     1 step    slots, the slots
     2 finish  slots, room, the slots, the list's old contents
+    3 whole   m, cutoff, n, room, n coefficients, the list's old contents
+    4 search  m, n, room, n coefficients, the list's old contents
 
 A line is the op, the outcome (0, `done` or the number), for an accepted
-finish the number of roots, `|`, and every slot afterwards of the table (begin
-and step) or of the list (finish; its table is not written).
+finish, whole call or search the number of roots, for the whole call that of
+the steps, `|`, and every slot afterwards of the table (begin and step) or of
+the list (finish, whole and search).
 """
 
 import argparse
@@ -27,8 +30,8 @@ import field
 import polynomials
 import reference as R
 
-BEGIN, STEP, FINISH = 0, 1, 2
-OPS = ("begin", "step", "finish")
+BEGIN, STEP, FINISH, WHOLE, SEARCH = range(5)
+OPS = ("begin", "step", "finish", "whole", "search")
 GOOD = [6, 7, 0, 1]  # the paper's first figure
 
 
@@ -47,6 +50,16 @@ def pack_step(table):
 
 def pack_finish(table, lent):
     return bytes((FINISH,)) + pack_numbers([len(table), len(lent)] + list(table) + list(lent))
+
+
+def pack_whole(m, coefficients, cutoff, lent):
+    head = [m, cutoff, len(coefficients), len(lent)]
+    return bytes((WHOLE,)) + pack_numbers(head + list(coefficients) + list(lent))
+
+
+def pack_search(m, coefficients, lent):
+    head = [m, len(coefficients), len(lent)]
+    return bytes((SEARCH,)) + pack_numbers(head + list(coefficients) + list(lent))
 
 
 class Tape:
@@ -78,6 +91,14 @@ class Tape:
                 slots, room = self.numbers(2)
                 table = self.numbers(slots)
                 yield op, R.finish(table, self.numbers(room))
+            elif op == WHOLE:
+                m, cutoff, n, room = self.numbers(4)
+                coefficients = self.numbers(n)
+                yield op, R.whole(m, coefficients, cutoff, self.numbers(room))
+            elif op == SEARCH:
+                m, n, room = self.numbers(3)
+                coefficients = self.numbers(n)
+                yield op, R.search(m, coefficients, self.numbers(room))
             else:
                 sys.exit("tables.py: unknown op %d" % op)
 
@@ -283,6 +304,21 @@ class Maker:
         for slots in (1, 3, 4, 50, 200, 356):
             yield pack_begin(m, GOOD, 0, self.noise(slots))
 
+    def wholes(self, count):
+        """The whole call and the search, accepted and refused."""
+        rng, m = self.rng, self.m
+        for number in range(count):
+            f = self.polynomial()
+            room = rng.choice((32, 33, 40))
+            yield pack_whole(m, f, rng.randrange(4), self.noise(room))
+            yield pack_search(m, f, self.noise(room))
+        for degree in (m, 0, 1, 5, 13, 256 + m, 65535):
+            for f in self.bad_lists():
+                for room in (32, 31, 0):
+                    for cutoff in (0, 3, 4, 65535):
+                        yield pack_whole(degree, f, cutoff, self.noise(room))
+                    yield pack_search(degree, f, self.noise(room))
+
     def both(self, table, room=None):
         """The table for step and for finish."""
         room = self.rng.choice((32, 32, 33, 40)) if room is None else room
@@ -292,6 +328,7 @@ class Maker:
     def cases(self, count):
         rng, m = self.rng, self.m
         yield from self.begins(count)
+        yield from self.wholes(count)
         bases = []
         for number in range(count):
             tables = self.begun(self.polynomial(), rng.randrange(4))
@@ -353,7 +390,7 @@ def tally(data):
 
 
 def main():
-    parser = argparse.ArgumentParser(description="cases for begin, step and finish")
+    parser = argparse.ArgumentParser(description="cases for begin, step, finish, whole and search")
     commands = parser.add_subparsers(dest="command", required=True)
     cases = commands.add_parser("cases")
     cases.add_argument("--seed", type=int, default=1)
