@@ -1,3 +1,4 @@
 pub mod Trying
 pub mod Admitting
+pub mod Agreement
 pub mod Running
