@@ -2,3 +2,4 @@ pub mod Trying
 pub mod Admitting
 pub mod Agreement
 pub mod Running
+pub mod Coincide

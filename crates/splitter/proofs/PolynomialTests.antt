@@ -6,6 +6,7 @@
 --   given-more, out-more        a refusal of the five is given whatever tests follow
 --   passed-more                 where the five pass, the tests that follow decide: by a pass
 --   passed-given                or by a refusal
+--   passed-first, passed-rest   and where all pass, the five and those that follow do
 -- Assumes nothing.
 use mathlib.Core.Path.{_≡_, sym, ap, _∙_, subst}
 use mathlib.Core.Bool.{Bool, true, false}
@@ -125,3 +126,14 @@ passed-more m cs p q = passed-both p q
 -- or by a refusal
 pub passed-given : (m : ℕ) (cs : List ℕ) {us : List (ℕ × Bool)} {k : ℕ} → Passed (polynomialTests m cs []) → Given k us → Given k (polynomialTests m cs us)
 passed-given m cs p g = given-behind p g
+
+-- what the tests of a polynomial with others behind them say: the five pass, and so do the others
+pub passed-first : (m : ℕ) (cs : List ℕ) {us : List (ℕ × Bool)} → Passed (polynomialTests m cs us) → Passed (polynomialTests m cs [])
+passed-first m cs p =
+    let q = others p in
+    let r = others q in
+    let s = others r in
+    passes (failed p) (passes (failed q) (passes (failed r) (passes (failed s) (passes (failed (others s)) none))))
+
+pub passed-rest : (m : ℕ) (cs : List ℕ) {us : List (ℕ × Bool)} → Passed (polynomialTests m cs us) → Passed us
+passed-rest m cs p = others (others (others (others (others p))))

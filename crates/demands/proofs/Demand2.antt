@@ -1,0 +1,82 @@
+-- DEMAND 2 holds of every polynomial that the calls accept: `Demand2` of specs/Demand2.antt is the one record to read.
+--   root-list       the roots of an accepted polynomial are a root list
+--   search-passes   what the whole call accepts the search accepts;  solve-passes  and so back, at each cutoff up to 3
+--   demand-2        it holds where the whole call accepts
+--   demand-2-search and where the search does, at each cutoff up to 3
+-- Assumes nothing.
+use mathlib.Core.Path.{_≡_, refl, sym, ap, subst, _∙_}
+use mathlib.Core.Bool.{Bool, true, false}
+use mathlib.Core.List.{List, List·Memᴰ, List·Memᴰ·head, List·Memᴰ·not-nil, [], _∷_, _++_}
+use mathlib.Core.Logic.{_↔_, _≢_}
+use Prim.Native.Nat.{ℕ, _^_, _<_, _≤_}
+use native.Mathlib.Omega.{arith}
+use borrow.Author.Tests.{le-ltb, ltb-false}
+use lib.ListN.{length, take, drop}
+use lib.Seq.{take-append-seam, drop-append-seam}
+use Rattle.refusals.specs.Order.{Passed}
+use Rattle.refusals.proofs.Order.{accepted, written, passes, failed, others}
+use Rattle.algebra.specs.Field.{OnNumbers}
+use Rattle.algebra.proofs.RootList.{rootsOf-ascending, rootsOf-distinct, rootsOf-exactly, rootsOf-only}
+use Rattle.slots.specs.Lists.{copied}
+use Rattle.field.specs.Field.{numbers, fieldAt}
+use Rattle.groups.specs.Splitting.{rootsAt}
+use Rattle.groups.proofs.Fields.{known-field}
+use Rattle.splitter.proofs.PolynomialTests.{PolynomialIn, polynomial-told, passed-more, passed-first, passed-rest}
+use Rattle.finder.specs.Calls.{solveTests, searchTests, rootMemory}
+use Rattle.finder.proofs.Admitting.{roots-few}
+use Rattle.finder.proofs.Agreement.{agree-list}
+use Rattle.demands.specs.Demand2.{valueAt, RootList, Holds, Demand2}
+
+-- the roots of an accepted polynomial
+pub root-list : (m : ℕ) (f : List ℕ) → PolynomialIn m f → RootList m f (rootsAt m f)
+root-list m f t = record {
+  ascending = rootsOf-ascending (numbers (fieldAt m)) (2 ^ m) f;
+  once = rootsOf-distinct (numbers (fieldAt m)) (2 ^ m) f;
+  exactly = rootsOf-exactly N f (t .small);
+  empty = (none-at, empty-of (rootsAt m f) (λ x h. rootsOf-exactly N f (t .small) x .0 h));
+  only = λ l a e. sym (rootsOf-only N f (t .small) l a e);
+}
+  where
+    N : OnNumbers (numbers (fieldAt m)) (2 ^ m)
+    N = known-field m (t .field) .numbers
+
+    none-at : rootsAt m f ≡ [] → (x : ℕ) → x < 2 ^ m → valueAt m f x ≢ 0
+    none-at e x l z = List·Memᴰ·not-nil (subst (List·Memᴰ x) e (rootsOf-exactly N f (t .small) x .1 (l, z)))
+
+    empty-of : (l : List ℕ) → ((x : ℕ) → List·Memᴰ x l → (x < 2 ^ m) × (valueAt m f x ≡ 0)) → ((x : ℕ) → x < 2 ^ m → valueAt m f x ≢ 0) → l ≡ []
+    empty-of [] k h = refl
+    empty-of (x ∷ l) k h = let z = k x (List·Memᴰ·head refl) in absurd (h x (z .0) (z .1))
+
+-- a list copied over the front of another
+holds : (roots list after : List ℕ) → after ≡ copied roots list → Holds roots list after
+unfolding copied
+holds roots list after e = record {
+  front = ap (take (length roots)) e ∙ take-append-seam roots (drop (length roots) list);
+  behind = ap (drop (length roots)) e ∙ drop-append-seam roots (drop (length roots) list);
+}
+
+-- what the whole call accepts the search accepts
+pub search-passes : (m c : ℕ) (f list : List ℕ) → Passed (solveTests m c f list) → Passed (searchTests m f list)
+search-passes m c f list p = passed-more m f (passed-first m f p) (others (passed-rest m f p))
+
+-- and so back, at each cutoff up to 3
+pub solve-passes : (m c : ℕ) (f list : List ℕ) → c ≤ 3 → Passed (searchTests m f list) → Passed (solveTests m c f list)
+solve-passes m c f list h p = passed-more m f (passed-first m f p) (passes (le-ltb 3 c h) (passed-rest m f p))
+
+pub demand-2 : (m c : ℕ) (f list : List ℕ) → Passed (solveTests m c f list) → Demand2 m c f list
+demand-2 m c f list p =
+    let t : PolynomialIn m f = polynomial-told m f p in
+    let q : Passed (searchTests m f list) = search-passes m c f list p in
+    let h : c ≤ 3 = ltb-false 3 c (failed (passed-rest m f p)) in
+    record {
+      roots = root-list m f t;
+      few = roots-few t;
+      solve-gives = accepted _ p;
+      solve-holds = holds (rootsAt m f) list (rootMemory (solveTests m c f list) m f list) (written _ list p);
+      search-gives = accepted _ q;
+      search-holds = holds (rootsAt m f) list (rootMemory (searchTests m f list) m f list) (written _ list q);
+      agree = agree-list m c f list h;
+    }
+
+pub demand-2-search : (m c : ℕ) (f list : List ℕ) → c ≤ 3 → Passed (searchTests m f list) → Demand2 m c f list
+demand-2-search m c f list h p = demand-2 m c f list (solve-passes m c f list h p)

@@ -1,0 +1,144 @@
+-- DEMAND 3 holds of every polynomial that begin accepts: `Followed` of specs/Demand3.antt is the one record to read, and groups' `Demand3` that it cites.
+--   begun-passes   the table of the groups after so many steps passes the tests of a step
+--   demand-3-calls it holds
+-- Assumes nothing.
+use mathlib.Core.Path.{_≡_, refl, sym, ap, subst, _∙_}
+use mathlib.Core.Bool.{Bool, true, false, not, cond, _||_}
+use mathlib.Core.List.{List, [], _∷_}
+use Prim.Native.Nat.{ℕ, zero, suc, _<_, _≤_}
+use native.Mathlib.Decide.{decLe}
+use native.Mathlib.Omega.{arith}
+use borrow.Author.Tests.{eq-eqb, le-ltb, ltb-false}
+use lib.Dec.{eqb, ltb}
+use lib.ListN.{length, getD}
+use Rattle.refusals.specs.Order.{Passed}
+use Rattle.refusals.specs.Order.Passed.{none as none-left}
+use Rattle.refusals.proofs.Order.{accepted, written, passes, failed, others}
+use Rattle.slots.specs.Lists.{copied}
+use Rattle.groups.specs.Cutoff.{houseDefault, inForce}
+use Rattle.groups.specs.Layout.{byFactor}
+use Rattle.groups.specs.Splitting.{isDone, rootsAt, slotsDone, slotsStepped, slotsRoots}
+use Rattle.groups.specs.Demand.{Demand3, stepCount, groupsAfter}
+use Rattle.groups.proofs.HouseDefault.{inForce-least, inForce-most}
+use Rattle.groups.proofs.Layouts.{byFactor-lawful}
+use Rattle.groups.proofs.Soundness.{done-encode}
+use Rattle.groups.proofs.Demand.{demand-3, begin-slots}
+use Rattle.splitter.specs.Calls.{limit, slots, isSound, beginTests, beginMemory, stepTests, stepOutcome, stepMemory, finishTests, finishOutcome, finishMemory}
+use Rattle.splitter.proofs.PolynomialTests.{PolynomialIn, polynomial-told, passed-more, passed-first, passed-rest}
+use Rattle.finder.specs.Calls.{stepsAt, solveTests, rootMemory}
+use Rattle.finder.specs.Solving.{begunAfter, Stepping}
+use Rattle.finder.proofs.Admitting.{roots-few}
+use Rattle.finder.proofs.Running.{taken-at, never-refused, long-now, run-on, run-count, out-roots}
+use Rattle.demands.specs.Demand3.{afterSteps, groupsSlots, Followed}
+
+module _ (m c : ℕ) (f table : List ℕ) (p : Passed (beginTests m c f table)) where
+  -- the cutoff in force, and the number of steps
+  abbrev k : ℕ
+  k = inForce c
+
+  abbrev count : ℕ
+  count = stepsAt m c f
+
+  told : PolynomialIn m f
+  told = polynomial-told m f p
+
+  cutoff-most : c ≤ 3
+  cutoff-most = ltb-false 3 c (failed (passed-rest m f p))
+
+  least : 1 ≤ k
+  least = inForce-least houseDefault c (omega arith)
+
+  D : Demand3 m k (rootsAt m f)
+  D = demand-3 m (told .field) k least f
+
+  -- the table after n steps is one that steps alone wrote
+  stepping : (n : ℕ) → n ≤ count → Stepping m k f (begunAfter m k f n)
+  stepping n h = record {
+    field = told .field;
+    least = least;
+    most = inForce-most houseDefault c (omega arith) cutoff-most;
+    few = roots-few told;
+    taken = subst (λ (i : ℕ). i ≤ stepCount m k (rootsAt m f)) (sym (taken-at m k f n)) h;
+    slots-are = ap (begunAfter m k f) (sym (taken-at m k f n));
+  }
+
+  -- whether it is done
+  done-at : (n : ℕ) {b : Bool} → isDone (groupsAfter m k (rootsAt m f) n) ≡ b → slotsDone byFactor (begunAfter m k f n) ≡ b
+  done-at n e = done-encode byFactor-lawful slots (groupsAfter m k (rootsAt m f) n) ∙ e
+
+  -- what a step answers and leaves
+  step-answers : (n : ℕ) (b : Bool) → n ≤ count → slotsDone byFactor (begunAfter m k f n) ≡ b → stepOutcome (begunAfter m k f n) ≡ (0, cond b 1 0 ∷ [])
+  step-answers n b h e = accepted _ (never-refused (stepping n h)) ∙ ap (λ (d : Bool). (0, cond d 1 0 ∷ [])) e
+
+  step-leaves : (n : ℕ) (b : Bool) → n ≤ count → slotsDone byFactor (begunAfter m k f n) ≡ b
+      → stepMemory (begunAfter m k f n) ≡ cond b (begunAfter m k f n) (slotsStepped byFactor (begunAfter m k f n))
+  step-leaves n b h e =
+      written _ _ (never-refused (stepping n h)) ∙ ap (λ (d : Bool). cond d (begunAfter m k f n) (slotsStepped byFactor (begunAfter m k f n))) e
+
+  -- a step that is taken goes to the next table
+  next : (n : ℕ) → n < count → stepMemory (begunAfter m k f n) ≡ begunAfter m k f (suc n)
+  next n h =
+      let l : n ≤ count = omega arith in
+      let s = stepping n l in
+      let d : slotsDone byFactor (begunAfter m k f n) ≡ false = done-at n (D .before n h .0) in
+      let i : getD (slotsStepped byFactor (begunAfter m k f n)) 3 0 ≡ suc n = run-count s d refl ∙ ap suc (taken-at m k f n) in
+      step-leaves n false l d ∙ run-on s d refl .slots-are ∙ ap (begunAfter m k f) i
+
+  begun : List ℕ
+  begun = beginMemory m c f table
+
+  each : (n : ℕ) → n ≤ count → afterSteps n begun ≡ begunAfter m k f n
+  unfolding afterSteps begun
+  each zero h = written _ table p ∙ begin-slots m (told .field) k least f byFactor slots
+  each (suc n) h = ap stepMemory (each n (omega arith)) ∙ next n (omega arith)
+
+  done-end : slotsDone byFactor (begunAfter m k f count) ≡ true
+  done-end = done-at count (D .end)
+
+  -- nothing is written any more
+  still : (n : ℕ) → count ≤ n → afterSteps n begun ≡ begunAfter m k f count
+  unfolding afterSteps
+  still zero h = let e : 0 ≡ count = omega arith in each zero (omega arith) ∙ ap (begunAfter m k f) e
+  still (suc n) h = go (decLe count n) (λ l. ap stepMemory (still n l) ∙ step-leaves count true (omega arith) done-end)
+    where
+      go : Dec (count ≤ n) → (count ≤ n → stepMemory (afterSteps n begun) ≡ begunAfter m k f count) → stepMemory (afterSteps n begun) ≡ begunAfter m k f count
+      go (yes l) on = on l
+      go (no l) on = let e : suc n ≡ count = omega arith in each (suc n) (omega arith) ∙ ap (begunAfter m k f) e
+
+  -- the table at the end, for finish
+  end-roots : slotsRoots byFactor (begunAfter m k f count) ≡ rootsAt m f
+  end-roots = out-roots (stepping count (omega arith)) (record { slots-are = refl })
+
+  finish-passes : (list : List ℕ) → limit ≤ length list → Passed (finishTests (begunAfter m k f count) list)
+  finish-passes list h =
+      let s = stepping count (omega arith) in
+      let a : not (eqb (length (begunAfter m k f count)) slots) ≡ false = ap not (eq-eqb (length (begunAfter m k f count)) slots (long-now s)) in
+      let b : ltb (length list) limit ≡ false = le-ltb (length list) limit h in
+      passes (rw a (rw b refl)) (passes (ap not (D .sounds byFactor-lawful limit (s .most) (s .few) count (omega arith))) (passes (ap not done-end) none-left))
+
+  solve-passes : (list : List ℕ) → limit ≤ length list → Passed (solveTests m c f list)
+  solve-passes list h =
+      passed-more m f (passed-first m f p) (passes (failed (passed-rest m f p)) (passes (le-ltb (length list) limit h) none-left))
+
+  at-end : afterSteps count begun ≡ begunAfter m k f count
+  at-end = each count (omega arith)
+
+  lists : (list : List ℕ) → limit ≤ length list → finishMemory (afterSteps count begun) list ≡ copied (rootsAt m f) list
+  lists list h =
+      ap (λ (t : List ℕ). finishMemory t list) at-end ∙ written _ list (finish-passes list h) ∙ ap (λ (r : List ℕ). copied r list) end-roots
+
+  pub demand-3-calls : Followed m c f table
+  unfolding begun
+  demand-3-calls = record {
+    groups = D;
+    begun = accepted [] p;
+    each = each;
+    taken = λ n h. ap stepOutcome (each n (omega arith)) ∙ step-answers n false (omega arith) (done-at n (D .before n h .0));
+    done = λ n h. ap stepOutcome (still n h) ∙ step-answers count true (omega arith) done-end;
+    still = still;
+    bound = D .bound;
+    finish-gives = λ list h. ap (λ (t : List ℕ). finishOutcome t list) at-end ∙ accepted _ (finish-passes list h) ∙ ap (λ (r : List ℕ). (0, length r ∷ [])) end-roots;
+    finish-lists = lists;
+    whole-gives = λ list h. accepted _ (solve-passes list h);
+    whole-lists = λ list h. written _ list (solve-passes list h) ∙ sym (lists list h);
+  }

@@ -1,0 +1,45 @@
+-- DEMAND 2: for every accepted polynomial the list holds each field element at which it is zero, once, ascending, and no other. The trace engine and a plain
+-- trial of every element agree.
+--   valueAt    the value of a polynomial at an element of the field of degree m
+--   RootList   a list is the root list of f
+--   Holds      a root list fills the front of a lent list, and what is behind it is as it was
+--   Demand2    the whole call and the search on a polynomial that they accept, at the cutoff c
+-- Assumes nothing.
+use mathlib.Core.Path.{_≡_}
+use mathlib.Core.List.{List, List·Memᴰ, [], _∷_}
+use mathlib.Core.Logic.{_↔_, _≢_}
+use Prim.Native.Nat.{ℕ, _^_, _<_, _≤_}
+use lib.ListN.{length, take, drop}
+use Rattle.algebra.specs.Trial.{Ascending, Distinct}
+use Rattle.algebra.specs.Polynomial.{eval}
+use Rattle.field.specs.Field.{numbers, fieldAt}
+use Rattle.groups.specs.Splitting.{rootsAt}
+use Rattle.splitter.specs.Calls.{limit}
+use Rattle.finder.specs.Calls.{stepsAt, solveTests, searchTests, solveOutcome, searchOutcome, rootMemory}
+
+abbrev pub valueAt : ℕ → List ℕ → ℕ → ℕ
+valueAt m f x = eval (numbers (fieldAt m)) f x
+
+pub record RootList (m : ℕ) (f roots : List ℕ) : Type 0 where
+  pub ascending : Ascending roots
+  pub once : Distinct roots
+  pub exactly : (x : ℕ) → List·Memᴰ x roots ↔ ((x < 2 ^ m) × (valueAt m f x ≡ 0))
+  pub empty : (roots ≡ []) ↔ ((x : ℕ) → x < 2 ^ m → valueAt m f x ≢ 0)
+  -- no other list is
+  pub only : (l : List ℕ) → Ascending l → ((x : ℕ) → List·Memᴰ x l ↔ ((x < 2 ^ m) × (valueAt m f x ≡ 0))) → l ≡ roots
+
+pub record Holds (roots list after : List ℕ) : Type 0 where
+  pub front : take (length roots) after ≡ roots
+  pub behind : drop (length roots) after ≡ drop (length roots) list
+
+pub record Demand2 (m c : ℕ) (f list : List ℕ) : Type 0 where
+  pub roots : RootList m f (rootsAt m f)
+  pub few : length (rootsAt m f) ≤ limit
+  -- the trace engine
+  pub solve-gives : solveOutcome m c f list ≡ (0, length (rootsAt m f) ∷ stepsAt m c f ∷ [])
+  pub solve-holds : Holds (rootsAt m f) list (rootMemory (solveTests m c f list) m f list)
+  -- the plain trial
+  pub search-gives : searchOutcome m f list ≡ (0, length (rootsAt m f) ∷ [])
+  pub search-holds : Holds (rootsAt m f) list (rootMemory (searchTests m f list) m f list)
+  -- they agree
+  pub agree : rootMemory (solveTests m c f list) m f list ≡ rootMemory (searchTests m f list) m f list
