@@ -1,0 +1,22 @@
+-- `locator::locator_solve` meets its contract: it is the library's call, told as the struct.
+-- Assumes nothing.
+use mathlib.Core.Path.{ap, _∙_}
+use Rattle.locator.specs.Calls.{asFound}
+use borrow.Author.Needs.{needs}
+use Rattle.locator.proofs.locator_solve.Statement.{statement}
+use Rattle.locator.proofs.locator_solve.Tie as tie
+
+solve-requires : tie.Need-solve-requires
+solve-requires c κs = search needs
+
+solved-of-requires : tie.Need-solved-of-requires
+solved-of-requires c κs = search needs
+
+same-length : tie.Need-same-length
+same-length c = search needs
+
+returns : tie.Need-returns
+returns c = (c .solved-of .ensures ∙ ap asFound (c .before .before .before .solve .ensures .0), c .before .before .before .solve .ensures .1)
+
+pub locator-solve-spec : {M : Type 1} → statement M
+locator-solve-spec = tie.close (tie.spec solve-requires solved-of-requires same-length returns)

@@ -1,0 +1,151 @@
+// What the calls answer, as the structs of the C face.
+ghost use mathlib.Core.Path.{_≡_};
+ghost use Rattle.field.specs.Quadratics.{paperRoots};
+ghost use Rattle.elements.specs.Calls.{paper};
+ghost use Rattle.finder.specs.Calls.{paperSolved, paperSearched};
+ghost use Rattle.splitter.specs.Calls.{paperBegun, paperStepped, paperFinished};
+ghost use Rattle.locator.specs.Calls.{asValue, asPair, asFound, asStepped};
+use crate::LocatorFound;
+use crate::LocatorPair;
+use crate::LocatorStepped;
+use crate::LocatorValue;
+use elements::Answer;
+use field::solver::Quadratic;
+use finder::Searched;
+use finder::Solved;
+use refusals::number;
+use splitter::Begun;
+use splitter::Finished;
+use splitter::Stepped;
+
+// Of an element call.
+pub fn value_of(a: Answer) -> LocatorValue
+    ensures { λ r. ⌜ r ≡ asValue (paper a) ⌝ }
+{
+    match a {
+        Answer::Value(v) => LocatorValue {
+            outcome: 0,
+            value: v,
+        },
+        Answer::Refused(k) => LocatorValue {
+            outcome: number(k),
+            value: 0,
+        },
+    }
+}
+
+// Of the quadratic.
+pub fn pair_of(q: Quadratic) -> LocatorPair
+    ensures { λ r. ⌜ r ≡ asPair (paperRoots q) ⌝ }
+{
+    match q {
+        Quadratic::Refused(k) => LocatorPair {
+            outcome: number(k),
+            count: 0,
+            lower: 0,
+            upper: 0,
+        },
+        Quadratic::NoRoot => LocatorPair {
+            outcome: 0,
+            count: 0,
+            lower: 0,
+            upper: 0,
+        },
+        Quadratic::One(x) => LocatorPair {
+            outcome: 0,
+            count: 1,
+            lower: x,
+            upper: 0,
+        },
+        Quadratic::Two(x, y) => LocatorPair {
+            outcome: 0,
+            count: 2,
+            lower: x,
+            upper: y,
+        },
+    }
+}
+
+// Of the whole call.
+pub fn solved_of(a: Solved) -> LocatorFound
+    ensures { λ r. ⌜ r ≡ asFound (paperSolved a) ⌝ }
+{
+    match a {
+        Solved::Found { s, steps } => LocatorFound {
+            outcome: 0,
+            count: s,
+            steps: steps,
+        },
+        Solved::NotSolved(k) => LocatorFound {
+            outcome: number(k),
+            count: 0,
+            steps: 0,
+        },
+    }
+}
+
+// Of the plain search.
+pub fn searched_of(a: Searched) -> LocatorFound
+    ensures { λ r. ⌜ r ≡ asFound (paperSearched a) ⌝ }
+{
+    match a {
+        Searched::Seen(s) => LocatorFound {
+            outcome: 0,
+            count: s,
+            steps: 0,
+        },
+        Searched::NotSearched(k) => LocatorFound {
+            outcome: number(k),
+            count: 0,
+            steps: 0,
+        },
+    }
+}
+
+// Of begin: the paper's number alone.
+pub fn begun_of(a: Begun) -> u16
+    ensures { λ r. ⌜ r ≡ paperBegun a .0 ⌝ }
+{
+    match a {
+        Begun::Ready => 0,
+        Begun::NotBegun(k) => number(k),
+    }
+}
+
+// Of a step.
+pub fn stepped_of(a: Stepped) -> LocatorStepped
+    ensures { λ r. ⌜ r ≡ asStepped (paperStepped a) ⌝ }
+{
+    match a {
+        Stepped::Taken => LocatorStepped {
+            outcome: 0,
+            done: 0,
+        },
+        Stepped::Done => LocatorStepped {
+            outcome: 0,
+            done: 1,
+        },
+        Stepped::NotStepped(k) => LocatorStepped {
+            outcome: number(k),
+            done: 0,
+        },
+    }
+}
+
+// Of finish.
+pub fn finished_of(a: Finished) -> LocatorFound
+    ensures { λ r. ⌜ r ≡ asFound (paperFinished a) ⌝ }
+{
+    match a {
+        Finished::Listed(s) => LocatorFound {
+            outcome: 0,
+            count: s,
+            steps: 0,
+        },
+        Finished::NotFinished(k) => LocatorFound {
+            outcome: number(k),
+            count: 0,
+            steps: 0,
+        },
+    }
+}

@@ -1,0 +1,117 @@
+// The C face: the element calls, the whole call, the plain search, and begin, step and finish, as include/locator.h declares them. A slice is a
+// pointer, then a count. Each call answers every input; it neither allocates nor calls out, and keeps no state.
+ghost use mathlib.Core.Path.{_≡_};
+ghost use Rattle.elements.specs.Calls.{productOutcome, inverseOutcome, positionOutcome, quadraticOutcome};
+ghost use Rattle.finder.specs.Calls.{solveOutcome, solveTests, searchOutcome, searchTests, rootMemory};
+ghost use Rattle.splitter.specs.Calls.{beginOutcome, beginMemory, stepOutcome, stepMemory, finishOutcome, finishMemory};
+ghost use Rattle.locator.specs.Calls.{asValue, asPair, asFound, asStepped};
+
+mod answers; // what the calls answer, as these structs
+
+// An element call's answer.
+#[repr(C)]
+pub struct LocatorValue {
+    pub outcome: u16,
+    pub value: u16,
+}
+
+// The quadratic's answer: how many roots, the lower first.
+#[repr(C)]
+pub struct LocatorPair {
+    pub outcome: u16,
+    pub count: u16,
+    pub lower: u16,
+    pub upper: u16,
+}
+
+// What was found: how many roots, and in how many steps.
+#[repr(C)]
+pub struct LocatorFound {
+    pub outcome: u16,
+    pub count: u16,
+    pub steps: u16,
+}
+
+// A step's answer: 1 where there was nothing to split.
+#[repr(C)]
+pub struct LocatorStepped {
+    pub outcome: u16,
+    pub done: u16,
+}
+
+// The product of a and b in the field of degree m.
+#[no_mangle]
+pub extern "C" fn locator_product(m: u16, a: u16, b: u16) -> LocatorValue
+    ensures { λ r. ⌜ r ≡ asValue (productOutcome m a b) ⌝ }
+{
+    answers::value_of(elements::product(m, a, b))
+}
+
+// The inverse of a in the field of degree m.
+#[no_mangle]
+pub extern "C" fn locator_inverse(m: u16, a: u16) -> LocatorValue
+    ensures { λ r. ⌜ r ≡ asValue (inverseOutcome m a) ⌝ }
+{
+    answers::value_of(elements::inverse(m, a))
+}
+
+// The position of a root r in the field of degree m: where the bad bit stands.
+#[no_mangle]
+pub extern "C" fn locator_position(m: u16, r: u16) -> LocatorValue
+    ensures { λ j. ⌜ j ≡ asValue (positionOutcome m r) ⌝ }
+{
+    answers::value_of(elements::position(m, r))
+}
+
+// The roots of z^2 + az + b in the field of degree m.
+#[no_mangle]
+pub extern "C" fn locator_quadratic(m: u16, a: u16, b: u16) -> LocatorPair
+    ensures { λ r. ⌜ r ≡ asPair (quadraticOutcome m a b) ⌝ }
+{
+    answers::pair_of(elements::quadratic(m, a, b))
+}
+
+// The whole call.
+#[no_mangle]
+pub extern "C" fn locator_solve(
+    m: u16,
+    coeffs: &[u16],
+    cutoff: u16,
+    roots: &mut [u16],
+) -> LocatorFound
+    ensures { λ r. ⌜ (r ≡ asFound (solveOutcome m cutoff (now (coeffs .entry)) (now (roots .entry)))) × (now (roots .exit) ≡ rootMemory (solveTests m cutoff (now (coeffs .entry)) (now (roots .entry))) m (now (coeffs .entry)) (now (roots .entry))) ⌝ }
+{
+    answers::solved_of(finder::solving::solve(m, coeffs, cutoff, roots))
+}
+
+// The plain search.
+#[no_mangle]
+pub extern "C" fn locator_search(m: u16, coeffs: &[u16], roots: &mut [u16]) -> LocatorFound
+    ensures { λ r. ⌜ (r ≡ asFound (searchOutcome m (now (coeffs .entry)) (now (roots .entry)))) × (now (roots .exit) ≡ rootMemory (searchTests m (now (coeffs .entry)) (now (roots .entry))) m (now (coeffs .entry)) (now (roots .entry))) ⌝ }
+{
+    answers::searched_of(finder::searching::search(m, coeffs, roots))
+}
+
+// Begins a table: the paper's number alone.
+#[no_mangle]
+pub extern "C" fn locator_begin(m: u16, coeffs: &[u16], cutoff: u16, table: &mut [u16]) -> u16
+    ensures { λ r. ⌜ (r ≡ beginOutcome m cutoff (now (coeffs .entry)) (now (table .entry)) .0) × (now (table .exit) ≡ beginMemory m cutoff (now (coeffs .entry)) (now (table .entry))) ⌝ }
+{
+    answers::begun_of(splitter::beginning::begin(m, coeffs, cutoff, table))
+}
+
+// One step of a table.
+#[no_mangle]
+pub extern "C" fn locator_step(table: &mut [u16]) -> LocatorStepped
+    ensures { λ r. ⌜ (r ≡ asStepped (stepOutcome (now (table .entry)))) × (now (table .exit) ≡ stepMemory (now (table .entry))) ⌝ }
+{
+    answers::stepped_of(splitter::stepping::step(table))
+}
+
+// Finishes a table that is done.
+#[no_mangle]
+pub extern "C" fn locator_finish(table: &[u16], roots: &mut [u16]) -> LocatorFound
+    ensures { λ r. ⌜ (r ≡ asFound (finishOutcome (now (table .entry)) (now (roots .entry)))) × (now (roots .exit) ≡ finishMemory (now (table .entry)) (now (roots .entry))) ⌝ }
+{
+    answers::finished_of(splitter::finishing::finish(table, roots))
+}

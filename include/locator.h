@@ -1,0 +1,99 @@
+/* locator.h: the roots of locator polynomials over GF(2^m), m = 4, 8 or 11. Link with liblocator.a (tools/library builds it, for x86-64 Linux).
+
+   Every call is proved to do what stands over it, for every input (crates/locator/src/lib.rt has the contracts).
+
+   FIELDS. m is 4, 8 or 11, with the polynomials x^4+x+1, x^8+x^4+x^3+x^2+1 and x^11+x^2+1. An element is a number below 2^m whose bits are
+   coefficients, bit 0 the constant; a is the element 2.
+
+   POLYNOMIALS. n coefficients, the constant first, n from 1 to 33. Zeros at the top are allowed. The cutoff is 1, 2 or 3, or 0 for the house
+   default, which is 2; the roots do not depend on it.
+
+   OUTCOMES. 0: accepted. Any other is the number under which the input was turned away:
+       1  there is no field of degree m          6  the cutoff is above 3
+       2  there are no coefficients              7  the root list has under 32 slots, or the table has not 100
+       3  there are more than 33 coefficients    8  the table is not sound
+       4  an element or a coefficient            9  the table cannot be stepped: the first factor above the cutoff
+          is 2^m or more                            has level m, or the steps are at their limit
+       5  every coefficient is 0                10  the table is not done
+                                                13  an inverse or a position of 0
+   Where two apply, the one that stands first in the call's order is given. A refusal writes nothing, and its other fields are 0.
+
+   MEMORY. All memory is the caller's, before and after: no call keeps a pointer. A list is a pointer, aligned for uint16_t, and the number of its
+   elements. A count of 0 is an empty list, and its pointer is not looked at: it may be null. With any other count the pointer must point to so many
+   elements. Memory that a call may write must not overlap other memory lent to the same call. A list that is const is only read.
+
+   WHERE IT MAY RUN. No call allocates, waits, calls out or keeps state; each ends. So any of them may run in an interrupt or in several threads at
+   once, each over memory of its own. The archive asks for nothing but memcpy and memset. LOCATOR_STACK bytes of stack are enough for any call. */
+#ifndef LOCATOR_H
+#define LOCATOR_H
+
+#include <stddef.h>
+#include <stdint.h>
+
+#ifdef __cplusplus
+extern "C" {
+#endif
+
+/* The slots of a work table; the fewest slots of a root list; the most coefficients. */
+#define LOCATOR_SLOTS 100
+#define LOCATOR_ROOTS 32
+#define LOCATOR_COEFFICIENTS 33
+
+/* Stack, in bytes, that is enough for any call (tests/stack.c measures it). */
+#define LOCATOR_STACK 40960
+
+/* What an element call gives: the value, 0 where refused. */
+typedef struct { uint16_t outcome, value; } locator_value;
+
+/* What the quadratic gives: count is 0, 1 or 2. lower is the first root, upper the second; each is 0 where there is none. */
+typedef struct { uint16_t outcome, count, lower, upper; } locator_pair;
+
+/* What was found: the number of roots and of steps. steps is 0 where the call takes none. */
+typedef struct { uint16_t outcome, count, steps; } locator_found;
+
+/* What a step gives: done is 1 where there was nothing to split, else 0. */
+typedef struct { uint16_t outcome, done; } locator_stepped;
+
+/* The product of a and b. Outcomes 0, 1, 4, in the order 1, 4. Writes nothing. */
+locator_value locator_product(uint16_t m, uint16_t a, uint16_t b);
+
+/* The x with a x = 1. Outcomes 0, 1, 4, 13, in the order 1, 4, 13. Writes nothing. */
+locator_value locator_inverse(uint16_t m, uint16_t a);
+
+/* The position of a root r: the j from 0 to 2^m - 2 with 2^j = r, where the bad bit stands. Outcomes 0, 1, 4, 13, in the order 1, 4, 13.
+   Writes nothing. */
+locator_value locator_position(uint16_t m, uint16_t r);
+
+/* The distinct roots of z^2 + a z + b, the lower number first. "No root" is outcome 0 with count 0. Outcomes 0, 1, 4, in the order 1, 4.
+   Writes nothing. */
+locator_pair locator_quadratic(uint16_t m, uint16_t a, uint16_t b);
+
+/* The whole call: all distinct roots of the polynomial, by splitting it along the trace. The roots fill the front of the list, ascending; the slots
+   behind the last root are not written. count is their number, steps that of the splitting steps at this cutoff.
+   Outcomes 0 and 1 to 7, in ascending order; 7 where room is under 32. */
+locator_found locator_solve(uint16_t m, const uint16_t *coeffs, size_t n, uint16_t cutoff, uint16_t *roots, size_t room);
+
+/* The plain search: the same roots in the same way, by trying every element. steps is 0.
+   Outcomes 0, 1 to 5 and 7, in ascending order; 7 where room is under 32. */
+locator_found locator_search(uint16_t m, const uint16_t *coeffs, size_t n, uint16_t *roots, size_t room);
+
+/* Begins a work table of 100 slots: m, the cutoff in force (1 to 3), the number of factors, the steps taken (0), then the factor of all distinct roots
+   at level 0 (level, degree d, its d coefficients below the leading 1, the constant first), or no factor where there is no root; the other slots 0.
+   Every slot is written, whatever the table held. Returns the outcome: 0 or 1 to 7, in ascending order; 7 where slots is not 100. */
+uint16_t locator_begin(uint16_t m, const uint16_t *coeffs, size_t n, uint16_t cutoff, uint16_t *table, size_t slots);
+
+/* One step: the first factor of a degree above the cutoff is replaced by the two parts that its level's trace bit makes of it, one level up, a constant
+   one omitted, and slot 3 grows by 1. Where there is no such factor, done is 1 and nothing is written. Any table may be lent, begun or not.
+   Outcomes 0, 7, 8, 9, in the order 7, 8, 9; 7 where slots is not 100. */
+locator_stepped locator_step(uint16_t *table, size_t slots);
+
+/* Finish: every element at which some factor of a done table is zero, each once, ascending, at the front of the list; the slots behind the last are not
+   written, nor is the table. count is their number; steps is 0. Any table may be lent, begun or not.
+   Outcomes 0, 7, 8, 10, in the order 7, 8, 10; 7 where slots is not 100 or room is under 32. */
+locator_found locator_finish(const uint16_t *table, size_t slots, uint16_t *roots, size_t room);
+
+#ifdef __cplusplus
+}
+#endif
+
+#endif

@@ -1,0 +1,87 @@
+/* Runs every call of the C face on a painted stack, in every field, on a polynomial of the highest degree that splits, and prints the most that was used.
+   Fails where it is more than LOCATOR_STACK. */
+#define _GNU_SOURCE
+#include "locator.h"
+#include <stdio.h>
+#include <string.h>
+#include <ucontext.h>
+
+enum { CALLS = 9, PAINT = 0xA5 };
+
+static const char *const name[CALLS] = {"product", "inverse", "position", "quadratic", "solve", "search", "begin", "step", "finish"};
+static unsigned char stack[1 << 20];
+static ucontext_t home, there;
+static uint16_t field, f[LOCATOR_COEFFICIENTS], roots[LOCATOR_ROOTS], table[LOCATOR_SLOTS];
+static int call;
+static unsigned failed;
+
+static void go(void)
+{
+    switch (call) {
+    case 0: failed |= locator_product(field, 3, 5).outcome; break;
+    case 1: failed |= locator_inverse(field, 7).outcome; break;
+    case 2: failed |= locator_position(field, 9).outcome; break;
+    case 3: failed |= locator_quadratic(field, 1, 6).outcome; break;
+    case 4: failed |= locator_solve(field, f, LOCATOR_COEFFICIENTS, 1, roots, LOCATOR_ROOTS).outcome; break;
+    case 5: failed |= locator_search(field, f, LOCATOR_COEFFICIENTS, roots, LOCATOR_ROOTS).outcome; break;
+    case 6: failed |= locator_begin(field, f, LOCATOR_COEFFICIENTS, 3, table, LOCATOR_SLOTS); break;
+    case 7: while (locator_step(table, LOCATOR_SLOTS).done == 0 && failed == 0) ; break;
+    case 8: failed |= locator_finish(table, LOCATOR_SLOTS, roots, LOCATOR_ROOTS).outcome; break;
+    }
+}
+
+/* f: the product of z + r over 16 or 32 elements r */
+static void split_polynomial(void)
+{
+    unsigned size = 1u << field, degree = size < 32 ? size : 32;
+    memset(f, 0, sizeof f);
+    f[0] = 1;
+    for (unsigned k = 0; k < degree; k++) {
+        uint16_t r = (uint16_t)((k * 7 + 1) % size);
+        for (unsigned i = k + 1; i > 0; i--)
+            f[i] = f[i - 1] ^ locator_product(field, f[i], r).value;
+        f[0] = locator_product(field, f[0], r).value;
+    }
+}
+
+static size_t used(void)
+{
+    size_t i = 0;
+    memset(stack, PAINT, sizeof stack);
+    getcontext(&there);
+    there.uc_stack.ss_sp = stack;
+    there.uc_stack.ss_size = sizeof stack;
+    there.uc_link = &home;
+    makecontext(&there, go, 0);
+    swapcontext(&home, &there);
+    while (i < sizeof stack && stack[i] == PAINT)
+        i++;
+    return sizeof stack - i;
+}
+
+int main(void)
+{
+    static const uint16_t fields[] = {4, 8, 11};
+    size_t most[CALLS] = {0}, all = 0;
+    for (int k = 0; k < 3; k++) {
+        field = fields[k];
+        split_polynomial();
+        for (call = 0; call < CALLS; call++) {
+            size_t u = used();
+            if (most[call] < u)
+                most[call] = u;
+        }
+    }
+    printf("stack in bytes:");
+    for (int i = 0; i < CALLS; i++) {
+        printf(" %s %zu", name[i], most[i]);
+        if (all < most[i])
+            all = most[i];
+    }
+    printf("\n");
+    if (failed != 0 || all > LOCATOR_STACK) {
+        fprintf(stderr, "stack: %zu bytes where locator.h says %d (outcomes %u)\n", all, LOCATOR_STACK, failed);
+        return 1;
+    }
+    return 0;
+}
