@@ -1,0 +1,117 @@
+//! The C face as include/locator.h declares it, each call over slices. A slice is a pointer to as many elements as its length says, aligned, and a `&mut`
+//! slice overlaps no other: that is all that the calls ask for, so each is safe.
+
+#[repr(C)]
+pub struct Value {
+    pub outcome: u16,
+    pub value: u16,
+}
+
+#[repr(C)]
+pub struct Pair {
+    pub outcome: u16,
+    pub count: u16,
+    pub lower: u16,
+    pub upper: u16,
+}
+
+#[repr(C)]
+pub struct Found {
+    pub outcome: u16,
+    pub count: u16,
+    pub steps: u16,
+}
+
+#[repr(C)]
+pub struct Stepped {
+    pub outcome: u16,
+    pub done: u16,
+}
+
+extern "C" {
+    fn locator_product(m: u16, a: u16, b: u16) -> Value;
+    fn locator_inverse(m: u16, a: u16) -> Value;
+    fn locator_position(m: u16, r: u16) -> Value;
+    fn locator_quadratic(m: u16, a: u16, b: u16) -> Pair;
+    fn locator_solve(
+        m: u16,
+        coeffs: *const u16,
+        n: usize,
+        cutoff: u16,
+        roots: *mut u16,
+        room: usize,
+    ) -> Found;
+    fn locator_search(m: u16, coeffs: *const u16, n: usize, roots: *mut u16, room: usize) -> Found;
+    fn locator_begin(
+        m: u16,
+        coeffs: *const u16,
+        n: usize,
+        cutoff: u16,
+        table: *mut u16,
+        slots: usize,
+    ) -> u16;
+    fn locator_step(table: *mut u16, slots: usize) -> Stepped;
+    fn locator_finish(table: *const u16, slots: usize, roots: *mut u16, room: usize) -> Found;
+}
+
+pub fn product(m: u16, a: u16, b: u16) -> Value {
+    unsafe { locator_product(m, a, b) }
+}
+
+pub fn inverse(m: u16, a: u16) -> Value {
+    unsafe { locator_inverse(m, a) }
+}
+
+pub fn position(m: u16, r: u16) -> Value {
+    unsafe { locator_position(m, r) }
+}
+
+pub fn quadratic(m: u16, a: u16, b: u16) -> Pair {
+    unsafe { locator_quadratic(m, a, b) }
+}
+
+pub fn solve(m: u16, coeffs: &[u16], cutoff: u16, roots: &mut [u16]) -> Found {
+    unsafe {
+        locator_solve(
+            m,
+            coeffs.as_ptr(),
+            coeffs.len(),
+            cutoff,
+            roots.as_mut_ptr(),
+            roots.len(),
+        )
+    }
+}
+
+pub fn search(m: u16, coeffs: &[u16], roots: &mut [u16]) -> Found {
+    unsafe {
+        locator_search(
+            m,
+            coeffs.as_ptr(),
+            coeffs.len(),
+            roots.as_mut_ptr(),
+            roots.len(),
+        )
+    }
+}
+
+pub fn begin(m: u16, coeffs: &[u16], cutoff: u16, table: &mut [u16]) -> u16 {
+    unsafe {
+        locator_begin(
+            m,
+            coeffs.as_ptr(),
+            coeffs.len(),
+            cutoff,
+            table.as_mut_ptr(),
+            table.len(),
+        )
+    }
+}
+
+pub fn step(table: &mut [u16]) -> Stepped {
+    unsafe { locator_step(table.as_mut_ptr(), table.len()) }
+}
+
+pub fn finish(table: &[u16], roots: &mut [u16]) -> Found {
+    unsafe { locator_finish(table.as_ptr(), table.len(), roots.as_mut_ptr(), roots.len()) }
+}

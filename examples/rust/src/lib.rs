@@ -1,0 +1,163 @@
+//! Safe calls of the proved root finder: the roots of polynomials over GF(2^m), m = 4, 8 or 11. include/locator.h says what each call does; here a
+//! refusal is an error, a list is a slice, and what is given back is typed. No call allocates, calls out or keeps state.
+#![no_std]
+
+mod face;
+
+/// The slots of a work table.
+pub const SLOTS: usize = 100;
+/// The fewest slots of a root list.
+pub const ROOTS: usize = 32;
+
+/// Why an input is turned away, under the paper's number.
+#[derive(Clone, Copy, Debug, PartialEq, Eq)]
+#[repr(u16)]
+pub enum Refusal {
+    /// There is no field of this degree.
+    Field = 1,
+    /// There are no coefficients.
+    Empty = 2,
+    /// There are more than 33 coefficients.
+    Long = 3,
+    /// An element or a coefficient is 2^m or more.
+    Element = 4,
+    /// Every coefficient is 0.
+    AllZero = 5,
+    /// The cutoff is above 3.
+    Cutoff = 6,
+    /// The root list has under 32 slots, or the table has not 100.
+    Room = 7,
+    /// The table is not sound.
+    Unsound = 8,
+    /// The first factor above the cutoff has level m, or the steps are at their limit.
+    Stuck = 9,
+    /// The table is not done.
+    NotDone = 10,
+    /// An inverse or a position of 0.
+    OfZero = 13,
+}
+
+impl Refusal {
+    /// The paper's number.
+    pub fn number(self) -> u16 {
+        self as u16
+    }
+
+    /// The refusal of a number of these calls.
+    pub fn from_number(number: u16) -> Option<Refusal> {
+        use Refusal::*;
+        [
+            Field, Empty, Long, Element, AllZero, Cutoff, Room, Unsound, Stuck, NotDone, OfZero,
+        ]
+        .into_iter()
+        .find(|r| r.number() == number)
+    }
+}
+
+/// What an outcome's number says. The contracts admit no other number.
+fn accepted(outcome: u16) -> Result<(), Refusal> {
+    match outcome {
+        0 => Ok(()),
+        k => Err(Refusal::from_number(k).expect("a number that no call gives")),
+    }
+}
+
+/// The distinct roots of a quadratic, the lower first.
+#[derive(Clone, Copy, Debug, PartialEq, Eq)]
+pub enum Pair {
+    None,
+    One(u16),
+    Two(u16, u16),
+}
+
+/// What the whole call finds: the roots, ascending, at the front of the list that was lent, and the number of steps.
+#[derive(Clone, Copy, Debug, PartialEq, Eq)]
+pub struct Solved<'a> {
+    pub roots: &'a [u16],
+    pub steps: u16,
+}
+
+/// What a step does.
+#[derive(Clone, Copy, Debug, PartialEq, Eq)]
+pub enum Step {
+    /// The first factor above the cutoff was replaced.
+    Taken,
+    /// There is none; nothing was written.
+    Done,
+}
+
+/// The value of an element call.
+fn value(v: face::Value) -> Result<u16, Refusal> {
+    accepted(v.outcome).map(|()| v.value)
+}
+
+/// The product of a and b in the field of degree m.
+pub fn product(m: u16, a: u16, b: u16) -> Result<u16, Refusal> {
+    value(face::product(m, a, b))
+}
+
+/// The inverse of a.
+pub fn inverse(m: u16, a: u16) -> Result<u16, Refusal> {
+    value(face::inverse(m, a))
+}
+
+/// The position of a root r: the j with 2^j = r, where the bad bit stands.
+pub fn position(m: u16, r: u16) -> Result<u16, Refusal> {
+    value(face::position(m, r))
+}
+
+/// The roots of z^2 + az + b.
+pub fn quadratic(m: u16, a: u16, b: u16) -> Result<Pair, Refusal> {
+    let p = face::quadratic(m, a, b);
+    accepted(p.outcome).map(|()| match p.count {
+        0 => Pair::None,
+        1 => Pair::One(p.lower),
+        _ => Pair::Two(p.lower, p.upper),
+    })
+}
+
+/// All distinct roots, by splitting along the trace.
+pub fn solve<'a>(
+    m: u16,
+    coeffs: &[u16],
+    cutoff: u16,
+    roots: &'a mut [u16],
+) -> Result<Solved<'a>, Refusal> {
+    let found = face::solve(m, coeffs, cutoff, roots);
+    accepted(found.outcome)?;
+    Ok(Solved {
+        roots: &roots[..found.count.into()],
+        steps: found.steps,
+    })
+}
+
+/// All distinct roots, by trying every element.
+pub fn search<'a>(m: u16, coeffs: &[u16], roots: &'a mut [u16]) -> Result<&'a [u16], Refusal> {
+    let found = face::search(m, coeffs, roots);
+    accepted(found.outcome)?;
+    Ok(&roots[..found.count.into()])
+}
+
+/// Begins a work table.
+pub fn begin(m: u16, coeffs: &[u16], cutoff: u16, table: &mut [u16]) -> Result<(), Refusal> {
+    accepted(face::begin(m, coeffs, cutoff, table))
+}
+
+/// One step of a work table.
+pub fn step(table: &mut [u16]) -> Result<Step, Refusal> {
+    let stepped = face::step(table);
+    accepted(stepped.outcome).map(|()| {
+        if stepped.done == 0 {
+            Step::Taken
+        } else {
+            Step::Done
+        }
+    })
+}
+
+/// The roots of a work table that is done.
+pub fn finish<'a>(table: &[u16], roots: &'a mut [u16]) -> Result<&'a [u16], Refusal> {
+    let found = face::finish(table, roots);
+    accepted(found.outcome)?;
+    Ok(&roots[..found.count.into()])
+}

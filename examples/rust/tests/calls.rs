@@ -1,0 +1,107 @@
+//! Each call through the safe crate: values, every refusal, and what is written and what is not.
+use locator::*;
+
+const CUBIC: [u16; 4] = [6, 7, 0, 1];
+
+#[test]
+fn products_and_inverses_agree() {
+    for (m, size) in [(4, 16), (8, 256), (11, 2048)] {
+        for a in 1..size {
+            assert_eq!(product(m, a, inverse(m, a).unwrap()), Ok(1));
+        }
+    }
+}
+
+#[test]
+fn positions_are_exponents_of_two() {
+    for (m, size) in [(4, 16), (8, 256), (11, 2048)] {
+        let mut power = 1;
+        for j in 0..size - 1 {
+            assert_eq!(position(m, power), Ok(j));
+            power = product(m, power, 2).unwrap();
+        }
+        assert_eq!(power, 1);
+    }
+}
+
+#[test]
+fn quadratics_have_none_one_or_two_roots() {
+    assert_eq!(quadratic(4, 1, 8), Ok(Pair::None));
+    assert_eq!(quadratic(4, 0, 2), Ok(Pair::One(5)));
+    assert_eq!(quadratic(4, 1, 6), Ok(Pair::Two(2, 3)));
+    assert_eq!(quadratic(4, 0, 0), Ok(Pair::One(0)));
+}
+
+#[test]
+fn the_engines_agree_and_write_the_roots_only() {
+    let (mut list, mut seen) = ([999; 40], [999; 40]);
+    let found = solve(4, &CUBIC, 1, &mut list).unwrap();
+    assert_eq!(
+        found,
+        Solved {
+            roots: &[1, 2, 3],
+            steps: 4
+        }
+    );
+    assert_eq!(search(4, &CUBIC, &mut seen), Ok(&[1, 2, 3][..]));
+    assert_eq!(list, seen);
+    assert!(list[3..].iter().all(|&x| x == 999));
+}
+
+#[test]
+fn steps_until_done_give_the_whole_call() {
+    for (cutoff, steps) in [(1, 4), (2, 3), (3, 0)] {
+        let (mut table, mut list) = ([7; SLOTS], [0; ROOTS]);
+        begin(4, &CUBIC, cutoff, &mut table).unwrap();
+        let mut taken = 0;
+        while step(&mut table) == Ok(Step::Taken) {
+            taken += 1;
+        }
+        assert_eq!((taken, table[3]), (steps, steps));
+        assert_eq!(finish(&table, &mut list), Ok(&[1, 2, 3][..]));
+        assert_eq!(
+            solve(4, &CUBIC, cutoff, &mut [0; ROOTS]).unwrap().steps,
+            steps
+        );
+    }
+}
+
+#[test]
+fn every_refusal_has_its_number_and_writes_nothing() {
+    let mut list = [999; ROOTS];
+    let calls: [(u16, &[u16], u16); 6] = [
+        (1120, &CUBIC, 0),
+        (4, &[], 0),
+        (4, &[1; 34], 0),
+        (4, &[16, 1], 0),
+        (4, &[0, 0], 0),
+        (4, &CUBIC, 4),
+    ];
+    for (i, (m, coeffs, cutoff)) in calls.into_iter().enumerate() {
+        assert_eq!(
+            solve(m, coeffs, cutoff, &mut list).unwrap_err().number(),
+            i as u16 + 1
+        );
+        assert_eq!(list, [999; ROOTS]);
+    }
+    assert_eq!(solve(4, &CUBIC, 0, &mut list[..31]), Err(Refusal::Room));
+    assert_eq!(begin(4, &CUBIC, 0, &mut [0; 99]), Err(Refusal::Room));
+    assert_eq!(step(&mut [0; SLOTS]), Err(Refusal::Unsound));
+    let mut stuck = [0; SLOTS];
+    stuck[..8].copy_from_slice(&[4, 1, 1, 0, 4, 2, 1, 1]);
+    assert_eq!(step(&mut stuck), Err(Refusal::Stuck));
+    assert_eq!(finish(&stuck, &mut list), Err(Refusal::NotDone));
+    assert_eq!(position(4, 0), Err(Refusal::OfZero));
+    assert_eq!(list, [999; ROOTS]);
+}
+
+#[test]
+fn numbers_and_refusals_are_one_to_one() {
+    let known: Vec<u16> = (0..100)
+        .filter(|&k| Refusal::from_number(k).is_some())
+        .collect();
+    assert_eq!(known, [1, 2, 3, 4, 5, 6, 7, 8, 9, 10, 13]);
+    assert!(known
+        .iter()
+        .all(|&k| Refusal::from_number(k).unwrap().number() == k));
+}
