@@ -1,0 +1,4 @@
+pub mod Accepted
+pub mod Turning
+pub mod Printing
+pub mod Coincide
