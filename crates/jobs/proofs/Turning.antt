@@ -1,16 +1,18 @@
 -- What a turn leaves, by what reading gave.
 --   turn-over, turn-stop, turn-refuse, turn-record   where reading ends, stops, goes on behind a refused record, or behind an accepted one
 --   record-solvable   an accepted record can be solved, where there is room for its line
+--   turn-fits    the line lies within the lent text
 --   turn-on      where a turn goes on, the next place is behind the record, within the file, and has the next number
 -- Assumes nothing.
 use mathlib.Core.Path.{_≡_, refl, sym, ap, _∙_, subst}
-use mathlib.Core.List.{List, [], _∷_}
+use mathlib.Core.List.{List, [], _∷_, _++_}
 use Prim.Native.Nat.{ℕ, _+_, _≤_}
 use native.Mathlib.Omega.{arith}
-use lib.ListN.{length}
+use lib.ListN.{length, drop, length-append}
 use Rattle.refusals.specs.Numbers.{numberOf}
 use Rattle.refusals.specs.declared.Refusal.{Refusal}
-use Rattle.slots.specs.Lists.{pasted}
+use Rattle.slots.specs.Lists.{pasted, copied}
+use Rattle.slots.proofs.Lists.{pasted-copied}
 use Rattle.records.specs.Layout.{words, part}
 use Rattle.records.specs.Cutoffs.{statedBy, resolved}
 use Rattle.records.specs.Reading.{Outcome, paper, readAt}
@@ -68,6 +70,14 @@ record-solvable file at r {j} e f d b l = record {
   passed = rw (b, d ∙ stated-resolved (j .cutoff)) (record-passes file at (sym e ∙ ap paper f));
   room = l;
 }
+
+-- a text that is no longer afterwards holds the line
+pub turn-fits : {file old new : List ℕ} {at k : ℕ} {r : Turn} → Turned file at k old r new → length new ≡ length old → r .len ≤ length old
+unfolding copied
+turn-fits {file} {old} {at = at} {k} t l =
+    let text = lineFor file k (readAt file at) in
+    let n : length (text ++ drop (length text) old) ≡ length old = sym (ap length (t .bytes ∙ pasted-copied text old)) ∙ l in
+    omega (arith, t .ended, n, length-append text (drop (length text) old))
 
 -- ---- where it goes on
 
