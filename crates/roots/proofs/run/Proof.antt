@@ -1,64 +1,66 @@
+-- `roots::run` ends and stays within its memory: each turn goes on behind the record, so there are no more records than bytes.
+-- Assumes nothing.
+use mathlib.Core.Path.{_≡_, sym, _∙_}
+use Prim.Native.Nat.{_+_, _-_, _≤_}
+use native.Mathlib.Omega.{arith}
+use lib.ListN.{length}
+use lib.Seq.{length-take-le}
+use borrow.Author.Needs.{needs}
+use Rattle.jobs.proofs.Turning.{turn-fits, turn-on}
 use Rattle.roots.proofs.run.Statement.{statement}
 use Rattle.roots.proofs.run.Tie as tie
-use Rattle.roots.proofs.run.Reads as reads
-use Rattle.roots.proofs.run.Lts as lts
-use Rattle.io.proofs.write_all.Reads as write-all-reads
-use Rattle.jobs.proofs.start.Reads as start-reads
-use Rattle.jobs.proofs.take_turn.Reads as take-turn-reads
 
 abbrev Inv-loop : tie.InvT-loop
-Inv-loop file out₀ place₀ out place = ?
+Inv-loop file out₀ place₀ out place = (length out ≡ 221) × (place .k ≤ place .at + 1) × (place .at ≤ length file)
 
 abbrev μ-loop : tie.MeasureT-loop
-μ-loop file out₀ place₀ out place = ?
+μ-loop file out₀ place₀ out place = length file - place .at
 
--- src/main.rt:13:9
 start-requires : tie.Need-start-requires Inv-loop μ-loop
-start-requires c κs = ?
+start-requires c κs = search needs
 
--- src/main.rt:14:5
 loop-holds : tie.Need-loop-holds Inv-loop μ-loop
-loop-holds c = ?
+loop-holds c = search needs
 
--- src/main.rt:15:49
 slice-aggregate-take-turn : tie.Need-slice-aggregate-take-turn Inv-loop μ-loop
-slice-aggregate-take-turn c = ?
+slice-aggregate-take-turn c = search needs
 
--- src/main.rt:15:13
 take-turn-requires : tie.Need-take-turn-requires Inv-loop μ-loop
-take-turn-requires c κs = ?
+take-turn-requires c κs = search needs
 
--- src/main.rt:17:38
 array-share-prefix-out : tie.Need-array-share-prefix-out Inv-loop μ-loop
-array-share-prefix-out c = ?
+array-share-prefix-out c = omega (arith, turn-fits (c .before .take-turn .ensures) (c .before .take-turn .kept .1 .1 .0), c .before .take-turn .kept .1 .1 .0)
 
--- src/main.rt:17:38
 slice-aggregate-write-all : tie.Need-slice-aggregate-write-all Inv-loop μ-loop
-slice-aggregate-write-all c = ?
+slice-aggregate-write-all c =
+    let t = c .before .before in
+    sym (length-take-le _ _ (omega (arith, turn-fits (t .take-turn .ensures) (t .take-turn .kept .1 .1 .0), t .take-turn .kept .1 .1 .0)))
 
--- src/main.rt:17:9
 write-all-requires : tie.Need-write-all-requires Inv-loop μ-loop
-write-all-requires c κs = ?
+write-all-requires c κs = search needs
 
--- src/main.rt:19:22
 enum-known-next : tie.Need-enum-known-next Inv-loop μ-loop
-enum-known-next c = ?
+enum-known-next c = search needs
 
--- src/main.rt:20:13
 enum-told : tie.Need-enum-told Inv-loop μ-loop
-enum-told c = ?
+enum-told c = search needs
 
--- src/main.rt:20:13
 returns : tie.Need-returns Inv-loop μ-loop
-returns c = ?
+returns c = search needs
 
--- src/main.rt:14:5
 loop-less : tie.Need-loop-less Inv-loop μ-loop
-loop-less c = ?
+loop-less c =
+    let n = c .before in
+    let t = n .before .before .before .before .before in
+    let o = turn-on (t .take-turn .ensures) (n .next .given .1) in
+    omega (arith, o .ahead, o .within)
 
--- src/main.rt:14:5
 loop-again : tie.Need-loop-again Inv-loop μ-loop
-loop-again c = ?
+loop-again c =
+    let n = c .before in
+    let t = n .before .before .before .before .before in
+    let o = turn-on (t .take-turn .ensures) (n .next .given .1) in
+    (t .take-turn .kept .1 .1 .0 ∙ t .before .before .loop .inv .0, omega (arith, o .number, o .ahead, t .before .before .loop .inv .1), o .within)
 
 pub run-spec : {M : Type 1} → statement M
 run-spec =
