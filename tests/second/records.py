@@ -3,8 +3,12 @@
     records.py files --seed S --count N FOLDER   (N random files besides the fixed ones)
     records.py lines FILE
     records.py tally FOLDER
+    records.py cases --seed S --count N FOLDER
+    records.py answers FOLDER
 
-The folder is made if it is missing; the files are named NNNN-kind.bin.
+The folder is made if it is missing; the files are named NNNN-kind.bin. `cases` puts all files into files.bin and the name of each into kinds.txt, and
+`answers` the lines of each into lines.bin, each behind its length in four bytes, low byte first; it prints how many files of each kind and lines of
+each outcome there are.
 """
 
 import argparse
@@ -80,9 +84,11 @@ class Maker:
     def some(self, least=0, most=12):
         return [self.any_record() for _ in range(self.rng.randrange(least, most + 1))]
 
-    def exactly(self, length):
-        """Complete records that fill `length` bytes, mostly cheap ones."""
+    def exactly(self, length, few=False):
+        """Complete records that fill `length` bytes, mostly cheap ones, or few of them."""
         data = b""
+        while few and length - len(data) > 2000:
+            data += record(4, 1, [self.rng.randrange(16) for _ in range(255)])
         while length - len(data) > 300:
             data += self.quick()
         nine = record(8, 1, [1, 2])
@@ -175,6 +181,23 @@ class Maker:
             )
             for c in range(5)
         )
+        # every value of every byte of the listing
+        for place in range(len(EXAMPLE)):
+            for byte in range(256):
+                yield "listing", EXAMPLE[:place] + bytes((byte,)) + EXAMPLE[place + 1:]
+        # bodies that hold records: who skips a head alone reads them
+        inner = record(4, 1, [6, 7, 0, 1])
+        for m in (4, 8, 11, 5):
+            for cutoff in (0, 3, 4):
+                for repeats in (1, 2, 3, 5, 6, 30):
+                    body = (inner * repeats)[:510]
+                    words = [body[i] | body[i + 1] << 8 for i in range(0, len(body) - 1, 2)]
+                    yield "nested", record(m, cutoff, words) + EXAMPLE
+                    yield "nested", EXAMPLE + record(m, cutoff, words)[:-1]
+        # a mixed file cut at every byte
+        mixed = b"".join((self.good(), self.refused(), self.quick(), self.refused(), EXAMPLE))
+        for length in range(len(mixed)):
+            yield "cut", mixed[:length]
         # the limit of 65,536 bytes
         full = self.exactly(LIMIT)
         yield "limit-exact", full
@@ -183,7 +206,7 @@ class Maker:
         yield "limit-mark-half-behind", full + b"\x4c"
         yield "limit-twice", full + full
         for short in (1, 2, 3, 4, 5, 6, 7, 12, 13):
-            front = self.exactly(LIMIT - short)
+            front = self.exactly(LIMIT - short, few=True)
             yield "limit-less-%d" % short, front
             yield "limit-cut-%d" % short, front + record(4, 1, [6, 7, 0, 1]) + EXAMPLE
             yield "limit-cut-wrong-mark-%d" % short, front + b"\x4c\x4d" + EXAMPLE * 3
@@ -228,6 +251,44 @@ def make_files(seed, count):
     yield from maker.random_files(count)
 
 
+def framed(data):
+    return len(data).to_bytes(4, "little") + data
+
+
+def cases(seed, count, folder):
+    """All files in one, and their names."""
+    with open(os.path.join(folder, "files.bin"), "wb") as files, open(os.path.join(folder, "kinds.txt"), "w") as kinds:
+        for kind, data in make_files(seed, count):
+            files.write(framed(data))
+            kinds.write(kind + "\n")
+
+
+def unframed(data):
+    at = 0
+    while at < len(data):
+        end = at + 4 + int.from_bytes(data[at:at + 4], "little")
+        yield data[at + 4:end]
+        at = end
+
+
+def answers(folder):
+    """The lines of each file in one."""
+    with open(os.path.join(folder, "files.bin"), "rb") as file:
+        data = file.read()
+    with open(os.path.join(folder, "kinds.txt")) as file:
+        names = [name.split("-")[0] for name in file.read().split("\n")[:-1]]
+    outcomes = {}
+    with open(os.path.join(folder, "lines.bin"), "wb") as file:
+        for one in unframed(data):
+            texts = R.roots_lines(one)
+            file.write(framed("".join(text + "\n" for text in texts).encode()))
+            for text in texts:
+                outcome = int(text.split()[1])
+                outcomes[outcome] = outcomes.get(outcome, 0) + 1
+    print("files: " + ", ".join("%s %d" % (kind, names.count(kind)) for kind in sorted(set(names))))
+    print("lines by outcome: " + ", ".join("%d: %d" % (outcome, outcomes[outcome]) for outcome in sorted(outcomes)))
+
+
 def tally(folder):
     counts = {}
     files = sorted(os.listdir(folder))
@@ -248,6 +309,12 @@ def main():
     files.add_argument("--seed", type=int, default=1)
     files.add_argument("--count", type=int, default=120)
     files.add_argument("folder")
+    all_cases = commands.add_parser("cases")
+    all_cases.add_argument("--seed", type=int, default=1)
+    all_cases.add_argument("--count", type=int, default=120)
+    all_cases.add_argument("folder")
+    answered = commands.add_parser("answers")
+    answered.add_argument("folder")
     lines = commands.add_parser("lines")
     lines.add_argument("file")
     tallied = commands.add_parser("tally")
@@ -258,6 +325,13 @@ def main():
         for number, (kind, data) in enumerate(make_files(options.seed, options.count)):
             with open(os.path.join(options.folder, "%04d-%s.bin" % (number, kind)), "wb") as file:
                 file.write(data)
+        return
+    if options.command == "cases":
+        os.makedirs(options.folder, exist_ok=True)
+        cases(options.seed, options.count, options.folder)
+        return
+    if options.command == "answers":
+        answers(options.folder)
         return
     if options.command == "tally":
         tally(options.folder)
