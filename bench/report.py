@@ -1,0 +1,168 @@
+#!/usr/bin/env python3
+"""report.py DIR [PAGE]: prints the tables of the run of bench/roots whose files stand in DIR, and writes them as PAGE where it is given."""
+import sys
+
+FINDERS = [("solve", "whole call"), ("search", "plain search"), ("bch", "lib/bch.c"), ("flint", "FLINT"), ("chien", "Chien in C")]
+MEASURES = ("count", "vector", "time")
+RATIOS = [("solve", "bch", "whole / bch"), ("solve", "flint", "whole / FLINT"), ("search", "chien", "search / Chien")]
+TARGETS = [
+    ("whole call / lib/bch.c, field 11, split, degree 32", "solve", "bch", ["11.split.32"], 1.0),
+    ("the same, lib/bch.c compiled for m = 11, t = 64 only", "solve", "bchfixed", ["11.split.32"], 1.0),
+    ("whole call / FLINT, field 11, dense, degree 32", "solve", "flint", ["11.dense.32"], 0.2),
+    ("plain search / Chien in C, field 11, the largest", "search", "chien", None, 1.5),
+]
+
+
+def rows(directory, name):
+    with open(f"{directory}/{name}.tsv") as file:
+        return [line.rstrip("\n").split("\t") for line in file]
+
+
+def read(directory):
+    """The run: about, checks, and for each measure a map from (set, finder) to its figure."""
+    return {
+        "about": dict(rows(directory, "about")),
+        "checks": [(s, f, int(right), int(all)) for s, f, right, all in rows(directory, "checks")],
+        "time": {(s, f): float(ns) / 1000 for s, f, ns in rows(directory, "times")},
+        "count": {(s, f): int(n) / 1000 for s, f, n in rows(directory, "counts")},
+        "vector": {(s, f): int(n) / 1000 for s, f, n in rows(directory, "counts-vector")},
+    }
+
+
+def words(name):
+    m, kind, degree = name.split(".")
+    return f"field {m}, {kind}, degree {degree}"
+
+
+def in_order(figures):
+    return list(dict.fromkeys(s for s, _ in figures))
+
+
+def figure(x):
+    return "-" if x is None else f"{x:,.1f}" if x < 1000 else f"{x:,.0f}"
+
+
+def ratio(figures, s, one, other):
+    return figures[s, one] / figures[s, other] if (s, one) in figures and (s, other) in figures else None
+
+
+def short(x):
+    return "-" if x is None else f"{x:.2f}"
+
+
+def table(head, lines):
+    """Markdown with columns of one width, so that it reads in a terminal too."""
+    wide = [max(len(line[i]) for line in [head] + lines) for i in range(len(head))]
+    put = lambda line: "| " + " | ".join(c.ljust(w) if i == 0 else c.rjust(w) for i, (c, w) in enumerate(zip(line, wide))) + " |"
+    rule = "|" + "|".join("-" * (w + 2) if i == 0 else "-" * (w + 1) + ":" for i, w in enumerate(wide)) + "|"
+    return "\n".join([put(head), rule] + [put(line) for line in lines])
+
+
+def main_table(figures):
+    head = ["input"] + [title for _, title in FINDERS] + [title for _, _, title in RATIOS]
+    return table(head, [[words(s)] + [figure(figures.get((s, f))) for f, _ in FINDERS] + [short(ratio(figures, s, a, b)) for a, b, _ in RATIOS]
+                        for s in in_order(figures)])
+
+
+def cutoff_table(run):
+    s = "11.split.32"
+    lines = []
+    for name, finder in (("whole call, cutoff 1", "solve1"), ("whole call, cutoff 2", "solve"), ("whole call, cutoff 3", "solve3"),
+                         ("lib/bch.c", "bch"), ("lib/bch.c compiled for m = 11, t = 64 only", "bchfixed")):
+        line = [name]
+        for measure in MEASURES:
+            line += [figure(run[measure].get((s, finder))), short(ratio(run[measure], s, finder, "bch"))]
+        lines.append(line)
+    return table([words(s), "thousand instructions", "/ bch", "the same, no rep", "/ bch", "microseconds", "/ bch"], lines)
+
+
+def verdict(figures, one, other, sets, most):
+    found = [ratio(figures, s, one, other) for s in sets or [s for s in in_order(figures) if s.startswith("11.")]]
+    found = [x for x in found if x is not None]
+    return "not measured" if not found else f"{max(found):.2f} {'met' if max(found) <= most else 'NOT met'}"
+
+
+def target_table(run):
+    return table(["target", "at most", "instructions", "the same, no rep", "time"],
+                 [[name, f"{most}"] + [verdict(run[measure], a, b, sets, most) for measure in MEASURES] for name, a, b, sets, most in TARGETS])
+
+
+def checks(run):
+    title = dict(FINDERS, bchfixed="lib/bch.c for m = 11 only", solve1="whole call at cutoff 1", solve3="whole call at cutoff 3")
+    wrong = [f"{title[f]} on {words(s)}: {right} of {all} lists right" for s, f, right, all in run["checks"] if right != all]
+    absent = [f"{name} does not serve {words(s)}" for f, name in FINDERS for s in in_order({(s, f): 0 for s, f, _, _ in run["checks"]})
+              if not any((s, f) == (x, y) for x, y, _, _ in run["checks"])]
+    lists = sum(all for _, f, _, all in run["checks"])
+    said = f"{lists} lists were compared with a plain search by shift-and-add products; all are right but these:" if wrong else f"All {lists} lists are those of a plain search."
+    return "\n".join([said] + [f"- {line}" for line in wrong + absent])
+
+
+def sentences(run):
+    """What the figures say, in instructions where they were counted."""
+    figures, unit = (run["count"], "instructions") if run["count"] else (run["time"], "time")
+    split, dense, small = "11.split.32", "11.dense.32", "4.split.8"
+    say = lambda s, one, other: short(ratio(figures, s, one, other))
+    said = [f"- On 32 distinct roots in field 11 the whole call takes {say(split, 'solve', 'bch')} times the {unit} of lib/bch.c, which takes split polynomials with distinct "
+            "nonzero roots only; the whole call takes any polynomial, and finds first which part of it splits.",
+            f"- On dense polynomials of degree 32 in field 11, where lib/bch.c is wrong, it takes {say(dense, 'solve', 'flint')} times FLINT's {unit}; on 32 distinct roots "
+            f"{say(split, 'solve', 'flint')} times.",
+            f"- At degree 4 lib/bch.c is far ahead ({say('11.split.4', 'solve', 'bch')} times): it solves up to degree 4 in closed form, and it holds its tables in memory, where each "
+            "of our calls makes its own copy.",
+            f"- The plain search takes {say(split, 'search', 'chien')} times the Chien search at degree 32 in field 11, and {say(small, 'search', 'chien')} times in field 4, "
+            "where 16 elements are few beside that copy. The Chien search holds its tables in memory too."]
+    if run["vector"]:
+        spared = {f: run["count"][split, f] - run["vector"][split, f] for f in ("solve", "search", "bch", "flint", "chien") if (split, f) in run["vector"]}
+        said.append("- Leaving rep out takes from the count, in thousands at degree 32 split: " + ", ".join(f"{dict(FINDERS)[f]} {x:.1f}" for f, x in spared.items()) + ".")
+    return "\n".join(said)
+
+
+def page(run):
+    about = run["about"]
+    counted = f"Thousand instructions a polynomial, counted by {about['counter']}:\n\n{main_table(run['count'])}\n" if run["count"] else "Instructions were not counted in this run.\n"
+    return f"""# Our calls beside lib/bch.c, FLINT and a Chien search
+
+    bench/roots --docs
+
+made this page and benchmark.svg on {about['date']}, {about['where']}. C: {about['compiler']}. lib/bch.c: {about['bch']}. FLINT: {about['flint'] or 'not to be had'}
+(fq_zech_poly_roots). Everything is compiled for x86-64 and runs in one process on the same 64 polynomials of each kind, drawn from a fixed seed: split ones with as many
+distinct nonzero roots as their degree, and dense ones with random coefficients. The whole call is at cutoff 2, the house default.
+
+![instructions a polynomial, by field and degree](benchmark.svg)
+
+{counted}
+Microseconds a polynomial, finders by turns, the least of each chunk of 8 over at least 15 rounds:
+
+{main_table(run['time'])}
+
+{cutoff_table(run)}
+
+{target_table(run)}
+
+"No rep": glibc fills memory above 2 KB by one instruction, rep stos, that the counters take as one a byte; there memset and memcpy were told
+to leave it out and store by vectors. The processor takes it as one instruction, the emulator goes byte by byte.
+
+## What it says
+
+{sentences(run)}
+
+## Right and wrong lists
+
+{checks(run)}
+"""
+
+
+def main():
+    run = read(sys.argv[1])
+    if len(sys.argv) > 2:
+        with open(sys.argv[2], "w") as file:
+            file.write(page(run))
+    about = run["about"]
+    print(f"{about['where']}\n{about['date']}, commit {about['commit']}, C: {about['compiler']}, FLINT: {about['flint'] or 'not to be had'}, lib/bch.c: {about['bch']}\n")
+    print(checks(run) + "\n")
+    if run["count"]:
+        print(f"thousand instructions a polynomial ({about['counter']})\n{main_table(run['count'])}\n")
+    print(f"microseconds a polynomial\n{main_table(run['time'])}\n\n{cutoff_table(run)}\n\n{target_table(run)}")
+
+
+if __name__ == "__main__":
+    main()
