@@ -1,5 +1,6 @@
 #!/usr/bin/env python3
-"""report.py DIR [PAGE]: prints the tables of the run of bench/roots whose files stand in DIR, and writes them as PAGE where it is given."""
+"""report.py DIR [PAGE]: prints the tables of the run of bench/roots whose files stand in DIR, and writes them as PAGE where it is given.
+Fails where a list of ours is wrong; a peer's wrong lists are only named."""
 import sys
 
 FINDERS = [("solve", "whole call"), ("search", "plain search"), ("bch", "lib/bch.c"), ("flint", "FLINT"), ("chien", "Chien in C")]
@@ -31,6 +32,7 @@ def read(directory):
 
 def words(name):
     m, kind, degree = name.split(".")
+    kind = {"zero": "split with root 0", "double": "12 of 20 roots twice"}.get(kind, kind)
     return f"field {m}, {kind}, degree {degree}"
 
 
@@ -102,35 +104,40 @@ def sentences(run):
     figures, unit = (run["count"], "instructions") if run["count"] else (run["time"], "time")
     split, dense, small = "11.split.32", "11.dense.32", "4.split.8"
     say = lambda s, one, other: short(ratio(figures, s, one, other))
-    said = [f"- On 32 distinct roots in field 11 the whole call takes {say(split, 'solve', 'bch')} times the {unit} of lib/bch.c, which takes split polynomials with distinct "
-            "nonzero roots only; the whole call takes any polynomial, and finds first which part of it splits.",
-            f"- On dense polynomials of degree 32 in field 11, where lib/bch.c is wrong, it takes {say(dense, 'solve', 'flint')} times FLINT's {unit}; on 32 distinct roots "
-            f"{say(split, 'solve', 'flint')} times.",
-            f"- At degree 4 lib/bch.c is far ahead ({say('11.split.4', 'solve', 'bch')} times): it solves up to degree 4 in closed form, and it holds its tables in memory, where each "
-            "of our calls makes its own copy.",
-            f"- The plain search takes {say(split, 'search', 'chien')} times the Chien search at degree 32 in field 11, and {say(small, 'search', 'chien')} times in field 4, "
-            "where 16 elements are few beside that copy. The Chien search holds its tables in memory too."]
+    said = [f"- On 32 distinct roots in field 11 the whole call takes {say(split, 'solve', 'bch')} times the {unit} of lib/bch.c, which takes split polynomials",
+            "  with distinct nonzero roots only; the whole call takes any polynomial, and finds first which part of it splits.",
+            f"- On dense polynomials of degree 32 in field 11, where the lists of lib/bch.c are wrong, it takes {say(dense, 'solve', 'flint')} times FLINT's {unit};",
+            f"  on 32 distinct roots {say(split, 'solve', 'flint')} times.",
+            f"- At degree 4 in field 11 it takes {say('11.split.4', 'solve', 'bch')} times lib/bch.c, which solves degrees up to 4 in closed form and copies no table.",
+            f"- The plain search takes {say(split, 'search', 'chien')} times the Chien search at degree 32 in field 11, and {say(small, 'search', 'chien')} times in field 4,",
+            "  where 16 elements are few beside the copy of the tables."]
     if run["vector"]:
         spared = {f: run["count"][split, f] - run["vector"][split, f] for f in ("solve", "search", "bch", "flint", "chien") if (split, f) in run["vector"]}
-        said.append("- Leaving rep out takes from the count, in thousands at degree 32 split: " + ", ".join(f"{dict(FINDERS)[f]} {x:.1f}" for f, x in spared.items()) + ".")
+        said.append("- Without rep the count at degree 32, split, falls by (thousands): " + ", ".join(f"{dict(FINDERS)[f]} {x:.1f}" for f, x in spared.items()) + ".")
     return "\n".join(said)
 
 
 def page(run):
     about = run["about"]
-    counted = f"Thousand instructions a polynomial, counted by {about['counter']}:\n\n{main_table(run['count'])}\n" if run["count"] else "Instructions were not counted in this run.\n"
+    counted = "Instructions were not counted in this run.\n"
+    if run["count"]:
+        counted = f"Thousand instructions a polynomial, counted by {about['counter']}:\n\n{main_table(run['count'])}\n"
     return f"""# Our calls beside lib/bch.c, FLINT and a Chien search
 
     bench/roots --docs
 
-made this page and benchmark.svg on {about['date']}, {about['where']}. C: {about['compiler']}. lib/bch.c: {about['bch']}. FLINT: {about['flint'] or 'not to be had'}
-(fq_zech_poly_roots). Everything is compiled for x86-64 and runs in one process on the same 64 polynomials of each kind, drawn from a fixed seed: split ones with as many
-distinct nonzero roots as their degree, and dense ones with random coefficients. The whole call is at cutoff 2, the house default.
+made this page and benchmark.svg on {about['date']}.
+
+- Where: {about['where']}.
+- C: {about['compiler']}. lib/bch.c: {about['bch']}. FLINT (fq_zech_poly_roots): {about['flint'] or 'not to be had'}.
+- Everything is compiled for x86-64 and runs in one process, on the same 64 polynomials of each kind, drawn from a fixed seed. Split ones have as many
+  distinct nonzero roots as their degree; dense ones have random coefficients.
+- The whole call is at cutoff 2, the house default, where no other is named. Peers hold their tables in memory; each of our calls copies its own.
 
 ![instructions a polynomial, by field and degree](benchmark.svg)
 
 {counted}
-Microseconds a polynomial, finders by turns, the least of each chunk of 8 over at least 15 rounds:
+Microseconds a polynomial (finders by turns; for each 8 polynomials the least of at least 15 rounds):
 
 {main_table(run['time'])}
 
@@ -138,8 +145,8 @@ Microseconds a polynomial, finders by turns, the least of each chunk of 8 over a
 
 {target_table(run)}
 
-"No rep": glibc fills memory above 2 KB by one instruction, rep stos, that the counters take as one a byte; there memset and memcpy were told
-to leave it out and store by vectors. The processor takes it as one instruction, the emulator goes byte by byte.
+"No rep": from 2 KB on glibc's memset is one instruction, rep stos, which both counters take as one for each byte; for this column glibc was told to
+store by vectors instead. The emulator does rep stos byte by byte, and its times hold that.
 
 ## What it says
 
@@ -162,6 +169,8 @@ def main():
     if run["count"]:
         print(f"thousand instructions a polynomial ({about['counter']})\n{main_table(run['count'])}\n")
     print(f"microseconds a polynomial\n{main_table(run['time'])}\n\n{cutoff_table(run)}\n\n{target_table(run)}")
+    if any(right != all for _, f, right, all in run["checks"] if f.startswith("solve") or f in ("search", "chien")):
+        sys.exit("report: a list of our own is wrong")
 
 
 if __name__ == "__main__":

@@ -13,7 +13,7 @@
 #include "finder.h"
 #include "locator.h"
 
-enum { LISTS = 64, MOST = 33, CHUNK = 8, SLOTS = 80 };
+enum { LISTS = 64, MOST = LOCATOR_COEFFICIENTS, CHUNK = 8, SLOTS = 80 };
 
 /* ---- the proved calls ---- */
 
@@ -134,7 +134,7 @@ static const struct finder *finder_at(size_t i)
 
 /* ---- inputs ---- */
 
-/* zero: split, and 0 is a root; double: five eighths of the degree in distinct roots, the others twice */
+/* zero: split, and 0 is a root; double: as many distinct roots as five eighths of the degree, three fifths of them twice */
 enum kind { SPLIT, DENSE, ZERO, DOUBLE };
 
 struct polynomial {

@@ -2,9 +2,7 @@
    the table's slots after begin and after each step, and the roots, for tools/splitting.py to draw. */
 #include <stdio.h>
 #include <stdlib.h>
-#include "../include/locator.h"
-
-enum { SLOTS = 100, ROOM = 32, MOST = 33 };
+#include "locator.h"
 
 static void print(const char *name, const uint16_t *slots, size_t n)
 {
@@ -22,25 +20,25 @@ static int refused(const char *call, unsigned number)
 
 int main(int argc, char **argv)
 {
-    uint16_t given[2 + MOST] = {0}, table[SLOTS], roots[ROOM];
+    uint16_t given[2 + LOCATOR_COEFFICIENTS] = {0}, table[LOCATOR_SLOTS], roots[LOCATOR_ROOTS];
     size_t n = (size_t)argc - 1;
-    if (n < 2 || n > 2 + MOST)
+    if (n < 2 || n > 2 + LOCATOR_COEFFICIENTS)
         return 2;
     for (size_t i = 0; i < n; i++)
         given[i] = (uint16_t)atoi(argv[1 + i]);
     print("polynomial", given, n);
-    uint16_t begun = locator_begin(given[0], given + 2, n - 2, given[1], table, SLOTS);
+    uint16_t begun = locator_begin(given[0], given + 2, n - 2, given[1], table, LOCATOR_SLOTS);
     if (begun != 0)
         return refused("begin", begun);
     for (;;) {
-        print("table", table, SLOTS);
-        locator_stepped step = locator_step(table, SLOTS);
+        print("table", table, LOCATOR_SLOTS);
+        locator_stepped step = locator_step(table, LOCATOR_SLOTS);
         if (step.outcome != 0)
             return refused("step", step.outcome);
         if (step.done)
             break;
     }
-    locator_found found = locator_finish(table, SLOTS, roots, ROOM);
+    locator_found found = locator_finish(table, LOCATOR_SLOTS, roots, LOCATOR_ROOTS);
     if (found.outcome != 0)
         return refused("finish", found.outcome);
     print("roots", roots, found.count);
