@@ -2,8 +2,8 @@
 --   roots-few                         a polynomial that was let in has no more roots than the limit
 --   cutoff-given, room-given, solve-in  which refusal the further tests show
 --   admitted-in                       what is known of the polynomial;  cutoff-most  and of the cutoff
---   begin-passes, begun-stepping      begin refuses nothing, and the table it leaves can be stepped
 --   solvable                          with the tables lent, the engine can run;  solved-at  what it gives at the cutoff in force
+--   solve-begins, begun-stepping      it can begin a table, and step what begin leaves
 --   search-given, search-in           the same of the search;  letIn-in, letIn-fits, searchable  and what is known of what it lets in
 -- Assumes nothing.
 use mathlib.Core.Path.{_≡_, refl, sym, ap, _∙_, subst}
@@ -12,13 +12,13 @@ use mathlib.Core.Option.{Option, none, some}
 use mathlib.Core.List.{List, [], _∷_}
 use Prim.Native.Nat.{ℕ, _-_, _*_, _^_, _≤_, _<_}
 use native.Mathlib.Omega.{arith}
-use borrow.Author.Tests.{eq-eqb, lt-ltb, le-ltb, ltb-false}
-use lib.Dec.{eqb, ltb}
+use borrow.Author.Tests.{lt-ltb, le-ltb, ltb-false}
+use lib.Dec.{ltb}
 use lib.Pow.{pow-pos}
 use lib.ListN.{length, take, getD}
 use Rattle.refusals.specs.Order.{Given, Passed}
 use Rattle.refusals.specs.Order.Passed.{none as none-left}
-use Rattle.refusals.proofs.Order.{holds, fails, passes, failed, others, written}
+use Rattle.refusals.proofs.Order.{holds, fails, passes, failed, others}
 use Rattle.refusals.specs.Rows.{known}
 use Rattle.algebra.specs.Field.{OnNumbers}
 use Rattle.algebra.specs.Routines.{norm}
@@ -37,7 +37,8 @@ use Rattle.groups.proofs.HouseDefault.{inForce-least, inForce-most}
 use Rattle.groups.proofs.Demand.{begin-slots}
 use Rattle.groups.proofs.Fields.{known-field}
 use Rattle.polynomial.specs.Lent.{Lent}
-use Rattle.splitter.specs.Calls.{limit, slots, polynomialTests, beginTests, beginMemory}
+use Rattle.splitter.specs.Calls.{limit, slots, polynomialTests}
+use Rattle.splitter.specs.SplitPart.{Beginnable}
 use Rattle.splitter.proofs.PolynomialTests.{PolynomialIn, polynomial-told, passed-given, passed-more}
 use Rattle.splitter.proofs.Lending.{logs-room, lent-is}
 use Rattle.finder.specs.Searching.{Searchable, LetIn}
@@ -103,38 +104,44 @@ module _ {m size c : ℕ} {f roots : List ℕ} (g : Admitted m size c f roots) w
   pub size-fits : (1 ≤ size) × (size ≤ 2048)
   size-fits = (omega (arith, pow-pos m, g .elements), omega (arith, logs-room m (admitted-in .field), g .elements))
 
-  -- begin refuses nothing
-  begin-passes : (table : List ℕ) → length table ≡ slots → Passed (beginTests m c f table)
-  begin-passes table e =
-      let p = g .passed in
-      passes (failed p) (passes (failed (others p)) (passes (failed (others (others p))) (passes (failed (others (others (others p))))
-      (passes (failed (others (others (others (others p))))) (passes (failed six) (passes (ap not (eq-eqb (length table) slots e)) none-left))))))
-
-  -- and the table it leaves can be stepped
-  begun-stepping : (table : List ℕ) {table′ : List ℕ} → length table ≡ slots → table′ ≡ beginMemory m c f table → Stepping m (inForce c) f table′
-  begun-stepping table {table′} l e =
-      let least : 1 ≤ inForce c = inForce-least houseDefault c (omega arith) in
-      let to : table′ ≡ begunAfter m (inForce c) f 0 =
-      e ∙ written _ _ (begin-passes table l) ∙ begin-slots m (admitted-in .field) (inForce c) least f byFactor slots in
-      let k : getD table′ 3 0 ≡ 0 = ap (λ (x : List ℕ). getD x 3 0) to ∙ taken-at m (inForce c) f 0 in
-      record {
-        field = admitted-in .field;
-        least = least;
-        most = inForce-most houseDefault c (omega arith) cutoff-most;
-        few = roots-few admitted-in;
-        taken = subst (λ (i : ℕ). i ≤ stepCount m (inForce c) (rootsAt m f)) (sym k) (omega arith);
-        slots-are = to ∙ ap (begunAfter m (inForce c) f) (sym k);
-      }
-
   -- with the tables lent, the engine can run
-  pub solvable : (table : List ℕ) {k : ℕ} {table′ : List ℕ} (x y z : List ℕ) → Logs (fieldAt m) (take (2 ^ m) x) → Antilogs (fieldAt m) (take (3 * (2 ^ m - 1)) y)
-      → Halves (fieldAt m) (take (2 ^ m) z) → k ≡ inForce c → length table ≡ slots → table′ ≡ beginMemory m c f table
-      → Solvable m k f (take size x) (take (3 * (size - 1)) y) (take size z) table′ roots
-  solvable table {k} {table′} x y z a b h i l e = subst (λ (w : ℕ). Solvable m w f (take size x) (take (3 * (size - 1)) y) (take size z) table′ roots) (sym i) (record {
-    running = record { tables = lent-is m (admitted-in .field) x y (g .elements) a b; stepping = begun-stepping table l e };
+  pub solvable : {k : ℕ} (x y z : List ℕ) → Logs (fieldAt m) (take (2 ^ m) x) → Antilogs (fieldAt m) (take (3 * (2 ^ m - 1)) y)
+      → Halves (fieldAt m) (take (2 ^ m) z) → k ≡ inForce c → Solvable m k f (take size x) (take (3 * (size - 1)) y) (take size z) roots
+  solvable x y z a b h i = subst (λ (w : ℕ). Solvable m w f (take size x) (take (3 * (size - 1)) y) (take size z) roots) (sym i) (record {
+    polynomial = admitted-in;
+    least = inForce-least houseDefault c (omega arith);
+    most = inForce-most houseDefault c (omega arith) cutoff-most;
+    tables = lent-is m (admitted-in .field) x y (g .elements) a b;
     halves = subst (λ (n : ℕ). Halves (fieldAt m) (take n z)) (sym (g .elements)) h;
     room = list-room;
   })
+
+-- ---- the engine
+
+module _ {m c : ℕ} {f ls ts hs roots : List ℕ} (g : Solvable m c f ls ts hs roots) where
+  -- its table can be begun
+  pub solve-begins : {table : List ℕ} → length table ≡ slots → Beginnable m ls ts f table
+  solve-begins e = record {
+    tables = g .tables;
+    small = g .polynomial .small;
+    few = g .polynomial .few;
+    nonzero = g .polynomial .nonzero;
+    room = e;
+  }
+
+  -- and stepped
+  pub begun-stepping : {table : List ℕ} → table ≡ slotsBegun byFactor slots m c f → Stepping m c f table
+  begun-stepping {table} e =
+      let to : table ≡ begunAfter m c f 0 = e ∙ begin-slots m (g .polynomial .field) c (g .least) f byFactor slots in
+      let k : getD table 3 0 ≡ 0 = ap (λ (x : List ℕ). getD x 3 0) to ∙ taken-at m c f 0 in
+      record {
+        field = g .polynomial .field;
+        least = g .least;
+        most = g .most;
+        few = roots-few (g .polynomial);
+        taken = subst (λ (i : ℕ). i ≤ stepCount m c (rootsAt m f)) (sym k) (omega arith);
+        slots-are = to ∙ ap (begunAfter m c f) (sym k);
+      }
 
 -- what the engine gives at the cutoff in force
 pub solved-at : {m c k : ℕ} {f roots roots′ : List ℕ} {r : Counts} → k ≡ c → SolvedOut m k f roots r roots′ → SolvedOut m c f roots r roots′

@@ -1,5 +1,5 @@
 -- A begun table is stepped until it is done: what the engine's loop keeps.
---   never-refused   no test of a step holds
+--   never-refused   no test of a step holds;  found-none, found-at  what is found of the next step
 --   run-on, run-end   a step, and the end
 -- Assumes nothing.
 use mathlib.Core.Path.{_≡_, refl, sym, ap, ap₂, _∙_, subst}
@@ -11,9 +11,8 @@ use native.Mathlib.Omega.{arith}
 use borrow.Author.Tests.{eq-eqb}
 use lib.Dec.{eqb}
 use lib.ListN.{length, getD}
-use Rattle.refusals.specs.Order.{Given, Passed}
-use Rattle.refusals.specs.Order.Given.{here, later}
-use Rattle.refusals.specs.Order.Passed.{none, more}
+use Rattle.refusals.specs.Order.{Passed}
+use Rattle.refusals.specs.Order.Passed.{none}
 use Rattle.refusals.specs.Rows.{known}
 use Rattle.refusals.proofs.Order.{passes}
 use Rattle.groups.specs.Layout.{byFactor}
@@ -30,10 +29,11 @@ use Rattle.finder.specs.Solving.{begunAfter, Stepping, RunOut, Solvable}
 use Rattle.field.specs.Field.{fieldAt}
 use Rattle.field.specs.Tables.{Halves}
 use Rattle.splitter.specs.Finishing.{Listable}
-
--- a refusal that is given does not pass
-pub given-passed : {k : ℕ} {ts : List (ℕ × Bool)} → Given k ts → Passed ts → ⊥
-given-passed (later g) (more p) = given-passed g p
+use Rattle.splitter.specs.Verdicts.{Chosen}
+use Rattle.splitter.specs.Walk.{seek}
+use Rattle.splitter.specs.declared.judging.Place.{Place}
+use Rattle.splitter.specs.declared.judging.Place.the-variants.{At, Nowhere}
+use Rattle.splitter.proofs.Findings.{seek-done, seek-chosen}
 
 -- one step more on slots
 after-more : (n : ℕ) (l : List ℕ) → slotsAfter byFactor (suc n) l ≡ slotsStepped byFactor (slotsAfter byFactor n l)
@@ -68,6 +68,11 @@ module _ {m c : ℕ} {f table : List ℕ} (s : Stepping m c f table) where
   unfolding n encode
   width-now = ap (λ (l : List ℕ). getD l 0 0) (s .slots-are)
 
+  -- slot 1 is the cutoff
+  cutoff-now : getD table 1 0 ≡ c
+  unfolding n encode
+  cutoff-now = ap (λ (l : List ℕ). getD l 1 0) (s .slots-are)
+
   -- so that the tables lent are those of its field
   pub lent-now : {ls ts : List ℕ} → Lent m ls ts → Lent (getD table 0 0) ls ts
   lent-now {ls} {ts} l = subst (λ (w : ℕ). Lent w ls ts) (sym width-now) l
@@ -89,8 +94,16 @@ module _ {m c : ℕ} {f table : List ℕ} (s : Stepping m c f table) where
           let d : isDone (groupsAfter m c (rootsAt m f) n) ≡ true = ap (λ (k : ℕ). isDone (groupsAfter m c (rootsAt m f) k)) e ∙ D .end in
           rw d refl
 
-  pub never-refused : Passed (stepTests table)
+  never-refused : Passed (stepTests table)
   never-refused = passes (ap not (eq-eqb (length table) slots long-now)) (passes (ap not sound-now) (passes stuck-now none))
+
+  -- where nothing is found the table is done
+  pub found-none : {r : Place} → r ≡ seek c table (getD table 2 0) 4 → r ≡ Nowhere → slotsDone byFactor table ≡ true
+  found-none e f = seek-done table long-now sound-now (e ∙ ap (λ (k : ℕ). seek k table (getD table 2 0) 4) (sym cutoff-now)) f
+
+  -- and what is found is the place of the next step
+  pub found-at : {r : Place} {o : ℕ} → r ≡ seek c table (getD table 2 0) 4 → r ≡ At o → Chosen table o
+  found-at e f = seek-chosen table long-now sound-now (e ∙ ap (λ (k : ℕ). seek k table (getD table 2 0) 4) (sym cutoff-now)) f never-refused
 
   -- a table that is not done has a step to take
   step-left : slotsDone byFactor table ≡ false → n < count
@@ -162,11 +175,10 @@ pub out-taken : {m c : ℕ} {f table : List ℕ} → RunOut m c f table → getD
 out-taken {m} {c} {f} r = ap (λ (l : List ℕ). getD l 3 0) (r .slots-are) ∙ taken-at m c f (stepCount m c (rootsAt m f))
 
 -- what finish asks of it
-pub out-asks : {m c : ℕ} {f ls ts hs table table′ roots : List ℕ} → Solvable m c f ls ts hs table roots → RunOut m c f table′
+pub out-asks : {m c : ℕ} {f ls ts hs table table′ roots : List ℕ} → Solvable m c f ls ts hs roots → Stepping m c f table → RunOut m c f table′
     → Listable ls ts hs table′ roots
 unfolding n
-out-asks {m} {c} {f} {hs = hs} {table′ = table′} g r =
-    let s = g .running .stepping in
+out-asks {m} {c} {f} {hs = hs} {table′ = table′} g s r =
     let t = out-stepping s r in
     record {
       given = record {
@@ -175,7 +187,7 @@ out-asks {m} {c} {f} {hs = hs} {table′ = table′} g r =
             ∙ demand-3 m (s .field) c (s .least) f .end;
         room = g .room;
       };
-      tables = lent-now t (g .running .tables);
+      tables = lent-now t (g .tables);
       halves = subst (λ (w : ℕ). Halves (fieldAt w) hs) (sym (width-now t)) (g .halves);
     }
 

@@ -2,7 +2,7 @@
 --   begunAfter   the slots of a begun polynomial's table after n steps, told by groups
 --   Stepping     a table that begin made of an accepted polynomial and our steps alone wrote
 --   Running      what the engine may take for granted;  RunOut  what it leaves: the table after as many steps as groups outnumber c
---   Solvable, SolvedOut   the same with the list: the roots at its front, their number and that of the steps
+--   Solvable, SolvedOut   the same from a polynomial that passed its tests to the list: the roots at its front, their number and that of the steps
 --   Admitted   what passed the whole call's tests, in a field of `size` elements
 -- Assumes nothing.
 use mathlib.Core.Path.{_≡_}
@@ -22,6 +22,7 @@ use Rattle.slots.specs.Lists.{copied}
 use Rattle.field.specs.Field.{fieldAt}
 use Rattle.field.specs.Tables.{Halves}
 use Rattle.splitter.specs.Calls.{limit, slots, polynomialTests}
+use Rattle.splitter.proofs.PolynomialTests.{PolynomialIn}
 use Rattle.finder.specs.declared.solving.Counts.{Counts}
 
 abbrev pub begunAfter : ℕ → ℕ → List ℕ → ℕ → List ℕ
@@ -42,8 +43,11 @@ pub record Running (m c : ℕ) (f ls ts table : List ℕ) : Type 0 where
 pub record RunOut (m c : ℕ) (f table : List ℕ) : Type 0 where
   pub slots-are : table ≡ begunAfter m c f (stepCount m c (rootsAt m f))
 
-pub record Solvable (m c : ℕ) (f ls ts hs table roots : List ℕ) : Type 0 where
-  pub running : Running m c f ls ts table
+pub record Solvable (m c : ℕ) (f ls ts hs roots : List ℕ) : Type 0 where
+  pub polynomial : PolynomialIn m f
+  pub least : 1 ≤ c
+  pub most : c ≤ 3
+  pub tables : Lent m ls ts
   pub halves : Halves (fieldAt m) hs
   pub room : limit ≤ length roots
 

@@ -1,4 +1,4 @@
-// The whole call's engine: the table of a begun polynomial is stepped until it is done, over tables that are lent once.
+// The whole call's engine: a polynomial is begun and its table stepped until it is done, over tables that are lent once.
 ghost use mathlib.Core.Path.{_≡_};
 ghost use mathlib.Core.List.{[], _∷_};
 ghost use lib.Dec.{ltb};
@@ -11,25 +11,23 @@ use crate::Solved;
 use refusals::Admission;
 use refusals::Refusal;
 use splitter::beginning::admit_polynomial;
-use splitter::beginning::begin;
+use splitter::beginning::begin_lent;
 use splitter::beginning::in_force;
 use splitter::finishing::finish_lent;
-use splitter::judging::Verdict;
-use splitter::judging::judge;
+use splitter::judging::Place;
+use splitter::judging::find;
 use splitter::stepping::step_lent;
 
-// Steps a begun table until it is done. The cutoff and the coefficients only say which table it is.
+// Steps a begun table until it is done. It is sound, so that the place of the next step is all that is looked for. The coefficients only say which table it is.
 pub fn run(m: u16, c: u16, coeffs: &[u16], logs: &[u16], antilogs: &[u16], table: &mut [u16])
     requires { ⌜ Running m c (now coeffs) (now logs) (now antilogs) (now table) ⌝ }
     ensures { λ _. ⌜ RunOut m c (now (coeffs .entry)) (now (table .exit)) ⌝ }
 {
     loop {
-        match judge(table) {
-            Verdict::Split(o) => step_lent(table, logs, antilogs, o),
-            Verdict::Over => {
-                return;
-            }
-            Verdict::Refused(_) => {
+        let count = table[2];
+        match find(table, c, count) {
+            Place::At(o) => step_lent(table, logs, antilogs, o),
+            Place::Nowhere => {
                 return;
             }
         }
@@ -42,7 +40,7 @@ pub struct Counts {
     pub steps: u16,
 }
 
-// Steps a begun table until it is done, and lists its roots at the front of the list.
+// Begins a table, steps it until it is done, and lists its roots at the front of the list.
 pub fn solve_lent(
     m: u16,
     c: u16,
@@ -50,14 +48,15 @@ pub fn solve_lent(
     logs: &[u16],
     antilogs: &[u16],
     halves: &[u16],
-    table: &mut [u16],
     roots: &mut [u16],
 ) -> Counts
-    requires { ⌜ Solvable m c (now coeffs) (now logs) (now antilogs) (now halves) (now table) (now roots) ⌝ }
+    requires { ⌜ Solvable m c (now coeffs) (now logs) (now antilogs) (now halves) (now roots) ⌝ }
     ensures { λ r. ⌜ SolvedOut m c (now (coeffs .entry)) (now (roots .entry)) r (now (roots .exit)) ⌝ }
 {
-    run(m, c, coeffs, logs, antilogs, table);
-    let s = finish_lent(logs, antilogs, halves, &table[..], roots);
+    let mut table = [0u16; 100];
+    begin_lent(m, c, logs, antilogs, coeffs, &mut table);
+    run(m, c, coeffs, logs, antilogs, &mut table);
+    let s = finish_lent(logs, antilogs, halves, &table, roots);
     Counts {
         s: s as u16,
         steps: table[3],
@@ -72,11 +71,9 @@ fn solve_in(m: u16, size: usize, coeffs: &[u16], cutoff: u16, roots: &mut [u16])
     let mut logs = [0u16; 2048];
     let mut antilogs = [0u16; 6141];
     let mut halves = [0u16; 2048];
-    let mut table = [0u16; 100];
     tables::lent::logs(m, &mut logs);
     tables::lent::antilogs(m, &mut antilogs);
     tables::lent::halves(m, &mut halves);
-    begin(m, coeffs, cutoff, &mut table);
     let c = in_force(cutoff);
     let end = 3 * (size - 1);
     solve_lent(
@@ -86,7 +83,6 @@ fn solve_in(m: u16, size: usize, coeffs: &[u16], cutoff: u16, roots: &mut [u16])
         &logs[..size],
         &antilogs[..end],
         &halves[..size],
-        &mut table,
         roots,
     )
 }

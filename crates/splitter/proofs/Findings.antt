@@ -3,6 +3,7 @@
 --   Spot, spot-at  the factor to split stands at o
 --   judge-short, judge-unsound, judge-over, judge-level, judge-steps, judge-split   the verdict at each return
 --   sum-small      the sum of degrees is at most the limit
+--   seek-done, seek-chosen   what `find` tells of a table that is known to pass the tests
 -- Assumes nothing.
 use mathlib.Core.Path.{_≡_, refl, sym, ap, ap₂, _∙_}
 use mathlib.Core.Logic.{_≢_}
@@ -29,7 +30,7 @@ use Rattle.groups.proofs.Keeping.{stuck-order}
 use Rattle.groups.proofs.Places.{beyond, leading, place, slotsOf, spare, level-at, encode-around}
 use Rattle.splitter.specs.Calls.{limit, slots, isSound, stepTests}
 use Rattle.splitter.specs.Walk.{seek}
-use Rattle.splitter.specs.Verdicts.{summed, Judged}
+use Rattle.splitter.specs.Verdicts.{summed, Chosen, Judged}
 use Rattle.splitter.specs.Verdicts.Judged.{refused, over, split}
 use Rattle.splitter.specs.declared.judging.Sum.{Sum}
 use Rattle.splitter.specs.declared.judging.Sum.the-variants.{Of}
@@ -249,3 +250,23 @@ module _ (l : List ℕ) where
             more = spot .more;
             at = spot .here;
           })
+
+-- ---- a table that passes the tests
+
+module _ (l : List ℕ) (h : length l ≡ slots) (s : isSound l ≡ true) where
+  -- its sum of degrees
+  known-sum : Of (degreeSum (decode byFactor l .factors)) ≡ summed l
+  unfolding summed
+  known-sum = rw s
+
+  -- nothing is found where it is done
+  pub seek-done : {f : Place} → f ≡ seek (getD l 1 0) l (getD l 2 0) 4 → f ≡ Nowhere → slotsDone byFactor l ≡ true
+  seek-done f n = done-of (judge-over l h known-sum refl f n)
+    where
+      done-of : Judged l Over → slotsDone byFactor l ≡ true
+      done-of (over p d) = d
+
+  -- what is found is the place of the step
+  pub seek-chosen : {f : Place} → f ≡ seek (getD l 1 0) l (getD l 2 0) 4 → {at : ℕ} → f ≡ At at → Passed (stepTests l) → Chosen l at
+  unfolding slotsDone
+  seek-chosen f a p = let w = spot l h known-sum refl f a in record { passed = p; more = w .more; at = w .here }

@@ -1,7 +1,8 @@
 -- `write` and `begin`: what the parts ask, and what is left.
 --   size-most, size-least, size-fits         the size of a known field
 --   logs-asks, antilogs-asks                 what the lent tables ask
---   lent-tables, write-splittable            the tables as they are lent, and the polynomial with them
+--   lent-tables, write-beginnable            the tables as they are lent, and the polynomial with them
+--   begin-splittable                         what the part that splits asks
 --   part-long, part-few, written-is          the part that splits, and what is left in the table
 --   further                                  refusals 6 and 7 as tests;  cutoff-given, room-given, begin-in  which refusal the further tests show
 --   begin-writable                           what was let in can be written
@@ -30,7 +31,7 @@ use Rattle.groups.specs.Table.{encode}
 use Rattle.groups.specs.Splitting.{begunTable, slotsBegun}
 use Rattle.polynomial.specs.Lent.{G, Lent}
 use Rattle.splitter.specs.Calls.{limit, slots, polynomialTests}
-use Rattle.splitter.specs.SplitPart.{Splittable, SplitOff, Writable}
+use Rattle.splitter.specs.SplitPart.{Splittable, SplitOff, Beginnable, Writable}
 use Rattle.splitter.proofs.PolynomialTests.{polynomial-told, passed-more, passed-given}
 
 -- ---- the size of a known field
@@ -64,23 +65,33 @@ module _ {m size : ℕ} {cs table : List ℕ} (g : Writable m size cs table) whe
     antilogs = subst (λ n. Antilogs (fieldAt m) (take (3 * (n - 1)) ts)) (sym (g .elements)) a;
   }
 
-  -- what the part that splits asks
-  pub write-splittable : (ls ts : List ℕ) {out : List ℕ} → Logs (fieldAt m) (take (2 ^ m) ls) → Antilogs (fieldAt m) (take (3 * (2 ^ m - 1)) ts) → length out ≡ suc limit
-      → Splittable m (take size ls) (take (3 * (size - 1)) ts) cs out
-  write-splittable ls ts l a h = record {
+  -- with them the table can be written
+  pub write-beginnable : (ls ts : List ℕ) → Logs (fieldAt m) (take (2 ^ m) ls) → Antilogs (fieldAt m) (take (3 * (2 ^ m - 1)) ts)
+      → Beginnable m (take size ls) (take (3 * (size - 1)) ts) cs table
+  write-beginnable ls ts l a = record {
     tables = lent-tables ls ts l a;
     small = g .small;
     few = g .few;
     nonzero = g .nonzero;
-    room = omega (arith, g .few);
+    room = g .room;
   }
+
+-- what the part that splits asks
+pub begin-splittable : {m : ℕ} {ls ts cs table out : List ℕ} → Beginnable m ls ts cs table → length out ≡ suc limit → Splittable m ls ts cs out
+begin-splittable g h = record {
+  tables = g .tables;
+  small = g .small;
+  few = g .few;
+  nonzero = g .nonzero;
+  room = omega (arith, g .few);
+}
 
 -- the part that splits is as long as it says
 pub part-long : {m k : ℕ} {cs out : List ℕ} → SplitOff m cs k out → length (take k out) ≡ k
 part-long {m} {k} {cs} s = ap length (s .low) ∙ length-monicRoots (G m) (rootsOf (G m) (2 ^ m) cs) ∙ sym (s .count)
 
 -- and fits in
-pub part-few : {m size k : ℕ} {cs table out : List ℕ} → Writable m size cs table → SplitOff m cs k out → length (take k out) ≤ limit
+pub part-few : {m k : ℕ} {ls ts cs table out : List ℕ} → Beginnable m ls ts cs table → SplitOff m cs k out → length (take k out) ≤ limit
 part-few g s = omega (arith, part-long s, s .fewer, g .few)
 
 -- what is left in the table

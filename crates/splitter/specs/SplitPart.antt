@@ -3,6 +3,7 @@
 --   Residue     b took its place: it has the same greatest common divisor with that polynomial
 --   Splittable  the part of a polynomial that splits can be written to out
 --   SplitOff    k coefficients at the front of out are the product of (z + r) over all distinct roots
+--   Beginnable  the table of a polynomial can be written, with the field's tables lent
 --   Writable    the table of a polynomial can be written
 -- Assumes nothing.
 use mathlib.Core.Path.{_≡_}
@@ -44,7 +45,15 @@ pub record SplitOff (m : ℕ) (cs : List ℕ) (k : ℕ) (out : List ℕ) : Type 
   pub fewer : k < length cs
   pub low : take k out ≡ monicRoots (G m) (rootsOf (G m) (2 ^ m) cs)
 
--- coefficients that pass the tests, in a field of `size` elements, and a table of all slots
+-- coefficients that pass the tests, and a table of all slots
+pub record Beginnable (m : ℕ) (ls ts cs table : List ℕ) : Type 0 where
+  pub tables : Lent m ls ts
+  pub small : Below (2 ^ m) cs
+  pub few : length cs ≤ suc limit
+  pub nonzero : allZero cs ≡ false
+  pub room : length table ≡ slots
+
+-- the same, in a field of `size` elements
 pub record Writable (m size : ℕ) (cs table : List ℕ) : Type 0 where
   pub degree : known m ≡ true
   pub elements : size ≡ 2 ^ m

@@ -13,7 +13,7 @@ ghost use Rattle.groups.specs.Layout.{byFactor};
 ghost use Rattle.groups.specs.Table.{encode};
 ghost use Rattle.groups.specs.Splitting.{begunTable, slotsBegun};
 ghost use Rattle.splitter.specs.Calls.{limit, slots, polynomialTests, beginOutcome, beginMemory, paperBegun};
-ghost use Rattle.splitter.specs.SplitPart.{Residual, Residue, Splittable, SplitOff, Writable};
+ghost use Rattle.splitter.specs.SplitPart.{Residual, Residue, Splittable, SplitOff, Beginnable, Writable};
 use crate::Begun;
 use polynomial::euclid::gcd;
 use polynomial::monic::make_monic;
@@ -131,19 +131,27 @@ fn lay(table: &mut [u16], m: u16, c: u16, low: &[u16])
     slots::paste(table, 6, low);
 }
 
-// Writes the table of an accepted polynomial, in a field of `size` elements.
+// Writes the table of an accepted polynomial, over lent tables.
+pub fn begin_lent(m: u16, c: u16, logs: &[u16], antilogs: &[u16], coeffs: &[u16], table: &mut [u16])
+    requires { ⌜ Beginnable m (now logs) (now antilogs) (now coeffs) (now table) ⌝ }
+    ensures { λ _. ⌜ now (table .exit) ≡ slotsBegun byFactor slots m c (now (coeffs .entry)) ⌝ }
+{
+    let mut part = [0u16; 33];
+    let n = split_part(m, logs, antilogs, coeffs, &mut part);
+    lay(table, m, c, &part[..n]);
+}
+
+// Writes the table of an accepted polynomial, in a field of `size` elements. The field's tables are lent here.
 fn write(m: u16, size: usize, coeffs: &[u16], c: u16, table: &mut [u16])
     requires { ⌜ Writable m size (now coeffs) (now table) ⌝ }
     ensures { λ _. ⌜ now (table .exit) ≡ slotsBegun byFactor slots m c (now (coeffs .entry)) ⌝ }
 {
     let mut logs = [0u16; 2048];
     let mut antilogs = [0u16; 6141];
-    let mut part = [0u16; 33];
     lent::logs(m, &mut logs);
     lent::antilogs(m, &mut antilogs);
     let e = 3 * (size - 1);
-    let n = split_part(m, &logs[..size], &antilogs[..e], coeffs, &mut part);
-    lay(table, m, c, &part[..n]);
+    begin_lent(m, c, &logs[..size], &antilogs[..e], coeffs, table);
 }
 
 // Begins a table: one factor, the product of (z + r) over all distinct roots of the polynomial, or none if it has no root.

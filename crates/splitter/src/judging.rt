@@ -82,7 +82,7 @@ fn walk(s: &[u16], m: u16, size: u16, count: u16, limit: usize) -> Sum
 }
 
 // The place of the first of `count` factors whose degree is above c.
-fn find(table: &[u16], c: u16, count: u16) -> Place
+pub fn find(table: &[u16], c: u16, count: u16) -> Place
     ensures { λ r. ⌜ r ≡ seek c (now (table .entry)) count 4 ⌝ }
 {
     let mut left = count;

@@ -1,9 +1,9 @@
--- `splitter::beginning::write` meets its contract: the tables are lent, the part that splits is taken, and the table laid.
+-- `splitter::beginning::write` meets its contract: the tables are lent.
 -- Assumes nothing.
 use mathlib.Core.Path.{refl, sym}
 use native.Mathlib.Omega.{arith}
 use lib.Seq.{length-take-le}
-use Rattle.splitter.proofs.Writing.{size-least, size-fits, logs-asks, antilogs-asks, write-splittable, part-long, part-few, written-is}
+use Rattle.splitter.proofs.Writing.{size-least, size-fits, logs-asks, antilogs-asks, write-beginnable}
 use borrow.Author.Needs.{needs}
 use Rattle.splitter.proofs.beginning.write.Statement.{statement}
 use Rattle.splitter.proofs.beginning.write.Tie as tie
@@ -29,35 +29,23 @@ mul-e c = let h = size-fits (c .before .before .before .before .before .before .
 array-share-prefix-logs : tie.Need-array-share-prefix-logs
 array-share-prefix-logs c = let h = size-fits (c .before .before .before .before .before .before .before .before .pre) in omega (arith, c .before .before .before .before .logs2 .ensures .1)
 
-slice-aggregate-split-part : tie.Need-slice-aggregate-split-part
-slice-aggregate-split-part c = sym (length-take-le _ _ (omega (arith, size-fits (c .before .before .before .before .before .before .before .before .before .pre))))
+slice-aggregate-begin-lent : tie.Need-slice-aggregate-begin-lent
+slice-aggregate-begin-lent c = sym (length-take-le _ _ (omega (arith, size-fits (c .before .before .before .before .before .before .before .before .before .pre))))
 
 array-share-prefix-antilogs : tie.Need-array-share-prefix-antilogs
 array-share-prefix-antilogs c = let h = size-fits (c .before .before .before .before .before .before .before .before .before .pre) in omega arith
 
-slice-aggregate-split-part-2 : tie.Need-slice-aggregate-split-part-2
-slice-aggregate-split-part-2 c = sym (length-take-le _ _ (omega (arith, size-fits (c .before .before .before .before .before .before .before .before .before .before .pre))))
+slice-aggregate-begin-lent-2 : tie.Need-slice-aggregate-begin-lent-2
+slice-aggregate-begin-lent-2 c = sym (length-take-le _ _ (omega (arith, size-fits (c .before .before .before .before .before .before .before .before .before .before .pre))))
 
-slice-aggregate-split-part-3 : tie.Need-slice-aggregate-split-part-3
-slice-aggregate-split-part-3 c = search needs
-
-split-part-requires : tie.Need-split-part-requires
-split-part-requires c κs = write-splittable (c .before .before .before .before .before .before .before .before .before .before .before .pre) _ _ (c .before .before .before .before .before .before .before .logs2 .ensures .0) (c .before .before .before .before .antilogs2 .ensures .0) refl
-
-array-share-prefix-part : tie.Need-array-share-prefix-part
-array-share-prefix-part c = search needs
-
-slice-aggregate-lay : tie.Need-slice-aggregate-lay
-slice-aggregate-lay c = sym (part-long (c .before .before .before .split-part .ensures))
-
-lay-requires : tie.Need-lay-requires
-lay-requires c κs = (c .before .before .before .before .before .before .before .before .before .before .before .before .before .before .before .pre .room, part-few (c .before .before .before .before .before .before .before .before .before .before .before .before .before .before .before .pre) (c .before .before .before .split-part .ensures))
+begin-lent-requires : tie.Need-begin-lent-requires
+begin-lent-requires c κs = write-beginnable (c .before .before .before .before .before .before .before .before .before .before .before .pre) _ _ (c .before .before .before .before .before .before .before .logs2 .ensures .0) (c .before .before .before .before .antilogs2 .ensures .0)
 
 same-length : tie.Need-same-length
 same-length c = search needs
 
 returns : tie.Need-returns
-returns c = written-is _ _ (c .before .before .before .before .before .before .split-part .ensures) (c .before .before .lay .ensures)
+returns c = search needs
 
 pub write-spec : {M : Type 1} → statement M
 write-spec =
@@ -70,13 +58,9 @@ write-spec =
     sub-e
     mul-e
     array-share-prefix-logs
-    slice-aggregate-split-part
+    slice-aggregate-begin-lent
     array-share-prefix-antilogs
-    slice-aggregate-split-part-2
-    slice-aggregate-split-part-3
-    split-part-requires
-    array-share-prefix-part
-    slice-aggregate-lay
-    lay-requires
+    slice-aggregate-begin-lent-2
+    begin-lent-requires
     same-length
     returns)
