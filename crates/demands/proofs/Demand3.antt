@@ -1,12 +1,12 @@
 -- DEMAND 3 holds of every polynomial that begin accepts: `Followed` of specs/Demand3.antt is the one record to read, and groups' `Demand3` that it cites.
---   begun-passes   the table of the groups after so many steps passes the tests of a step
+--   never-refused  no step on the table of a begun polynomial is refused
 --   demand-3-calls it holds
 -- Assumes nothing.
 use mathlib.Core.Path.{_≡_, refl, sym, ap, subst, _∙_}
 use mathlib.Core.Bool.{Bool, true, false, not, cond, _||_}
 use mathlib.Core.List.{List, [], _∷_}
 use Prim.Native.Nat.{ℕ, zero, suc, _<_, _≤_}
-use native.Mathlib.Decide.{decLe}
+use native.Mathlib.Decide.{decLe, decLt}
 use native.Mathlib.Omega.{arith}
 use borrow.Author.Tests.{eq-eqb, le-ltb, ltb-false}
 use lib.Dec.{eqb, ltb}
@@ -17,18 +17,18 @@ use Rattle.refusals.proofs.Order.{accepted, written, passes, failed, others}
 use Rattle.slots.specs.Lists.{copied}
 use Rattle.groups.specs.Cutoff.{houseDefault, inForce}
 use Rattle.groups.specs.Layout.{byFactor}
-use Rattle.groups.specs.Splitting.{isDone, rootsAt, slotsDone, slotsStepped, slotsRoots}
+use Rattle.groups.specs.Splitting.{isDone, stuck, rootsAt, slotsDone, slotsStuck, slotsStepped, slotsRoots}
 use Rattle.groups.specs.Demand.{Demand3, stepCount, groupsAfter}
 use Rattle.groups.proofs.HouseDefault.{inForce-least, inForce-most}
 use Rattle.groups.proofs.Layouts.{byFactor-lawful}
-use Rattle.groups.proofs.Soundness.{done-encode}
+use Rattle.groups.proofs.Soundness.{done-encode, stuck-encode}
 use Rattle.groups.proofs.Demand.{demand-3, begin-slots}
 use Rattle.splitter.specs.Calls.{limit, slots, isSound, beginTests, beginMemory, stepTests, stepOutcome, stepMemory, finishTests, finishOutcome, finishMemory}
 use Rattle.splitter.proofs.PolynomialTests.{PolynomialIn, polynomial-told, passed-more, passed-first, passed-rest}
 use Rattle.finder.specs.Calls.{stepsAt, solveTests, rootMemory}
 use Rattle.finder.specs.Solving.{begunAfter, Stepping}
 use Rattle.finder.proofs.Admitting.{roots-few}
-use Rattle.finder.proofs.Running.{taken-at, never-refused, long-now, run-on, run-count, out-roots}
+use Rattle.finder.proofs.Running.{taken-at, long-now, run-on, run-count, out-roots}
 use Rattle.demands.specs.Demand3.{afterSteps, groupsSlots, Followed}
 
 module _ (m c : ℕ) (f table : List ℕ) (p : Passed (beginTests m c f table)) where
@@ -66,14 +66,32 @@ module _ (m c : ℕ) (f table : List ℕ) (p : Passed (beginTests m c f table)) 
   done-at : (n : ℕ) {b : Bool} → isDone (groupsAfter m k (rootsAt m f) n) ≡ b → slotsDone byFactor (begunAfter m k f n) ≡ b
   done-at n e = done-encode byFactor-lawful slots (groupsAfter m k (rootsAt m f) n) ∙ e
 
+  -- 9 is not given: after fewer steps it is not met, and where the table is done it is not given
+  stuck-at : (n : ℕ) → n ≤ count → slotsStuck byFactor (begunAfter m k f n) ≡ false
+  stuck-at n h = stuck-encode byFactor-lawful slots (groupsAfter m k (rootsAt m f) n) ∙ go (decLt n count)
+    where
+      go : Dec (n < count) → stuck (groupsAfter m k (rootsAt m f) n) ≡ false
+      go (yes l) = D .before n l .1
+      go (no l) =
+          let e : n ≡ count = omega arith in
+          let d : isDone (groupsAfter m k (rootsAt m f) n) ≡ true = ap (λ (i : ℕ). isDone (groupsAfter m k (rootsAt m f) i)) e ∙ D .end in
+          rw d refl
+
+  -- a step is not refused
+  never-refused : (n : ℕ) → n ≤ count → Passed (stepTests (begunAfter m k f n))
+  never-refused n h =
+      let s = stepping n h in
+      passes (ap not (eq-eqb (length (begunAfter m k f n)) slots (long-now s)))
+      (passes (ap not (D .sounds byFactor-lawful limit (s .most) (s .few) n h)) (passes (stuck-at n h) none-left))
+
   -- what a step answers and leaves
   step-answers : (n : ℕ) (b : Bool) → n ≤ count → slotsDone byFactor (begunAfter m k f n) ≡ b → stepOutcome (begunAfter m k f n) ≡ (0, cond b 1 0 ∷ [])
-  step-answers n b h e = accepted _ (never-refused (stepping n h)) ∙ ap (λ (d : Bool). (0, cond d 1 0 ∷ [])) e
+  step-answers n b h e = accepted _ (never-refused n h) ∙ ap (λ (d : Bool). (0, cond d 1 0 ∷ [])) e
 
   step-leaves : (n : ℕ) (b : Bool) → n ≤ count → slotsDone byFactor (begunAfter m k f n) ≡ b
       → stepMemory (begunAfter m k f n) ≡ cond b (begunAfter m k f n) (slotsStepped byFactor (begunAfter m k f n))
   step-leaves n b h e =
-      written _ _ (never-refused (stepping n h)) ∙ ap (λ (d : Bool). cond d (begunAfter m k f n) (slotsStepped byFactor (begunAfter m k f n))) e
+      written _ _ (never-refused n h) ∙ ap (λ (d : Bool). cond d (begunAfter m k f n) (slotsStepped byFactor (begunAfter m k f n))) e
 
   -- a step that is taken goes to the next table
   next : (n : ℕ) → n < count → stepMemory (begunAfter m k f n) ≡ begunAfter m k f (suc n)
