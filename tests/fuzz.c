@@ -1,0 +1,448 @@
+/* A libFuzzer target over the C face: arbitrary field degrees, elements, coefficients, cutoffs, tables and lengths. Each list that is lent stands against
+   a page that cannot be touched, before it or behind it, with guards on its other side. What the calls give is compared with short functions of its own:
+   the refusals and their order, soundness, products, values; a refusal writes nothing; begin, steps and finish give what the whole call and the search give.
+   The archive has no instrumentation: outcomes are reported to libFuzzer as counters of their own. tests/fuzz builds and runs it. */
+#define _GNU_SOURCE
+#include "locator.h"
+#include <fcntl.h>
+#include <stdio.h>
+#include <stdlib.h>
+#include <string.h>
+#include <sys/mman.h>
+#include <unistd.h>
+
+enum { PAGE = 65536, MOST = 512, GUARD = 64, GUARDED = 0xA5A5 };
+enum { PRODUCT, INVERSE, POSITION, QUADRATIC, SOLVE, SEARCH, BEGIN, STEP, FINISH, CALLS };
+
+static const char *const name[CALLS] = {"product", "inverse", "position", "quadratic", "solve", "search", "begin", "step", "finish"};
+static unsigned long tally[CALLS][16];
+__attribute__((section("__libfuzzer_extra_counters"))) static uint8_t reached[16384];
+
+static void expect(int holds, const char *what)
+{
+    if (!holds) {
+        fprintf(stderr, "fuzz: %s\n", what);
+        abort();
+    }
+}
+
+/* counts the call, and tells libFuzzer what came of it */
+static void note(int call, unsigned outcome, unsigned detail)
+{
+    expect(outcome < 16, "an outcome that is no number of the paper");
+    tally[call][outcome]++;
+    reached[(unsigned)call * 1600 + outcome * 100 + detail % 100] = 1;
+}
+
+static void print_tally(void)
+{
+    for (int c = 0; c < CALLS; c++) {
+        printf("%s:", name[c]);
+        for (int k = 0; k < 16; k++)
+            if (tally[c][k] != 0)
+                printf(" outcome %d: %lu", k, tally[c][k]);
+        printf("\n");
+    }
+    fflush(stdout);
+}
+
+/* ---- lent memory */
+
+typedef struct { uint16_t *at, *low; size_t n; uint16_t was[MOST]; } list;
+
+static list coefficients, table, roots;
+
+/* n slots of a list, against the page behind it or before it */
+static void lend(list *l, size_t n, const uint16_t *from, int front)
+{
+    const size_t all = PAGE / sizeof(uint16_t);
+    if (l->low == NULL) {
+        char *room = mmap(NULL, 3 * PAGE, PROT_NONE, MAP_PRIVATE | MAP_ANONYMOUS, -1, 0);
+        expect(room != MAP_FAILED && mprotect(room + PAGE, PAGE, PROT_READ | PROT_WRITE) == 0, "no memory");
+        l->low = (uint16_t *)(room + PAGE);
+    }
+    l->n = n;
+    l->at = front ? l->low : l->low + (all - n);
+    for (size_t i = 0; i < GUARD; i++)
+        l->at[front ? (ptrdiff_t)(n + i) : -(ptrdiff_t)(i + 1)] = GUARDED;
+    if (n > 0) {
+        memcpy(l->at, from, n * sizeof *from);
+        memcpy(l->was, from, n * sizeof *from);
+    }
+}
+
+/* the slots from k on are as they were, and so are the guards */
+static void kept_from(const list *l, size_t k)
+{
+    int front = l->at == l->low;
+    for (size_t i = k; i < l->n; i++)
+        expect(l->at[i] == l->was[i], "a slot was written that should not be");
+    for (size_t i = 0; i < GUARD; i++)
+        expect(l->at[front ? (ptrdiff_t)(l->n + i) : -(ptrdiff_t)(i + 1)] == GUARDED, "a write outside lent memory");
+}
+
+/* what the list holds becomes what it was */
+static void keep(list *l)
+{
+    memcpy(l->was, l->at, l->n * sizeof *l->at);
+}
+
+/* ---- the field, in its own way */
+
+static int known(unsigned m)
+{
+    return m == 4 || m == 8 || m == 11;
+}
+
+static unsigned times(unsigned m, unsigned a, unsigned b)
+{
+    unsigned p = m == 4 ? 19 : m == 8 ? 285 : 2053, r = 0;
+    for (; b != 0; b >>= 1, a = a << 1 ^ (a >> (m - 1) & 1) * p)
+        r ^= (b & 1) * a;
+    return r;
+}
+
+static unsigned value_at(unsigned m, const uint16_t *f, size_t n, unsigned x)
+{
+    unsigned v = 0;
+    while (n-- > 0)
+        v = times(m, v, x) ^ f[n];
+    return v;
+}
+
+/* ---- the input */
+
+static const uint8_t *tape;
+static size_t left;
+
+static unsigned byte(void)
+{
+    return left == 0 ? 0 : (left--, *tape++);
+}
+
+static unsigned word(void)
+{
+    unsigned low = byte();
+    return low | byte() << 8;
+}
+
+static uint16_t degree(void)
+{
+    unsigned b = byte();
+    return (uint16_t)(b % 8 == 7 ? word() : b % 8 == 6 ? b : b % 3 == 0 ? 4 : b % 3 == 1 ? 8 : 11);
+}
+
+/* a length that is often the usual one */
+static size_t length(size_t usual)
+{
+    unsigned b = byte();
+    return b < 192 ? usual : b < 224 ? usual + b % 4 - 2 : word() % MOST;
+}
+
+/* an element of the field where there is one, or sometimes any number */
+static uint16_t element(unsigned m, unsigned loose)
+{
+    unsigned x = word();
+    return (uint16_t)(known(m) && !loose ? x % (1u << m) : x);
+}
+
+/* ---- the element calls */
+
+static void elements(void)
+{
+    uint16_t m = degree(), a = element(m, byte() % 8 == 0), b = element(m, byte() % 8 == 0);
+    unsigned first = !known(m) ? 1 : a >> m != 0 ? 4 : 0, both = first != 0 ? first : b >> (m & 15) != 0 ? 4 : 0, one = first != 0 ? first : a == 0 ? 13 : 0;
+    locator_value p = locator_product(m, a, b), i = locator_inverse(m, a), j = locator_position(m, a);
+    locator_pair q = locator_quadratic(m, a, b);
+    expect(p.outcome == both && q.outcome == both && i.outcome == one && j.outcome == one, "another outcome of an element call");
+    expect(p.value == (both ? 0 : times(m, a, b)), "another product");
+    expect(one ? i.value == 0 && j.value == 0 : times(m, a, i.value) == 1, "another inverse");
+    if (one == 0) {
+        unsigned x = 1;
+        expect(j.value < (1u << m) - 1, "a position outside");
+        for (unsigned k = 0; k < j.value; k++)
+            x = times(m, x, 2);
+        expect(x == a, "another position");
+    }
+    uint16_t f[3] = {b, a, 1};
+    expect(q.count <= 2 && (both == 0 || q.count == 0), "another number of roots");
+    expect(q.count > 0 ? value_at(m, f, 3, q.lower) == 0 : q.lower == 0, "no root of the quadratic");
+    expect(q.count > 1 ? q.upper > q.lower && value_at(m, f, 3, q.upper) == 0 : q.upper == 0, "no second root of the quadratic");
+    note(PRODUCT, p.outcome, m);
+    note(INVERSE, i.outcome, m);
+    note(POSITION, j.outcome, m);
+    note(QUADRATIC, q.outcome, q.count);
+}
+
+/* ---- polynomials */
+
+/* refusals 1 to 6 in their order, 6 where it is asked for */
+static unsigned refusal(unsigned m, const uint16_t *f, size_t n, unsigned cutoff)
+{
+    unsigned any = 0, large = 0;
+    for (size_t i = 0; i < n; i++) {
+        any |= f[i];
+        large |= f[i] >> (m & 15);
+    }
+    return !known(m) ? 1 : n == 0 ? 2 : n > 33 ? 3 : large ? 4 : !any ? 5 : cutoff > 3 ? 6 : 0;
+}
+
+/* n coefficients: any, or the product of z + r over numbers r, times z^k */
+static size_t polynomial(unsigned m, uint16_t *f)
+{
+    unsigned kind = byte();
+    size_t n = kind < 250 ? byte() % 36 : word() % MOST;
+    if (kind % 2 == 0 || !known(m) || n == 0 || n > 33) {
+        for (size_t i = 0; i < n; i++)
+            f[i] = element(m, kind % 16 == 0 && byte() % 8 == 0);
+        return n;
+    }
+    memset(f, 0, n * sizeof *f);
+    f[0] = 1;
+    for (size_t d = 1; d < n; d++) {
+        uint16_t r = element(m, 0);
+        for (size_t i = d; i > 0; i--)
+            f[i] = (uint16_t)(f[i - 1] ^ times(m, f[i], r));
+        f[0] = (uint16_t)times(m, f[0], r);
+    }
+    return n;
+}
+
+static void noise(uint16_t *to, size_t n)
+{
+    uint16_t x = (uint16_t)(byte() * 257 + 1);
+    for (size_t i = 0; i < n; i++)
+        to[i] = (uint16_t)(x = (uint16_t)(x * 25173 + 13849));
+}
+
+/* roots at the front of the list: ascending, below 2^m; the rest of it as it was */
+static void check_roots(unsigned m, locator_found found)
+{
+    if (found.outcome != 0)
+        expect(found.count == 0 && found.steps == 0, "a refusal with values");
+    expect(found.count <= 32 && found.count <= roots.n, "too many roots");
+    for (size_t i = 0; i < found.count; i++)
+        expect(roots.at[i] >> m == 0 && (i == 0 || roots.at[i - 1] < roots.at[i]), "roots out of order");
+    kept_from(&roots, found.count);
+}
+
+/* a begun table is stepped until it is done: as many steps as the whole call's */
+static void step_out(unsigned m, unsigned steps)
+{
+    locator_stepped s;
+    unsigned taken = 0;
+    for (;; taken++) {
+        keep(&table);
+        s = locator_step(table.at, table.n);
+        note(STEP, s.outcome, 50 + s.done);
+        expect(s.outcome == 0 && taken <= m * 32, "a begun table that cannot be stepped");
+        if (s.done)
+            break;
+        expect(table.at[3] == taken + 1 && table.at[0] == m, "a step that is not counted");
+        kept_from(&table, table.n);
+    }
+    kept_from(&table, 0);
+    expect(taken == steps, "other steps than the whole call's");
+}
+
+/* what is lent for a polynomial, and the refusal that it must meet before the sizes of lists are looked at, with the cutoff and without */
+typedef struct { uint16_t m, cutoff, f[MOST], old[MOST]; size_t n, room, slots; int front; unsigned out, searched; } job;
+
+/* the whole call, and the search beside it. The roots are put where they can be compared */
+static locator_found engines(const job *j, uint16_t *found)
+{
+    lend(&roots, j->room, j->old, !j->front);
+    locator_found a = locator_solve(j->m, j->n == 0 && j->front ? NULL : coefficients.at, j->n, j->cutoff, j->room == 0 ? NULL : roots.at, j->room);
+    note(SOLVE, a.outcome, a.count + a.steps / 8 * 33);
+    expect(a.outcome == (j->out ? j->out : j->room < 32 ? 7 : 0), "another outcome of the whole call");
+    check_roots(j->m & 15, a);
+    for (size_t i = 0; i < a.count; i++)
+        expect(value_at(j->m, j->f, j->n, roots.at[i]) == 0, "a number that is no root");
+    memcpy(found, roots.at, a.count * sizeof *found);
+    lend(&roots, j->room, j->old, j->front);
+    locator_found b = locator_search(j->m, coefficients.at, j->n, roots.at, j->room);
+    note(SEARCH, b.outcome, b.count);
+    expect(b.outcome == (j->searched ? j->searched : j->room < 32 ? 7 : 0) && b.steps == 0, "another outcome of the search");
+    check_roots(j->m & 15, b);
+    if (a.outcome == 0)
+        expect(a.count == b.count && memcmp(found, roots.at, a.count * sizeof *found) == 0, "the whole call and the search differ");
+    return a;
+}
+
+/* begin, steps until done, finish: the roots and steps of the whole call */
+static void in_steps(const job *j, locator_found a, const uint16_t *found)
+{
+    lend(&table, j->slots, j->old, j->front);
+    unsigned begun = locator_begin(j->m, coefficients.at, j->n, j->cutoff, table.at, j->slots);
+    note(BEGIN, begun, begun == 0 ? table.at[5] : 0);
+    expect(begun == (j->out ? j->out : j->slots != 100 ? 7 : 0), "another outcome of begin");
+    kept_from(&table, begun != 0 ? 0 : j->slots);
+    if (begun != 0 || a.outcome != 0)
+        return;
+    step_out(j->m, a.steps);
+    lend(&roots, j->room, j->old, !j->front);
+    locator_found c = locator_finish(table.at, table.n, roots.at, j->room);
+    note(FINISH, c.outcome, c.count);
+    expect(c.outcome == 0 && c.count == a.count && c.steps == 0, "finish finds other roots than the whole call");
+    check_roots(j->m, c);
+    expect(memcmp(found, roots.at, a.count * sizeof *found) == 0, "finish and the whole call differ");
+    kept_from(&table, 0);
+}
+
+static void polynomials(void)
+{
+    static job j;
+    static uint16_t found[MOST];
+    j.m = degree();
+    j.cutoff = (uint16_t)(byte() % 8 == 7 ? word() : byte() % 5);
+    j.n = polynomial(j.m, j.f);
+    j.room = length(32);
+    j.slots = length(100);
+    j.front = byte() % 2;
+    j.out = refusal(j.m, j.f, j.n, j.cutoff);
+    j.searched = refusal(j.m, j.f, j.n, 0);
+    noise(j.old, MOST);
+    lend(&coefficients, j.n, j.f, j.front);
+    locator_found a = engines(&j, found);
+    in_steps(&j, a, found);
+    kept_from(&coefficients, 0);
+}
+
+/* ---- tables that somebody else wrote */
+
+/* what the slots say: is the table sound, is it done, is its first factor above the cutoff stuck? */
+typedef struct { int sound, done, stuck; unsigned sum; } judged;
+
+static judged judge(const uint16_t *t)
+{
+    unsigned m = t[0], c = t[1], sum = 0, above = 0, stuck = 0;
+    size_t at = 4;
+    judged no = {0, 0, 0, 0};
+    if (!known(m) || c < 1 || c > 3 || t[2] > 32)
+        return no;
+    for (unsigned k = 0; k < t[2]; k++) {
+        if (at + 2 > 100 || t[at] > m || t[at + 1] < 1 || t[at + 1] > 32 || at + 2 + t[at + 1] > 100)
+            return no;
+        sum += t[at + 1];
+        if (!above && t[at + 1] > c) {
+            above = 1;
+            stuck = t[at] == m;
+        }
+        for (size_t end = at + 2 + t[at + 1], i = at + 2; i < end; i++)
+            if (t[i] >> m != 0)
+                return no;
+        at += 2 + t[at + 1];
+    }
+    if (sum > 32 || t[3] > m * (sum / (c + 1)))
+        return no;
+    for (; at < 100; at++)
+        if (t[at] != 0)
+            return no;
+    return (judged){1, !above, above && (stuck || t[3] == m * (sum / (c + 1))), sum};
+}
+
+/* a table of factors as the input has them, with perhaps a slot changed; or any slots */
+static void write_table(uint16_t *t, size_t n)
+{
+    unsigned kind = byte();
+    memset(t, 0, n * sizeof *t);
+    if (kind % 8 == 0 || n < 100) {
+        for (size_t i = 0; i < n; i++)
+            t[i] = (uint16_t)word();
+        return;
+    }
+    unsigned m = t[0] = degree(), factors = byte() % 33, sum = 0;
+    size_t at = 4;
+    t[1] = (uint16_t)(byte() % 3 + 1);
+    for (; t[2] < factors && sum < 32; t[2]++) {
+        unsigned d = byte() % (32 - sum) + 1, level = byte();
+        t[at] = (uint16_t)(known(m) ? level % (m + 1) : level);
+        t[at + 1] = (uint16_t)d;
+        for (size_t i = 0; i < d; i++)
+            t[at + 2 + i] = element(m, 0);
+        at += 2 + d;
+        sum += d;
+    }
+    t[3] = (uint16_t)(byte() % (m * (sum / (t[1] + 1u)) + 1u));
+    if (kind % 8 == 1)
+        t[byte() % 100] = (uint16_t)word();
+}
+
+/* is x a zero of some factor? */
+static int zero_of_some(const uint16_t *t, unsigned x)
+{
+    uint16_t f[33];
+    size_t at = 4;
+    for (unsigned k = 0; k < t[2]; k++) {
+        memcpy(f, t + at + 2, t[at + 1] * sizeof *f);
+        f[t[at + 1]] = 1;
+        if (value_at(t[0], f, t[at + 1] + 1u, x) == 0)
+            return 1;
+        at += 2 + t[at + 1];
+    }
+    return 0;
+}
+
+static void tables(void)
+{
+    static uint16_t t[MOST], old[MOST];
+    size_t slots = length(100), room = length(32);
+    int front = byte() % 2;
+    write_table(t, slots);
+    noise(old, room);
+    judged was = slots == 100 ? judge(t) : (judged){0, 0, 0, 0};
+    lend(&table, slots, t, front);
+    lend(&roots, room, old, !front);
+    locator_found f = locator_finish(table.at, slots, roots.at, room);
+    note(FINISH, f.outcome, f.count);
+    expect(f.outcome == (slots != 100 || room < 32 ? 7 : !was.sound ? 8 : !was.done ? 10 : 0) && f.steps == 0, "another outcome of finish");
+    check_roots(t[0] & 15, f);
+    kept_from(&table, 0);
+    for (size_t i = 0; i < f.count; i++)
+        expect(zero_of_some(t, roots.at[i]), "a number that is no root of a factor");
+    locator_stepped s = locator_step(table.at, slots);
+    note(STEP, s.outcome, s.done);
+    expect(s.outcome == (slots != 100 ? 7 : !was.sound ? 8 : was.stuck ? 9 : 0), "another outcome of step");
+    expect(s.done == (s.outcome == 0 && was.done), "done where it is not");
+    if (s.outcome != 0 || s.done) {
+        kept_from(&table, 0);
+        return;
+    }
+    kept_from(&table, slots);
+    judged now = judge(table.at);
+    expect(now.sound && now.sum == was.sum && table.at[3] == t[3] + 1 && table.at[0] == t[0] && table.at[1] == t[1], "a step that breaks the table");
+}
+
+/* the input that is tried, in the file that FUZZ_LAST names: an emulator may end the program before libFuzzer has saved it. Zeros behind it change nothing */
+static uint8_t *last;
+
+int LLVMFuzzerInitialize(int *count, char ***words)
+{
+    (void)count, (void)words;
+    const char *path = getenv("FUZZ_LAST");
+    if (path != NULL) {
+        int file = open(path, O_RDWR | O_CREAT | O_TRUNC, 0644);
+        expect(file >= 0 && ftruncate(file, MOST) == 0, "FUZZ_LAST cannot be written");
+        last = mmap(NULL, MOST, PROT_READ | PROT_WRITE, MAP_SHARED, file, 0);
+        expect(last != MAP_FAILED, "FUZZ_LAST cannot be mapped");
+    }
+    return atexit(print_tally);
+}
+
+int LLVMFuzzerTestOneInput(const uint8_t *data, size_t size)
+{
+    tape = data;
+    left = size < MOST ? size : MOST;
+    if (last != NULL) {
+        memset(last, 0, MOST);
+        memcpy(last, data, left);
+    }
+    unsigned kind = byte();
+    if (kind % 8 == 0)
+        elements();
+    else if (kind % 2 == 0)
+        polynomials();
+    else
+        tables();
+    return 0;
+}
