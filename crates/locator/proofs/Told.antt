@@ -1,0 +1,124 @@
+-- The C face loses nothing: a struct tells the answer that it was made from.
+--   told              what a map with a way back gives for two is one only where the two are one
+--   value-told ..     so for the struct of each answer
+-- Assumes nothing.
+use mathlib.Core.Path.{_≡_, sym, ap, _∙_}
+use mathlib.Core.Bool.{cond}
+use Prim.Native.Nat.{ℕ, zero, suc}
+use lib.Dec.{eqb}
+use Rattle.refusals.proofs.Numbers.{by-number, refused-back, accepted-back}
+use Rattle.field.specs.Quadratics.{paperRoots}
+use Rattle.field.specs.declared.solver.Quadratic.{Quadratic}
+use Rattle.field.specs.declared.solver.Quadratic.the-variants.{Refused as Turned, NoRoot, One, Two}
+use Rattle.elements.specs.Calls.{paper}
+use Rattle.elements.specs.declared.Answer.{Answer}
+use Rattle.elements.specs.declared.Answer.the-variants.{Value, Refused}
+use Rattle.finder.specs.Calls.{paperSolved, paperSearched}
+use Rattle.finder.specs.declared.Solved.{Solved}
+use Rattle.finder.specs.declared.Solved.the-variants.{Found, NotSolved}
+use Rattle.finder.specs.declared.Searched.{Searched}
+use Rattle.finder.specs.declared.Searched.the-variants.{Seen, NotSearched}
+use Rattle.splitter.specs.Calls.{paperBegun, paperStepped, paperFinished}
+use Rattle.splitter.specs.declared.Begun.{Begun}
+use Rattle.splitter.specs.declared.Begun.the-variants.{Ready, NotBegun}
+use Rattle.splitter.specs.declared.Stepped.{Stepped}
+use Rattle.splitter.specs.declared.Stepped.the-variants.{Taken, Done, NotStepped}
+use Rattle.splitter.specs.declared.Finished.{Finished}
+use Rattle.splitter.specs.declared.Finished.the-variants.{Listed, NotFinished}
+use Rattle.locator.specs.Calls.{asValue, asPair, asFound, asStepped}
+use Rattle.locator.specs.declared.LocatorValue.{LocatorValue}
+use Rattle.locator.specs.declared.LocatorPair.{LocatorPair}
+use Rattle.locator.specs.declared.LocatorFound.{LocatorFound}
+use Rattle.locator.specs.declared.LocatorStepped.{LocatorStepped}
+
+pub told : {A B : Type 0} (there : A → B) (back : B → A) → ((a : A) → back (there a) ≡ a) → (a b : A) → there a ≡ there b → a ≡ b
+told there back returns a b e = sym (returns a) ∙ ap back e ∙ returns b
+
+-- ---- element calls
+
+valueBack : LocatorValue → Answer
+valueBack v = by-number Refused (Value (v .value)) (v .outcome)
+
+value-back : (a : Answer) → valueBack (asValue (paper a)) ≡ a
+unfolding valueBack
+value-back (Value v) = accepted-back Refused (Value v)
+value-back (Refused k) = refused-back Refused (Value 0) k
+
+pub value-told : (a b : Answer) → asValue (paper a) ≡ asValue (paper b) → a ≡ b
+value-told = told (λ (a : Answer). asValue (paper a)) valueBack value-back
+
+-- ---- the quadratic: the count tells "no root" from the root 0
+
+rootsBack : ℕ → ℕ → ℕ → Quadratic
+rootsBack zero x y = NoRoot
+rootsBack (suc zero) x y = One x
+rootsBack (suc (suc n)) x y = Two x y
+
+pairBack : LocatorPair → Quadratic
+pairBack p = by-number Turned (rootsBack (p .count) (p .lower) (p .upper)) (p .outcome)
+
+pair-back : (q : Quadratic) → pairBack (asPair (paperRoots q)) ≡ q
+unfolding pairBack rootsBack
+pair-back (Turned k) = refused-back Turned NoRoot k
+pair-back NoRoot = accepted-back Turned NoRoot
+pair-back (One x) = accepted-back Turned (One x)
+pair-back (Two x y) = accepted-back Turned (Two x y)
+
+pub pair-told : (p q : Quadratic) → asPair (paperRoots p) ≡ asPair (paperRoots q) → p ≡ q
+pair-told = told (λ (q : Quadratic). asPair (paperRoots q)) pairBack pair-back
+
+-- ---- the whole call, the search, finish
+
+solvedBack : LocatorFound → Solved
+solvedBack f = by-number NotSolved (Found (f .count) (f .steps)) (f .outcome)
+
+solved-back : (a : Solved) → solvedBack (asFound (paperSolved a)) ≡ a
+unfolding solvedBack
+solved-back (Found s n) = accepted-back NotSolved (Found s n)
+solved-back (NotSolved k) = refused-back NotSolved (Found 0 0) k
+
+pub solved-told : (a b : Solved) → asFound (paperSolved a) ≡ asFound (paperSolved b) → a ≡ b
+solved-told = told (λ (a : Solved). asFound (paperSolved a)) solvedBack solved-back
+
+searchedBack : LocatorFound → Searched
+searchedBack f = by-number NotSearched (Seen (f .count)) (f .outcome)
+
+searched-back : (a : Searched) → searchedBack (asFound (paperSearched a)) ≡ a
+unfolding searchedBack
+searched-back (Seen s) = accepted-back NotSearched (Seen s)
+searched-back (NotSearched k) = refused-back NotSearched (Seen 0) k
+
+pub searched-told : (a b : Searched) → asFound (paperSearched a) ≡ asFound (paperSearched b) → a ≡ b
+searched-told = told (λ (a : Searched). asFound (paperSearched a)) searchedBack searched-back
+
+finishedBack : LocatorFound → Finished
+finishedBack f = by-number NotFinished (Listed (f .count)) (f .outcome)
+
+finished-back : (a : Finished) → finishedBack (asFound (paperFinished a)) ≡ a
+unfolding finishedBack
+finished-back (Listed s) = accepted-back NotFinished (Listed s)
+finished-back (NotFinished k) = refused-back NotFinished (Listed 0) k
+
+pub finished-told : (a b : Finished) → asFound (paperFinished a) ≡ asFound (paperFinished b) → a ≡ b
+finished-told = told (λ (a : Finished). asFound (paperFinished a)) finishedBack finished-back
+
+-- ---- begin and step
+
+pub begun-told : (a b : Begun) → paperBegun a .0 ≡ paperBegun b .0 → a ≡ b
+begun-told = told (λ (a : Begun). paperBegun a .0) (by-number NotBegun Ready) begun-back
+  where
+    begun-back : (a : Begun) → by-number NotBegun Ready (paperBegun a .0) ≡ a
+    begun-back Ready = accepted-back NotBegun Ready
+    begun-back (NotBegun k) = refused-back NotBegun Ready k
+
+steppedBack : LocatorStepped → Stepped
+steppedBack s = by-number NotStepped (cond (eqb (s .done) 1) Done Taken) (s .outcome)
+
+stepped-back : (a : Stepped) → steppedBack (asStepped (paperStepped a)) ≡ a
+unfolding steppedBack
+stepped-back Taken = accepted-back NotStepped Taken
+stepped-back Done = accepted-back NotStepped Done
+stepped-back (NotStepped k) = refused-back NotStepped Taken k
+
+pub stepped-told : (a b : Stepped) → asStepped (paperStepped a) ≡ asStepped (paperStepped b) → a ≡ b
+stepped-told = told (λ (a : Stepped). asStepped (paperStepped a)) steppedBack stepped-back
