@@ -67,6 +67,7 @@ pub fn take_turn(file: &[u8], place: Place, out: &mut [u8]) -> Turn
     ensures { λ r. ⌜ Turned (now (file .entry)) (place .at) (place .k) (now (out .entry)) r (now (out .exit)) ⌝ }
 {
     let k = place.k;
+    let after = k + 1;
     match records::held::read_from(file, place.at) {
         Read::End => Turn {
             len: 0,
@@ -74,11 +75,11 @@ pub fn take_turn(file: &[u8], place: Place, out: &mut [u8]) -> Turn
         },
         Read::Stopped(refusal) => Turn {
             len: turned_line(k, refusal, out),
-            next: Next::Over,
+            next: Next::Over, // after 11 and 12
         },
         Read::Refused { refusal, next } => Turn {
             len: turned_line(k, refusal, out),
-            next: Next::On(Place { at: next, k: k + 1 }),
+            next: Next::On(Place { at: next, k: after }), // after 1 to 6
         },
         Read::Record(job) => {
             let bytes = records::body(file, job.start, job.len);
@@ -87,7 +88,7 @@ pub fn take_turn(file: &[u8], place: Place, out: &mut [u8]) -> Turn
                 len: solved_line(k, job.m as u16, records::resolve(cutoff), bytes, out),
                 next: Next::On(Place {
                     at: job.next,
-                    k: k + 1,
+                    k: after,
                 }),
             }
         }

@@ -5,6 +5,9 @@ use borrow.Author.Needs.{needs}
 use Rattle.jobs.proofs.take_turn.Statement.{statement}
 use Rattle.jobs.proofs.take_turn.Tie as tie
 
+add-after : tie.Need-add-after
+add-after c = search needs
+
 read-from-requires : tie.Need-read-from-requires
 read-from-requires c κs = search needs
 
@@ -22,9 +25,6 @@ enum-known-refusal-2 c = search needs
 
 turned-line-requires-2 : tie.Need-turned-line-requires-2
 turned-line-requires-2 c κs = search needs
-
-add-t21 : tie.Need-add-t21
-add-t21 c = search needs
 
 enum-known-job : tie.Need-enum-known-job
 enum-known-job c = search needs
@@ -44,9 +44,6 @@ solved-line-requires c κs =
     let r = j .before .before in
     let start = r .before .before .before in
     record-solvable _ (start .args .place .at) _ (r .read-from .ensures) (j .job .given .1) (c .before .resolve .ensures) (c .before .before .before .body .ensures) (start .pre .0)
-
-add-t29 : tie.Need-add-t29
-add-t29 c = search needs
 
 returns : tie.Need-returns
 returns c = turn-over (c .before .before .read-from .ensures) (c .enum-told .given .1)
@@ -80,19 +77,18 @@ pub take-turn-spec : {M : Type 1} → statement M
 take-turn-spec =
     tie.close
     (tie.spec
+    add-after
     read-from-requires
     enum-told
     enum-known-refusal
     turned-line-requires
     enum-known-refusal-2
     turned-line-requires-2
-    add-t21
     enum-known-job
     body-requires
     cast-solved-line
     resolve-requires
     solved-line-requires
-    add-t29
     returns
     same-length
     returns-2
