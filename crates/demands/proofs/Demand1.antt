@@ -14,7 +14,8 @@ use Rattle.refusals.specs.Order.Given.{here, later}
 use Rattle.refusals.proofs.Order as order
 use Rattle.algebra.specs.Trial.{All}
 use Rattle.elements.proofs.Coincide.{answer-told, roots-told}
-use Rattle.splitter.proofs.Coincide.{begun-told, stepped-told, finished-told}
+use Rattle.beginning.proofs.Coincide.{begun-told}
+use Rattle.splitter.proofs.Coincide.{stepped-told, finished-told}
 use Rattle.finder.proofs.Coincide.{solved-told, searched-told}
 use Rattle.records.proofs.Coincide as records
 use Rattle.records.proofs.Exactly.{ends-exactly, stops-exactly, refuses-exactly}

@@ -21,7 +21,7 @@ use Rattle.slots.specs.Lists.{copied}
 use Rattle.field.specs.Field.{numbers, fieldAt}
 use Rattle.groups.specs.Splitting.{rootsAt}
 use Rattle.groups.proofs.Fields.{known-field}
-use Rattle.splitter.proofs.PolynomialTests.{PolynomialIn, polynomial-told, passed-more, passed-first, passed-rest}
+use Rattle.beginning.proofs.PolynomialTests.{PolynomialIn, polynomial-told, passed-more, passed-first, passed-rest}
 use Rattle.finder.specs.Calls.{solveTests, searchTests, rootMemory}
 use Rattle.finder.proofs.Admitting.{roots-few}
 use Rattle.finder.proofs.Agreement.{agree-list}

@@ -23,8 +23,11 @@ use Rattle.groups.proofs.HouseDefault.{inForce-least, inForce-most}
 use Rattle.groups.proofs.Layouts.{byFactor-lawful}
 use Rattle.groups.proofs.Soundness.{done-encode, stuck-encode}
 use Rattle.groups.proofs.Demand.{demand-3, begin-slots}
-use Rattle.splitter.specs.Calls.{limit, slots, isSound, beginTests, beginMemory, stepTests, stepOutcome, stepMemory, finishTests, finishOutcome, finishMemory}
-use Rattle.splitter.proofs.PolynomialTests.{PolynomialIn, polynomial-told, passed-more, passed-first, passed-rest}
+use Rattle.groups.specs.Limit.{limit, slots, isSound}
+use Rattle.judging.specs.Verdicts.{stepTests}
+use Rattle.beginning.specs.Calls.{beginTests, beginMemory}
+use Rattle.splitter.specs.Calls.{stepOutcome, stepMemory, finishTests, finishOutcome, finishMemory}
+use Rattle.beginning.proofs.PolynomialTests.{PolynomialIn, polynomial-told, passed-more, passed-first, passed-rest}
 use Rattle.finder.specs.Calls.{stepsAt, solveTests, rootMemory}
 use Rattle.finder.specs.Solving.{begunAfter, Stepping}
 use Rattle.finder.proofs.Admitting.{roots-few}

@@ -19,8 +19,12 @@ use Rattle.elements.specs.Calls.{paper, pairTests, nonzeroTests, productOutcome
 use Rattle.groups.specs.Cutoff.{inForce}
 use Rattle.groups.specs.Layout.{byFactor}
 use Rattle.groups.specs.Splitting.{rootsAt, slotsDone, slotsStepped, slotsBegun, slotsRoots}
-use Rattle.splitter.specs.Calls.{slots, beginTests, stepTests, finishTests, beginOutcome, stepOutcome, finishOutcome, beginMemory, stepMemory, finishMemory}
-use Rattle.splitter.specs.Calls.{paperBegun, paperStepped, paperFinished}
+use Rattle.groups.specs.Limit.{slots}
+use Rattle.judging.specs.Verdicts.{stepTests}
+use Rattle.beginning.specs.Calls.{beginTests, beginOutcome, beginMemory}
+use Rattle.splitter.specs.Calls.{finishTests, stepOutcome, finishOutcome, stepMemory, finishMemory}
+use Rattle.beginning.specs.Calls.{paperBegun}
+use Rattle.splitter.specs.Calls.{paperStepped, paperFinished}
 use Rattle.finder.specs.Calls.{stepsAt, solveTests, searchTests, solveOutcome, searchOutcome, rootMemory, paperSolved, paperSearched}
 use Rattle.records.specs.Layout.{recordLength}
 use Rattle.records.specs.Reading.{Outcome, startTests, recordTests, readAt}

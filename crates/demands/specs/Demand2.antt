@@ -14,7 +14,7 @@ use Rattle.algebra.specs.Trial.{Ascending, Distinct}
 use Rattle.algebra.specs.Polynomial.{eval}
 use Rattle.field.specs.Field.{numbers, fieldAt}
 use Rattle.groups.specs.Splitting.{rootsAt}
-use Rattle.splitter.specs.Calls.{limit}
+use Rattle.groups.specs.Limit.{limit}
 use Rattle.finder.specs.Calls.{stepsAt, solveTests, searchTests, solveOutcome, searchOutcome, rootMemory}
 
 abbrev pub valueAt : ℕ → List ℕ → ℕ → ℕ

@@ -16,7 +16,9 @@ use Rattle.groups.specs.Layout.{byFactor}
 use Rattle.groups.specs.Table.{encode}
 use Rattle.groups.specs.Splitting.{rootsAt}
 use Rattle.groups.specs.Demand.{Demand3, groupsAfter}
-use Rattle.splitter.specs.Calls.{limit, slots, beginOutcome, beginMemory, stepOutcome, stepMemory, finishOutcome, finishMemory}
+use Rattle.groups.specs.Limit.{limit, slots}
+use Rattle.beginning.specs.Calls.{beginOutcome, beginMemory}
+use Rattle.splitter.specs.Calls.{stepOutcome, stepMemory, finishOutcome, finishMemory}
 use Rattle.finder.specs.Calls.{stepsAt, solveTests, solveOutcome, rootMemory}
 
 unfoldable pub afterSteps : ℕ → List ℕ → List ℕ

@@ -14,7 +14,7 @@ use lib.ListN.{length, replicate}
 use Rattle.groups.specs.Cutoff.{inForce}
 use Rattle.groups.specs.Layout.{byFactor}
 use Rattle.groups.specs.Splitting.{rootsAt, slotsBegun, slotsAfter}
-use Rattle.splitter.specs.Calls.{slots}
+use Rattle.groups.specs.Limit.{slots}
 use Rattle.finder.specs.Calls.{solveOutcome}
 
 pub record Figure : Type 0 where

@@ -37,9 +37,10 @@ use Rattle.groups.proofs.HouseDefault.{inForce-least, inForce-most}
 use Rattle.groups.proofs.Demand.{begin-slots}
 use Rattle.groups.proofs.Fields.{known-field}
 use Rattle.polynomial.specs.Lent.{Lent}
-use Rattle.splitter.specs.Calls.{limit, slots, polynomialTests}
-use Rattle.splitter.specs.SplitPart.{Beginnable}
-use Rattle.splitter.proofs.PolynomialTests.{PolynomialIn, polynomial-told, passed-given, passed-more}
+use Rattle.groups.specs.Limit.{limit, slots}
+use Rattle.groups.specs.Polynomials.{polynomialTests}
+use Rattle.beginning.specs.SplitPart.{Beginnable}
+use Rattle.beginning.proofs.PolynomialTests.{PolynomialIn, polynomial-told, passed-given, passed-more}
 use Rattle.splitter.proofs.Lending.{logs-room, lent-is}
 use Rattle.finder.specs.Searching.{Searchable, LetIn}
 use Rattle.finder.specs.Solving.{begunAfter, Stepping, Solvable, SolvedOut, Admitted}

@@ -12,7 +12,8 @@ use lib.Dec.{ltb}
 use lib.ListN.{length}
 use Rattle.refusals.specs.Order.{decide, outcome}
 use Rattle.groups.specs.Splitting.{rootsAt}
-use Rattle.splitter.specs.Calls.{limit, polynomialTests}
+use Rattle.groups.specs.Limit.{limit}
+use Rattle.groups.specs.Polynomials.{polynomialTests}
 use Rattle.finder.specs.Calls.{stepsAt, solveTests, searchTests, solveOutcome, searchOutcome, rootMemory}
 
 skipped : {A : Type 0} (ts : List (ℕ × Bool)) (k : ℕ) (us : List (ℕ × Bool)) (refuse : ℕ → A) (accept : A)

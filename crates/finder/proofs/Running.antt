@@ -24,16 +24,17 @@ use Rattle.groups.proofs.Soundness.{done-encode, stuck-encode, roots-encode}
 use Rattle.groups.proofs.Keeping.{sound-length}
 use Rattle.groups.proofs.Demand.{demand-3, steps-to-done}
 use Rattle.polynomial.specs.Lent.{Lent}
-use Rattle.splitter.specs.Calls.{limit, slots, isSound, stepTests}
+use Rattle.groups.specs.Limit.{limit, slots, isSound}
+use Rattle.judging.specs.Verdicts.{stepTests}
 use Rattle.finder.specs.Solving.{begunAfter, Stepping, RunOut, Solvable}
 use Rattle.field.specs.Field.{fieldAt}
 use Rattle.field.specs.Tables.{Halves}
 use Rattle.splitter.specs.Finishing.{Listable}
-use Rattle.splitter.specs.Verdicts.{Chosen}
-use Rattle.splitter.specs.Walk.{seek}
-use Rattle.splitter.specs.declared.judging.Place.{Place}
-use Rattle.splitter.specs.declared.judging.Place.the-variants.{At, Nowhere}
-use Rattle.splitter.proofs.Findings.{seek-done, seek-chosen}
+use Rattle.judging.specs.Verdicts.{Chosen}
+use Rattle.judging.specs.Walk.{seek}
+use Rattle.judging.specs.declared.Place.{Place}
+use Rattle.judging.specs.declared.Place.the-variants.{At, Nowhere}
+use Rattle.judging.proofs.Findings.{seek-done, seek-chosen}
 
 -- one step more on slots
 after-more : (n : ℕ) (l : List ℕ) → slotsAfter byFactor (suc n) l ≡ slotsStepped byFactor (slotsAfter byFactor n l)

@@ -15,7 +15,8 @@ use Rattle.slots.specs.Lists.{copied}
 use Rattle.groups.specs.Cutoff.{inForce}
 use Rattle.groups.specs.Splitting.{rootsAt}
 use Rattle.groups.specs.Demand.{stepCount}
-use Rattle.splitter.specs.Calls.{limit, polynomialTests}
+use Rattle.groups.specs.Limit.{limit}
+use Rattle.groups.specs.Polynomials.{polynomialTests}
 use Rattle.finder.specs.declared.Solved.{Solved}
 use Rattle.finder.specs.declared.Solved.the-variants.{Found, NotSolved}
 use Rattle.finder.specs.declared.Searched.{Searched}

@@ -19,7 +19,8 @@ use Rattle.field.specs.Field.{numbers, fieldAt}
 use Rattle.slots.specs.Lists.{copied}
 use Rattle.groups.specs.Splitting.{rootsAt}
 use Rattle.polynomial.specs.Lent.{Lent}
-use Rattle.splitter.specs.Calls.{limit, polynomialTests}
+use Rattle.groups.specs.Limit.{limit}
+use Rattle.groups.specs.Polynomials.{polynomialTests}
 
 pub record Searchable (m : ℕ) (ls ts f roots : List ℕ) : Type 0 where
   pub tables : Lent m ls ts

@@ -21,8 +21,9 @@ use Rattle.polynomial.specs.Lent.{Lent}
 use Rattle.slots.specs.Lists.{copied}
 use Rattle.field.specs.Field.{fieldAt}
 use Rattle.field.specs.Tables.{Halves}
-use Rattle.splitter.specs.Calls.{limit, slots, polynomialTests}
-use Rattle.splitter.proofs.PolynomialTests.{PolynomialIn}
+use Rattle.groups.specs.Limit.{limit, slots}
+use Rattle.groups.specs.Polynomials.{polynomialTests}
+use Rattle.beginning.proofs.PolynomialTests.{PolynomialIn}
 use Rattle.finder.specs.declared.solving.Counts.{Counts}
 
 abbrev pub begunAfter : ℕ → ℕ → List ℕ → ℕ → List ℕ

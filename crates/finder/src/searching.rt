@@ -5,15 +5,17 @@ ghost use Prim.Native.Nat.{_<_};
 ghost use lib.Dec.{ltb};
 ghost use lib.ListN.{length};
 ghost use Rattle.refusals.specs.Admitting.{Admits};
-ghost use Rattle.splitter.specs.Calls.{limit, polynomialTests};
+ghost use Rattle.groups.specs.Limit.{limit};
+ghost use Rattle.groups.specs.Polynomials.{polynomialTests};
 ghost use Rattle.finder.specs.Calls.{searchOutcome, searchTests, rootMemory, paperSearched};
 ghost use Rattle.finder.specs.Searching.{Searchable, SearchedOut, Tried, Noted, LetIn};
 use crate::Searched;
+use beginning::admit_polynomial;
+use groups::LIMIT;
 use polynomial::values::evaluate;
 use polynomial::values::evaluate_four;
 use refusals::Admission;
 use refusals::Refusal;
-use splitter::beginning::admit_polynomial;
 
 // Puts the element x behind the k roots at the front of the list where its value v is 0. Returns how many there are then.
 fn note(v: u16, x: u16, roots: &mut [u16], k: u16) -> u16
@@ -82,7 +84,7 @@ fn admit(m: u16, coeffs: &[u16], room: usize) -> Admission
     let Admission::In(row) = found else {
         return found;
     };
-    if room < 32 {
+    if room < LIMIT {
         return Admission::Out(Refusal::Room);
     }
     Admission::In(row)

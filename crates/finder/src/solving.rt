@@ -4,18 +4,20 @@ ghost use mathlib.Core.List.{[], _∷_};
 ghost use lib.Dec.{ltb};
 ghost use Rattle.refusals.specs.Admitting.{Admits};
 ghost use Rattle.groups.specs.Cutoff.{inForce};
-ghost use Rattle.splitter.specs.Calls.{limit, polynomialTests};
+ghost use Rattle.groups.specs.Limit.{limit};
+ghost use Rattle.groups.specs.Polynomials.{polynomialTests};
 ghost use Rattle.finder.specs.Calls.{solveOutcome, solveTests, rootMemory, paperSolved};
 ghost use Rattle.finder.specs.Solving.{Running, RunOut, Solvable, SolvedOut, Admitted};
 use crate::Solved;
+use beginning::admit_polynomial;
+use beginning::begin_lent;
+use beginning::in_force;
+use groups::LIMIT;
+use judging::Place;
+use judging::find;
 use refusals::Admission;
 use refusals::Refusal;
-use splitter::beginning::admit_polynomial;
-use splitter::beginning::begin_lent;
-use splitter::beginning::in_force;
 use splitter::finishing::finish_lent;
-use splitter::judging::Place;
-use splitter::judging::find;
 use splitter::stepping::step_lent;
 
 // Steps a begun table until it is done. It is sound, so that the place of the next step is all that is looked for. The coefficients only say which table it is.
@@ -98,7 +100,7 @@ fn admit(m: u16, coeffs: &[u16], cutoff: u16, room: usize) -> Admission
     if 3 < cutoff {
         return Admission::Out(Refusal::Cutoff);
     }
-    if room < 32 {
+    if room < LIMIT {
         return Admission::Out(Refusal::Room);
     }
     Admission::In(row)

@@ -6,3 +6,5 @@ pub mod Table
 pub mod Splitting
 pub mod Cutoff
 pub mod Demand
+pub mod Limit
+pub mod Polynomials

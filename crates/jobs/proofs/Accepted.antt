@@ -27,8 +27,8 @@ use Rattle.refusals.proofs.Numbers.{by-number, refused-back, accepted-back}
 use Rattle.slots.specs.Lists.{copied}
 use Rattle.slots.proofs.Lists.{copied-front}
 use Rattle.groups.specs.Splitting.{rootsAt}
-use Rattle.splitter.specs.Calls.{limit}
-use Rattle.splitter.proofs.PolynomialTests.{PolynomialIn, polynomial-told}
+use Rattle.groups.specs.Limit.{limit}
+use Rattle.beginning.proofs.PolynomialTests.{PolynomialIn, polynomial-told}
 use Rattle.finder.specs.Calls.{stepsAt, solveTests, solveOutcome, rootMemory, paperSolved}
 use Rattle.finder.specs.declared.Solved.{Solved}
 use Rattle.finder.specs.declared.Solved.the-variants.{Found, NotSolved}
@@ -42,7 +42,7 @@ use Rattle.records.specs.Lines.{lineOf, Wrote}
 use Rattle.records.proofs.Forward.{never, accepts}
 use Rattle.jobs.specs.Printing.{cutoffOf, turnedLine, solvedLine, Solvable}
 
--- one list of tests, written in two crates that do not know each other
+-- the reader's tests, and that of the list's room behind them
 pub same-tests : (m c : ℕ) (cs list : List ℕ) → callTests m c cs ++ ((7, ltb (length list) limit) ∷ []) ≡ solveTests m c cs list
 same-tests m c cs list = refl
 

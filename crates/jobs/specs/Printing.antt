@@ -17,10 +17,10 @@ use Prim.Native.Nat.{ℕ, _+_, _≤_}
 use lib.ListN.{length}
 use Rattle.refusals.specs.Order.{Passed}
 use Rattle.slots.specs.Lists.{pasted}
+use Rattle.groups.specs.Cutoff.{houseDefault}
 use Rattle.groups.specs.Splitting.{rootsAt}
 use Rattle.finder.specs.Calls.{stepsAt}
 use Rattle.records.specs.Layout.{words, part}
-use Rattle.records.specs.Cutoffs.{houseDefault}
 use Rattle.records.specs.Reading.{Outcome, callTests, readAt}
 use Rattle.records.specs.Files.{Reads}
 use Rattle.records.specs.Lines.{lineOf}

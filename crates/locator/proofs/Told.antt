@@ -18,9 +18,10 @@ use Rattle.finder.specs.declared.Solved.{Solved}
 use Rattle.finder.specs.declared.Solved.the-variants.{Found, NotSolved}
 use Rattle.finder.specs.declared.Searched.{Searched}
 use Rattle.finder.specs.declared.Searched.the-variants.{Seen, NotSearched}
-use Rattle.splitter.specs.Calls.{paperBegun, paperStepped, paperFinished}
-use Rattle.splitter.specs.declared.Begun.{Begun}
-use Rattle.splitter.specs.declared.Begun.the-variants.{Ready, NotBegun}
+use Rattle.beginning.specs.Calls.{paperBegun}
+use Rattle.splitter.specs.Calls.{paperStepped, paperFinished}
+use Rattle.beginning.specs.declared.Begun.{Begun}
+use Rattle.beginning.specs.declared.Begun.the-variants.{Ready, NotBegun}
 use Rattle.splitter.specs.declared.Stepped.{Stepped}
 use Rattle.splitter.specs.declared.Stepped.the-variants.{Taken, Done, NotStepped}
 use Rattle.splitter.specs.declared.Finished.{Finished}

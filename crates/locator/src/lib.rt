@@ -3,7 +3,8 @@
 ghost use mathlib.Core.Path.{_≡_};
 ghost use Rattle.elements.specs.Calls.{productOutcome, inverseOutcome, positionOutcome, quadraticOutcome};
 ghost use Rattle.finder.specs.Calls.{solveOutcome, solveTests, searchOutcome, searchTests, rootMemory};
-ghost use Rattle.splitter.specs.Calls.{beginOutcome, beginMemory, stepOutcome, stepMemory, finishOutcome, finishMemory};
+ghost use Rattle.beginning.specs.Calls.{beginOutcome, beginMemory};
+ghost use Rattle.splitter.specs.Calls.{stepOutcome, stepMemory, finishOutcome, finishMemory};
 ghost use Rattle.locator.specs.Calls.{asValue, asPair, asFound, asStepped};
 
 mod answers; // what the calls answer, as these structs
@@ -97,7 +98,7 @@ pub extern "C" fn locator_search(m: u16, coeffs: &[u16], roots: &mut [u16]) -> L
 pub extern "C" fn locator_begin(m: u16, coeffs: &[u16], cutoff: u16, table: &mut [u16]) -> u16
     ensures { λ r. ⌜ (r ≡ beginOutcome m cutoff (now (coeffs .entry)) (now (table .entry)) .0) × (now (table .exit) ≡ beginMemory m cutoff (now (coeffs .entry)) (now (table .entry))) ⌝ }
 {
-    answers::begun_of(splitter::beginning::begin(m, coeffs, cutoff, table))
+    answers::begun_of(beginning::begin(m, coeffs, cutoff, table))
 }
 
 // One step of a table.

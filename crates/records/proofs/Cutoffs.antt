@@ -9,7 +9,8 @@ use mathlib.Core.List.{List, [], _∷_}
 use Prim.Native.Nat.{ℕ}
 use borrow.Author.Tests.{eqb-false}
 use lib.Dec.{eqb}
-use Rattle.records.specs.Cutoffs.{houseDefault, stated, statedBy, resolved}
+use Rattle.groups.specs.Cutoff.{houseDefault}
+use Rattle.records.specs.Cutoffs.{stated, statedBy, resolved}
 use Rattle.records.specs.declared.Cutoff.{Cutoff}
 use Rattle.records.specs.declared.Cutoff.the-variants.{House, Stated}
 use Rattle.records.proofs.Forward.{never}

@@ -7,7 +7,7 @@
 use mathlib.Core.Path.{_≡_, sym, ap, _∙_, subst}
 use mathlib.Core.Bool.{false, not}
 use mathlib.Core.List.{List}
-use Prim.Native.Nat.{ℕ, _≤_, _<_, _^_}
+use Prim.Native.Nat.{ℕ, suc, _≤_, _<_, _^_}
 use native.Mathlib.Omega.{arith}
 use native.Mathlib.Nat.{add-assoc}
 use borrow.Author.Tests.{le-ltb, lt-ltb, eq-eqb, ne-eqb}
@@ -23,7 +23,8 @@ use Rattle.refusals.proofs.Order.{holds, fails, passes, given-decides, passed-d
 use Rattle.refusals.proofs.Rows.{row-known, row-unknown}
 use Rattle.records.specs.Layout.{headLength, degreeByte, cutoffByte, bodyLength, words, part}
 use Rattle.records.specs.Cutoffs.{stated, statedBy}
-use Rattle.records.specs.Reading.{paper, answered, judged, limit, highestCutoff, valueTests, callTests, recordTests, Judges, Largest}
+use Rattle.groups.specs.Limit.{limit}
+use Rattle.records.specs.Reading.{paper, answered, judged, highestCutoff, valueTests, callTests, recordTests, Judges, Largest}
 use Rattle.records.specs.declared.Cutoff.{Cutoff}
 use Rattle.records.specs.declared.Read.{Read}
 use Rattle.records.specs.declared.Verdict.{Verdict}
@@ -68,15 +69,15 @@ module _ {m : ℕ} (c : ℕ) (ws : List ℕ) {row : Row} (i : IsRow m row) where
   pub call-empty : length ws ≡ 0 → Given 2 (callTests m c ws)
   call-empty z = fails (known-fails i) (holds (eq-eqb _ _ z))
 
-  pub call-long : limit < length ws → Given 3 (callTests m c ws)
-  call-long h = fails (known-fails i) (fails (ne-eqb (length ws) 0 (λ z. omega arith)) (holds (lt-ltb limit (length ws) h)))
+  pub call-long : suc limit < length ws → Given 3 (callTests m c ws)
+  call-long h = fails (known-fails i) (fails (ne-eqb (length ws) 0 (λ z. omega arith)) (holds (lt-ltb (suc limit) (length ws) h)))
 
-  pub call-values : 0 < length ws → length ws ≤ limit → (v : Verdict) → Judges (valueTests (row .size) c ws) v → Judges (callTests m c ws) v
+  pub call-values : 0 < length ws → length ws ≤ suc limit → (v : Verdict) → Judges (valueTests (row .size) c ws) v → Judges (callTests m c ws) v
   call-values p h v j = go v (subst (λ n. Judges (valueTests n c ws) v) (i .size) j)
     where
       go : (v : Verdict) → Judges (valueTests (2 ^ m) c ws) v → Judges (callTests m c ws) v
-      go Accepted g = passes (known-fails i) (passes (ne-eqb (length ws) 0 (λ z. omega arith)) (passes (le-ltb limit (length ws) h) g))
-      go (Turned k) g = fails (known-fails i) (fails (ne-eqb (length ws) 0 (λ z. omega arith)) (fails (le-ltb limit (length ws) h) g))
+      go Accepted g = passes (known-fails i) (passes (ne-eqb (length ws) 0 (λ z. omega arith)) (passes (le-ltb (suc limit) (length ws) h) g))
+      go (Turned k) g = fails (known-fails i) (fails (ne-eqb (length ws) 0 (λ z. omega arith)) (fails (le-ltb (suc limit) (length ws) h) g))
 
 -- ---- the answer
 

@@ -1,5 +1,4 @@
 -- The cutoff as a record states it: the house default, or a number.
---   houseDefault  what cutoff 0 stands for
 --   stated        what a cutoff byte states: nothing, or its number
 --   statedBy      the same of the code's enum
 --   resolved      the cutoff in force
@@ -8,11 +7,9 @@ use mathlib.Core.Bool.{cond}
 use mathlib.Core.List.{List, [], _∷_}
 use Prim.Native.Nat.{ℕ}
 use lib.Dec.{eqb}
+use Rattle.groups.specs.Cutoff.{houseDefault}
 use Rattle.records.specs.declared.Cutoff.{Cutoff}
 use Rattle.records.specs.declared.Cutoff.the-variants.{House, Stated}
-
-abbrev pub houseDefault : ℕ
-houseDefault = 2
 
 abbrev pub stated : ℕ → List ℕ
 stated c = cond (eqb c 0) [] (c ∷ [])

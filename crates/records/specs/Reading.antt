@@ -2,7 +2,7 @@
 --   Outcome      reading ends, or it gives a number with its values
 --   paper        the outcome of each answer of the code: a place to go on comes first among the values; an accepted record also has
 --                its m, where its coefficient bytes start, how many they are, and the cutoff that it states
---   limit, highestCutoff   the most coefficients that there may be, and the highest cutoff
+--   highestCutoff   above it a cutoff is refused
 --   startTests   the tests of the bytes from a place on: one byte remains, no mark, any later shortage
 --   valueTests, callTests, recordTests  the tests of a complete record, in the whole call's order: 4 to 6, all, and those of the record at the front of bytes
 --   judged       the outcome of a complete record at a place
@@ -18,12 +18,12 @@ use mathlib.Core.List.{List, [], _∷_}
 use mathlib.Core.Path.{_≡_}
 use Prim.Native.Nat.{ℕ, _+_, _^_, _<_}
 use lib.ListN.{length, drop}
-use lib.Dec.{eqb, ltb}
+use lib.Dec.{ltb}
 use Rattle.refusals.specs.Order.{decide, Given, Passed}
 use Rattle.refusals.specs.Numbers.{numberOf}
-use Rattle.refusals.specs.Rows.{known}
 use Rattle.slots.specs.Bounded.{allBelow, anyFrom, allZero}
 use Rattle.slots.specs.Lists.{copied}
+use Rattle.groups.specs.Polynomials.{polynomialTests}
 use Rattle.records.specs.Layout.{headLength, marked, degreeByte, cutoffByte, bodyLength, recordLength, words, coefficients}
 use Rattle.records.specs.Cutoffs.{stated, statedBy}
 use Rattle.records.specs.declared.Cutoff.{Cutoff}
@@ -42,9 +42,6 @@ paper (Record j) = Outcome.gives 0 (j .next ∷ j .m ∷ j .start ∷ j .len ∷
 paper (Refused k next) = Outcome.gives (numberOf k) (next ∷ [])
 paper (Stopped k) = Outcome.gives (numberOf k) []
 
-abbrev pub limit : ℕ
-limit = 33
-
 abbrev pub highestCutoff : ℕ
 highestCutoff = 3
 
@@ -55,7 +52,7 @@ abbrev pub valueTests : ℕ → ℕ → List ℕ → List (ℕ × Bool)
 valueTests size c cs = (4, anyFrom size cs) ∷ (5, allZero cs) ∷ (6, ltb highestCutoff c) ∷ []
 
 abbrev pub callTests : ℕ → ℕ → List ℕ → List (ℕ × Bool)
-callTests m c cs = (1, not (known m)) ∷ (2, eqb (length cs) 0) ∷ (3, ltb limit (length cs)) ∷ valueTests (2 ^ m) c cs
+callTests m c cs = polynomialTests m cs ((6, ltb highestCutoff c) ∷ [])
 
 -- the tests of the record that stands first in these bytes
 abbrev pub recordTests : List ℕ → List (ℕ × Bool)

@@ -5,6 +5,7 @@ ghost use lib.ListN.{length};
 ghost use Rattle.records.specs.Layout.{word, words, part};
 ghost use Rattle.records.specs.Cutoffs.{stated, statedBy, resolved};
 ghost use Rattle.records.specs.Reading.{paper, answered, readHere, readAt, callTests, valueTests, Judges, Largest, Spelled};
+use groups::HOUSE_DEFAULT;
 use refusals::Found;
 use refusals::Refusal;
 
@@ -13,9 +14,6 @@ pub mod lines; // the text of a line
 
 // What every record begins with.
 const MARK: [u8; 2] = [0x4C, 0x52];
-
-// What cutoff 0 stands for.
-const HOUSE_DEFAULT: u16 = 2;
 
 // Above this a cutoff is refused.
 const HIGHEST_CUTOFF: u8 = 3;

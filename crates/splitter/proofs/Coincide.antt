@@ -1,6 +1,6 @@
--- Two outcomes that a contract of begin, step or finish admits coincide: an answer is told by the paper's number and values, and the memory by a function.
---   begun-told, stepped-told, finished-told     two answers with one number and one list of values are one
---   begin-coincide, step-coincide, finish-coincide   so for each call
+-- Two outcomes that a contract of step or finish admits coincide: an answer is told by the paper's number and values, and the memory by a function.
+--   stepped-told, finished-told       two answers with one number and one list of values are one
+--   step-coincide, finish-coincide    so for each call
 -- Assumes nothing.
 use mathlib.Core.Path.{_≡_, sym, ap, _∙_}
 use mathlib.Core.List.{List}
@@ -9,27 +9,11 @@ use Prim.Native.Nat.{ℕ}
 use lib.Dec.{eqb}
 use lib.ListN.{getD}
 use Rattle.refusals.proofs.Numbers.{by-number, refused-back, accepted-back}
-use Rattle.splitter.specs.Calls.{paperBegun, paperStepped, paperFinished, beginOutcome, beginMemory, stepOutcome, stepMemory, finishOutcome, finishMemory}
-use Rattle.splitter.specs.declared.Begun.{Begun}
-use Rattle.splitter.specs.declared.Begun.the-variants.{Ready, NotBegun}
+use Rattle.splitter.specs.Calls.{paperStepped, paperFinished, stepOutcome, stepMemory, finishOutcome, finishMemory}
 use Rattle.splitter.specs.declared.Stepped.{Stepped}
 use Rattle.splitter.specs.declared.Stepped.the-variants.{Taken, Done, NotStepped}
 use Rattle.splitter.specs.declared.Finished.{Finished}
 use Rattle.splitter.specs.declared.Finished.the-variants.{Listed, NotFinished}
-
--- begin: the answer that the paper's number stands for
-begunOf : ℕ × List ℕ → Begun
-begunOf o = by-number NotBegun Ready (o .0)
-
--- it takes the number back
-begun-back : (r : Begun) → begunOf (paperBegun r) ≡ r
-unfolding begunOf
-begun-back Ready = accepted-back NotBegun Ready
-begun-back (NotBegun k) = refused-back NotBegun Ready k
-
--- two answers of begin with one number are one
-pub begun-told : (r s : Begun) → paperBegun r ≡ paperBegun s → r ≡ s
-begun-told r s e = sym (begun-back r) ∙ ap begunOf e ∙ begun-back s
 
 -- step: a value of 1 is "done"
 steppedOf : ℕ × List ℕ → Stepped
@@ -59,11 +43,6 @@ finished-back (NotFinished k) = refused-back NotFinished (Listed 0) k
 -- two answers of finish with one number and value are one
 pub finished-told : (r s : Finished) → paperFinished r ≡ paperFinished s → r ≡ s
 finished-told r s e = sym (finished-back r) ∙ ap finishedOf e ∙ finished-back s
-
--- the answer and the lent memory of each call
-pub begin-coincide : (m c : ℕ) (cs table : List ℕ) (r s : Begun) (x y : List ℕ) → (paperBegun r ≡ beginOutcome m c cs table) × (x ≡ beginMemory m c cs table)
-    → (paperBegun s ≡ beginOutcome m c cs table) × (y ≡ beginMemory m c cs table) → (r ≡ s) × (x ≡ y)
-begin-coincide m c cs table r s x y h k = (begun-told r s (h .0 ∙ sym (k .0)), h .1 ∙ sym (k .1))
 
 -- of a step
 pub step-coincide : (table : List ℕ) (r s : Stepped) (x y : List ℕ) → (paperStepped r ≡ stepOutcome table) × (x ≡ stepMemory table)

@@ -36,7 +36,7 @@ use Rattle.groups.proofs.Places.{spare}
 use Rattle.groups.proofs.Soundness.{Fair, Valid, sound-valid, sound-encoded, sound-rules}
 use Rattle.field.specs.Field.{fieldAt}
 use Rattle.field.specs.Tables.{Halves, Logs, Antilogs}
-use Rattle.splitter.specs.Calls.{limit, slots}
+use Rattle.groups.specs.Limit.{limit, slots}
 use Rattle.splitter.specs.Finishing.{Mergeable, RootsIn, Lendable, Listable, ListedIn}
 use Rattle.splitter.proofs.Lending.{lent-is}
 

@@ -23,12 +23,14 @@ use Rattle.refusals.proofs.Order as order
 use Rattle.groups.specs.Layout.{byFactor}
 use Rattle.groups.specs.Table.{decode}
 use Rattle.groups.specs.Splitting.{isDone, stuck, slotsDone, slotsStuck}
-use Rattle.splitter.specs.Calls.{limit, slots, isSound, stepTests, finishOutcome, finishMemory, paperFinished}
-use Rattle.splitter.specs.Verdicts.{Judged}
-use Rattle.splitter.specs.Verdicts.Judged.{refused, over, split}
+use Rattle.groups.specs.Limit.{limit, slots, isSound}
+use Rattle.judging.specs.Verdicts.{stepTests}
+use Rattle.splitter.specs.Calls.{finishOutcome, finishMemory, paperFinished}
+use Rattle.judging.specs.Verdicts.{Judged}
+use Rattle.judging.specs.Verdicts.Judged.{refused, over, split}
 use Rattle.splitter.specs.Finishing.{Lendable, ListedIn, Opens}
 use Rattle.splitter.specs.Finishing.Opens.{closed, opened}
-use Rattle.splitter.specs.declared.judging.Verdict.the-variants.{Refused, Over, Split}
+use Rattle.judging.specs.declared.Verdict.the-variants.{Refused, Over, Split}
 use Rattle.splitter.specs.declared.finishing.Opening.the-variants.{Closed, Open}
 use Rattle.splitter.specs.declared.Finished.the-variants.{Listed, NotFinished}
 

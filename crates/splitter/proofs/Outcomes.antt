@@ -10,11 +10,11 @@ use Rattle.refusals.proofs.Order as order
 use Rattle.groups.specs.Layout.{byFactor}
 use Rattle.groups.specs.Splitting.{slotsDone, slotsStepped}
 use Rattle.splitter.specs.Calls.{stepOutcome, stepMemory, paperStepped}
-use Rattle.splitter.specs.Verdicts.{Chosen, Judged}
-use Rattle.splitter.specs.Verdicts.Judged.{refused, over, split}
+use Rattle.judging.specs.Verdicts.{Chosen, Judged}
+use Rattle.judging.specs.Verdicts.Judged.{refused, over, split}
 use Rattle.splitter.specs.declared.Stepped.{Stepped}
 use Rattle.splitter.specs.declared.Stepped.the-variants.{Taken, Done, NotStepped}
-use Rattle.splitter.specs.declared.judging.Verdict.the-variants.{Refused, Over, Split}
+use Rattle.judging.specs.declared.Verdict.the-variants.{Refused, Over, Split}
 
 -- what a step promises of its answer and of the slots that it leaves
 abbrev Promise : List ℕ → Stepped → List ℕ → Type 0

@@ -27,8 +27,8 @@ use Rattle.groups.proofs.Soundness.{Valid, sound-valid, sound-encoded, count-wi
 use Rattle.groups.proofs.Fields.{known-field}
 use Rattle.groups.proofs.Keeping.{Free, free, Halves, trace-halves, sound-length, step-slots}
 use Rattle.groups.proofs.Places.{beyond, leading, place, slotsOf, spare, encode-around, level-at, degree-at, coefficients-at, first-fair, room, parts-few, parts-some, length-new, step-spliced}
-use Rattle.splitter.specs.Calls.{limit, slots, isSound}
-use Rattle.splitter.specs.Verdicts.{Chosen}
+use Rattle.groups.specs.Limit.{limit, slots, isSound}
+use Rattle.judging.specs.Verdicts.{Chosen}
 use Rattle.splitter.specs.Parting.{Splittable, Parted}
 
 -- a test that fails to fail holds

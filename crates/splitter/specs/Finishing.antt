@@ -24,7 +24,8 @@ use Rattle.field.specs.Tables.{Halves}
 use Rattle.polynomial.specs.Lent.{G, Lent}
 use Rattle.groups.specs.Layout.{byFactor}
 use Rattle.groups.specs.Splitting.{slotsDone, slotsRoots}
-use Rattle.splitter.specs.Calls.{limit, isSound, finishTests}
+use Rattle.groups.specs.Limit.{limit, isSound}
+use Rattle.splitter.specs.Calls.{finishTests}
 use Rattle.splitter.specs.declared.finishing.Opening.{Opening}
 use Rattle.splitter.specs.declared.finishing.Opening.the-variants.{Closed, Open}
 

@@ -16,8 +16,8 @@ use Rattle.slots.specs.Lists.{pasted}
 use Rattle.groups.specs.Entries.{unlessEmpty, parts}
 use Rattle.groups.specs.Layout.{blocks}
 use Rattle.groups.specs.Splitting.{halvingAt}
-use Rattle.splitter.specs.Calls.{limit}
-use Rattle.splitter.specs.Verdicts.{Chosen}
+use Rattle.groups.specs.Limit.{limit}
+use Rattle.judging.specs.Verdicts.{Chosen}
 
 -- over the field of degree m
 pub record Splittable (m : ℕ) (ls ts p : List ℕ) (i : ℕ) : Type 0 where

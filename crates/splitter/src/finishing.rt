@@ -4,16 +4,14 @@ ghost use lib.ListN.{length};
 ghost use Rattle.splitter.specs.Calls.{finishOutcome, finishMemory, paperFinished};
 ghost use Rattle.splitter.specs.Finishing.{Mergeable, RootsIn, Listable, ListedIn, Lendable, Opens};
 use crate::Finished;
-use crate::judging::Verdict;
-use crate::judging::judge;
 use cubics::small_roots;
+use groups::LIMIT;
+use judging::Verdict;
+use judging::judge;
 use refusals::Found;
 use refusals::Refusal;
 use refusals::number;
 use refusals::row_of;
-
-// The highest sum of degrees.
-const LIMIT: usize = 32;
 
 // What finish finds before it writes: a refusal, or a table that is done.
 pub enum Opening {

@@ -1,16 +1,8 @@
-// The stepped splitter: begin, step and finish on a lent work table of 100 slots.
+// The stepped splitter: step and finish on a lent work table of 100 slots.
 use refusals::Refusal;
 
-pub mod beginning; // begin
-pub mod judging; // what is decided before anything is written
 pub mod stepping; // a step
 pub mod finishing; // finish
-
-// What begin answers.
-pub enum Begun {
-    Ready,
-    NotBegun(Refusal),
-}
 
 // What a step answers: it was taken, there is nothing to split, or it was turned away.
 pub enum Stepped {

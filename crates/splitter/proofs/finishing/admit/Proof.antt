@@ -1,7 +1,7 @@
 -- `splitter::finishing::admit` meets its contract: each return shows which test was the first to hold, or that none does.
 -- Assumes nothing.
 use mathlib.Core.Path.{subst}
-use Rattle.splitter.specs.Verdicts.{Judged}
+use Rattle.judging.specs.Verdicts.{Judged}
 use Rattle.splitter.proofs.Opening.{admit-room, admit-short, admit-unsound, admit-stuck, admit-over, admit-split}
 use borrow.Author.Needs.{needs}
 use Rattle.splitter.proofs.finishing.admit.Statement.{statement}

@@ -2,7 +2,7 @@
 -- Assumes nothing.
 use mathlib.Core.Path.{subst}
 use denote.Ref.{now}
-use Rattle.splitter.specs.Verdicts.{Judged}
+use Rattle.judging.specs.Verdicts.{Judged}
 use Rattle.splitter.proofs.Outcomes.{step-refused, step-over, chosen-of, step-taken}
 use borrow.Author.Needs.{needs}
 use Rattle.splitter.proofs.stepping.step.Statement.{statement}

@@ -1,0 +1,30 @@
+-- Two outcomes that the contract of begin admits coincide: the answer is told by the paper's number, and the memory by a function.
+--   begun-told       two answers with one number are one
+--   begin-coincide   so for the call
+-- Assumes nothing.
+use mathlib.Core.Path.{_≡_, sym, ap, _∙_}
+use mathlib.Core.List.{List}
+use Prim.Native.Nat.{ℕ}
+use Rattle.refusals.proofs.Numbers.{by-number, refused-back, accepted-back}
+use Rattle.beginning.specs.Calls.{paperBegun, beginOutcome, beginMemory}
+use Rattle.beginning.specs.declared.Begun.{Begun}
+use Rattle.beginning.specs.declared.Begun.the-variants.{Ready, NotBegun}
+
+-- begin: the answer that the paper's number stands for
+begunOf : ℕ × List ℕ → Begun
+begunOf o = by-number NotBegun Ready (o .0)
+
+-- it takes the number back
+begun-back : (r : Begun) → begunOf (paperBegun r) ≡ r
+unfolding begunOf
+begun-back Ready = accepted-back NotBegun Ready
+begun-back (NotBegun k) = refused-back NotBegun Ready k
+
+-- two answers of begin with one number are one
+pub begun-told : (r s : Begun) → paperBegun r ≡ paperBegun s → r ≡ s
+begun-told r s e = sym (begun-back r) ∙ ap begunOf e ∙ begun-back s
+
+-- the answer and the lent memory of begin
+pub begin-coincide : (m c : ℕ) (cs table : List ℕ) (r s : Begun) (x y : List ℕ) → (paperBegun r ≡ beginOutcome m c cs table) × (x ≡ beginMemory m c cs table)
+    → (paperBegun s ≡ beginOutcome m c cs table) × (y ≡ beginMemory m c cs table) → (r ≡ s) × (x ≡ y)
+begin-coincide m c cs table r s x y h k = (begun-told r s (h .0 ∙ sym (k .0)), h .1 ∙ sym (k .1))

@@ -1,0 +1,175 @@
+// Begin: the tests, the part of the polynomial that splits, and the table that is written.
+// Source document 000: the part of f that splits into distinct factors is its greatest common divisor with z^(2^m) + z. The power is
+// taken by m squarings modulo f, so that no element is tried.
+ghost use mathlib.Core.Path.{_≡_};
+ghost use mathlib.Core.List.{[], _∷_};
+ghost use mathlib.Core.Bool.{not};
+ghost use Prim.Native.Nat.{_≤_};
+ghost use lib.Dec.{eqb, ltb};
+ghost use lib.ListN.{length};
+ghost use Rattle.refusals.specs.Admitting.{Admits};
+ghost use Rattle.groups.specs.Cutoff.{inForce};
+ghost use Rattle.groups.specs.Layout.{byFactor};
+ghost use Rattle.groups.specs.Table.{encode};
+ghost use Rattle.groups.specs.Splitting.{begunTable, slotsBegun};
+ghost use Rattle.groups.specs.Limit.{limit, slots};
+ghost use Rattle.groups.specs.Polynomials.{polynomialTests};
+ghost use Rattle.beginning.specs.Calls.{beginOutcome, beginMemory, paperBegun};
+ghost use Rattle.beginning.specs.SplitPart.{Residual, Residue, Splittable, SplitOff, Beginnable, Writable};
+use groups::COEFFICIENTS;
+use groups::HOUSE_DEFAULT;
+use groups::SLOTS;
+use polynomial::euclid::gcd;
+use polynomial::monic::make_monic;
+use polynomial::powers::z_power;
+use refusals::Admission;
+use refusals::Found;
+use refusals::Refusal;
+use tables::lent;
+
+// What begin answers.
+pub enum Begun {
+    Ready,
+    NotBegun(Refusal),
+}
+
+// The cutoff in force.
+pub fn in_force(cutoff: u16) -> u16
+    ensures { λ r. ⌜ r ≡ inForce cutoff ⌝ }
+{
+    if cutoff == 0 {
+        return HOUSE_DEFAULT;
+    }
+    cutoff
+}
+
+// Refusals 1 to 5, of a field degree and a polynomial's coefficients.
+pub fn admit_polynomial(m: u16, coeffs: &[u16]) -> Admission
+    ensures { λ r. ⌜ Admits (polynomialTests m (now (coeffs .entry)) []) m r ⌝ }
+{
+    let found = refusals::row_of(m);
+    let Found::At(row) = found else {
+        return Admission::Out(Refusal::Field);
+    };
+    let n = coeffs.len();
+    if n == 0 {
+        return Admission::Out(Refusal::Empty);
+    }
+    if COEFFICIENTS < n {
+        return Admission::Out(Refusal::Long);
+    }
+    if slots::any_from(coeffs, row.size) {
+        return Admission::Out(Refusal::Element);
+    }
+    if slots::all_zero(coeffs) {
+        return Admission::Out(Refusal::AllZero);
+    }
+    Admission::In(row)
+}
+
+// Refusals 1 to 7, of these, a cutoff and a table's number of slots.
+fn admit(m: u16, coeffs: &[u16], cutoff: u16, room: usize) -> Admission
+    ensures { λ r. ⌜ Admits (polynomialTests m (now (coeffs .entry)) ((6, ltb 3 cutoff) ∷ (7, not (eqb room slots)) ∷ [])) m r ⌝ }
+{
+    let found = admit_polynomial(m, coeffs);
+    let Admission::In(row) = found else {
+        return found;
+    };
+    if 3 < cutoff {
+        return Admission::Out(Refusal::Cutoff);
+    }
+    if room != SLOTS {
+        return Admission::Out(Refusal::Room);
+    }
+    Admission::In(row)
+}
+
+// Writes z^(2^m) + z, reduced by the monic polynomial with the low coefficients p, to b: m squarings, then z is added.
+fn residue(m: u16, logs: &[u16], antilogs: &[u16], p: &[u16], b: &mut [u16])
+    requires { ⌜ Residual m (now logs) (now antilogs) (now p) (now b) ⌝ }
+    ensures { λ _. ⌜ Residue m (now (p .entry)) (now (b .exit)) ⌝ }
+{
+    let mut row = [0u16; 32];
+    let mut s = [0u16; 64];
+    let n = p.len();
+    let d = n + n;
+    slots::clear(b);
+    z_power(
+        m,
+        logs,
+        antilogs,
+        p,
+        m,
+        &mut row[..n],
+        &mut b[..n],
+        &mut s[..d],
+    );
+    b[1] = b[1] ^ 1;
+}
+
+// Writes the low coefficients of the product of (z + r) over all distinct roots of a polynomial that is not 0 to the front of out. Returns their number.
+pub fn split_part(m: u16, logs: &[u16], antilogs: &[u16], coeffs: &[u16], out: &mut [u16]) -> usize
+    requires { ⌜ Splittable m (now logs) (now antilogs) (now coeffs) (now out) ⌝ }
+    ensures { λ k. ⌜ SplitOff m (now (coeffs .entry)) k (now (out .exit)) ⌝ }
+{
+    let mut b = [0u16; 33];
+    let mut row = [0u16; 32];
+    let n = coeffs.len();
+    slots::copy(coeffs, out);
+    let d = make_monic(m, logs, antilogs, &mut out[..n]) - 1;
+    residue(m, logs, antilogs, &out[..d], &mut b);
+    gcd(m, logs, antilogs, &mut row, out, d, &mut b, 33)
+}
+
+// Writes a whole table with one factor at level 0, or none where low is empty, whatever it held.
+fn lay(table: &mut [u16], m: u16, c: u16, low: &[u16])
+    requires { ⌜ (length (now table) ≡ slots) × (length (now low) ≤ limit) ⌝ }
+    ensures { λ _. ⌜ now (table .exit) ≡ encode byFactor slots (begunTable m c (now (low .entry))) ⌝ }
+{
+    slots::clear(table);
+    table[0] = m;
+    table[1] = c;
+    let n = low.len();
+    if n == 0 {
+        return;
+    }
+    table[2] = 1;
+    table[5] = n as u16;
+    slots::paste(table, 6, low);
+}
+
+// Writes the table of an accepted polynomial, over lent tables.
+pub fn begin_lent(m: u16, c: u16, logs: &[u16], antilogs: &[u16], coeffs: &[u16], table: &mut [u16])
+    requires { ⌜ Beginnable m (now logs) (now antilogs) (now coeffs) (now table) ⌝ }
+    ensures { λ _. ⌜ now (table .exit) ≡ slotsBegun byFactor slots m c (now (coeffs .entry)) ⌝ }
+{
+    let mut part = [0u16; 33];
+    let n = split_part(m, logs, antilogs, coeffs, &mut part);
+    lay(table, m, c, &part[..n]);
+}
+
+// Writes the table of an accepted polynomial, in a field of `size` elements. The field's tables are lent here.
+fn write(m: u16, size: usize, coeffs: &[u16], c: u16, table: &mut [u16])
+    requires { ⌜ Writable m size (now coeffs) (now table) ⌝ }
+    ensures { λ _. ⌜ now (table .exit) ≡ slotsBegun byFactor slots m c (now (coeffs .entry)) ⌝ }
+{
+    let mut logs = [0u16; 2048];
+    let mut antilogs = [0u16; 6141];
+    lent::logs(m, &mut logs);
+    lent::antilogs(m, &mut antilogs);
+    let e = 3 * (size - 1);
+    begin_lent(m, c, &logs[..size], &antilogs[..e], coeffs, table);
+}
+
+// Begins a table: one factor, the product of (z + r) over all distinct roots of the polynomial, or none if it has no root.
+pub fn begin(m: u16, coeffs: &[u16], cutoff: u16, table: &mut [u16]) -> Begun
+    ensures { λ r. ⌜ (paperBegun r ≡ beginOutcome m cutoff (now (coeffs .entry)) (now (table .entry))) × (now (table .exit) ≡ beginMemory m cutoff (now (coeffs .entry)) (now (table .entry))) ⌝ }
+{
+    match admit(m, coeffs, cutoff, table.len()) {
+        Admission::Out(k) => Begun::NotBegun(k),
+        Admission::In(row) => {
+            write(m, row.size as usize, coeffs, in_force(cutoff), table);
+            Begun::Ready
+        }
+    }
+}
