@@ -9,6 +9,8 @@
 --   stated-resolved   the cutoff that is resolved is the one that is asked for
 --   asked-passes      resolving a cutoff turns none away
 --   record-passes     the tests of a record that reading gave
+--   record-accepted   THE WHOLE CALL REFUSES NO RECORD THAT THE READER ACCEPTS
+--   asked-in-force    the cutoff of the record, resolved, is the one that the whole call has in force for its byte
 -- Assumes nothing.
 use mathlib.Core.Path.{_≡_, refl, sym, ap, _∙_, subst}
 use mathlib.Core.Bool.{Bool, true, false, cond}
@@ -26,6 +28,7 @@ use Rattle.refusals.proofs.Order.{passes, failed, others, accepted, written}
 use Rattle.refusals.proofs.Numbers.{by-number, refused-back, accepted-back}
 use Rattle.slots.specs.Lists.{copied}
 use Rattle.slots.proofs.Lists.{copied-front}
+use Rattle.groups.specs.Cutoff.{houseDefault, inForceBy, inForce}
 use Rattle.groups.specs.Splitting.{rootsAt}
 use Rattle.groups.specs.Limit.{limit}
 use Rattle.beginning.proofs.PolynomialTests.{PolynomialIn, polynomial-told}
@@ -45,6 +48,16 @@ use Rattle.jobs.specs.Printing.{cutoffOf, turnedLine, solvedLine, Solvab
 -- the reader's tests, and that of the list's room behind them
 pub same-tests : (m c : ℕ) (cs list : List ℕ) → callTests m c cs ++ ((7, ltb (length list) limit) ∷ []) ≡ solveTests m c cs list
 same-tests m c cs list = refl
+
+-- so what passes the reader's passes the whole call's
+passes-on : (m c : ℕ) (cs list : List ℕ) → Passed (callTests m c cs) → limit ≤ length list → Passed (solveTests m c cs list)
+passes-on m c cs list one room =
+    let two = others one in
+    let three = others two in
+    let four = others three in
+    let five = others four in
+    let six = others five in
+    passes (failed one) (passes (failed two) (passes (failed three) (passes (failed four) (passes (failed five) (passes (failed six) (passes (le-ltb (length list) limit room) none))))))
 
 -- the number of a refusal is not 0
 not-zero : (k : Refusal) → numberOf k ≡ 0 → ⊥
@@ -70,14 +83,7 @@ module _ {m c : ℕ} {cs out : List ℕ} (p : Solvable m c cs out) where
 
   module _ (list : List ℕ) (room : limit ≤ length list) where
     pub solve-passes : Passed (solveTests m c cs list)
-    solve-passes =
-        let one = p .passed in
-        let two = others one in
-        let three = others two in
-        let four = others three in
-        let five = others four in
-        let six = others five in
-        passes (failed one) (passes (failed two) (passes (failed three) (passes (failed four) (passes (failed five) (passes (failed six) (passes (le-ltb (length list) limit room) none))))))
+    solve-passes = passes-on m c cs list (p .passed) room
 
     pub solve-accepts : solveOutcome m c cs list ≡ (0, length (rootsAt m cs) ∷ stepsAt m c cs ∷ [])
     solve-accepts = accepted _ solve-passes
@@ -156,3 +162,17 @@ pub record-passes : (file : List ℕ) (at : ℕ) {next m start len : ℕ} {cutof
 record-passes file at {m = m} {start} {len} e =
     let a = accepts file at e in
     subst (λ c. Passed (callTests m (cutoffOf c) (words (part file start len)))) (sym (a .cutoff-is)) (asked-passes m (getD file (at + 3) 0) (words (part file start len)) (a .tests))
+
+pub record-accepted : (file : List ℕ) (at : ℕ) {next m start len : ℕ} {cutoff : List ℕ} → readAt file at ≡ Outcome.gives 0 (next ∷ m ∷ start ∷ len ∷ cutoff)
+    → (list : List ℕ) → limit ≤ length list → solveOutcome m (cutoffOf cutoff) (words (part file start len)) list
+    ≡ (0, length (rootsAt m (words (part file start len))) ∷ stepsAt m (cutoffOf cutoff) (words (part file start len)) ∷ [])
+record-accepted file at {m = m} {start} {len} {cutoff} e list room =
+    accepted _ (passes-on m (cutoffOf cutoff) (words (part file start len)) list (record-passes file at e) room)
+
+pub asked-in-force : (c : ℕ) → inForce (cutoffOf (stated c)) ≡ inForce c
+unfolding inForceBy
+asked-in-force c = go (eqb c 0) refl
+  where
+    go : (b : Bool) → eqb c 0 ≡ b → inForce (cutoffOf (cond b [] (c ∷ []))) ≡ cond b houseDefault c
+    go true e = refl
+    go false e = rw e
