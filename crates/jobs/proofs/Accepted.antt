@@ -26,7 +26,6 @@ use Rattle.refusals.specs.Numbers.{numberOf}
 use Rattle.refusals.specs.declared.Refusal.{Refusal}
 use Rattle.refusals.proofs.Order.{passes, failed, others, accepted, written}
 use Rattle.refusals.proofs.Numbers.{by-number, refused-back, accepted-back}
-use Rattle.slots.specs.Lists.{copied}
 use Rattle.slots.proofs.Lists.{copied-front}
 use Rattle.groups.specs.Cutoff.{houseDefault, inForceBy, inForce}
 use Rattle.groups.specs.Splitting.{rootsAt}
@@ -42,7 +41,7 @@ use Rattle.records.specs.declared.Cutoff.{Cutoff}
 use Rattle.records.specs.declared.Cutoff.the-variants.{House, Stated}
 use Rattle.records.specs.Reading.{Outcome, callTests, readAt, Spelled}
 use Rattle.records.specs.Lines.{lineOf, Wrote}
-use Rattle.records.proofs.Forward.{never, accepts}
+use Rattle.records.proofs.Forward.{accepts}
 use Rattle.jobs.specs.Printing.{cutoffOf, turnedLine, solvedLine, Solvable}
 
 -- the reader's tests, and that of the list's room behind them

@@ -5,7 +5,6 @@
 use mathlib.Core.Path.{_≡_, refl, sym, ap, ap₂, _∙_, subst}
 use mathlib.Core.List.{List, [], _∷_, _++_, append-nil}
 use Prim.Native.Nat.{ℕ, _+_}
-use native.Mathlib.Omega.{arith}
 use Rattle.records.specs.Reading.{Outcome, readAt}
 use Rattle.records.specs.Files.{Reads}
 use Rattle.records.specs.Files.Reads.{over, stop, on}

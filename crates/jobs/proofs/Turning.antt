@@ -14,7 +14,7 @@ use Rattle.refusals.specs.declared.Refusal.{Refusal}
 use Rattle.slots.specs.Lists.{pasted, copied}
 use Rattle.slots.proofs.Lists.{pasted-copied}
 use Rattle.records.specs.Layout.{words, part}
-use Rattle.records.specs.Cutoffs.{statedBy, resolved}
+use Rattle.records.specs.Cutoffs.{resolved}
 use Rattle.records.specs.Reading.{Outcome, paper, readAt}
 use Rattle.records.specs.Lines.{Wrote}
 use Rattle.records.specs.declared.Job.{Job}

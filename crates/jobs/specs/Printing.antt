@@ -2,11 +2,9 @@
 --   cutoffOf    the cutoff that a record asks for: what it states, or the house default
 --   turnedLine  the line of a record that is refused;  solvedLine  of one that is accepted: the roots and the steps of the whole call
 --   lineBy      the line of a number with the values that reading gave;  lineFor  of what reading gave
---   goesOn      the place to go on, where there is one
 --   linesFrom   the lines of what reading gave, one after the other; the first has the number k
 --   LinesOf     a text is the lines of a file
---   told        the code's answer: the length of the line, and the place to go on with the number of the record there
---   onFrom      the same of what reading gave
+--   onFrom      the place to go on with the number of the record there, or nothing, of what reading gave;  told  of the code's answer
 --   Turned      what a turn leaves: the line at the front of the lent text, and all else there as it was
 --   Solvable    what was accepted, and room for its line
 --   Prints      from a place on these lines are printed, turn by turn

@@ -1,12 +1,11 @@
 // The lines of job records: from the lent file and a place in it, the text of the record's line, and where reading goes on.
 ghost use mathlib.Core.Path.{_≡_};
-ghost use mathlib.Core.List.{[], _∷_};
 ghost use Prim.Native.Nat.{_+_, _≤_, _<_, _^_};
 ghost use lib.ListN.{length};
 ghost use Rattle.refusals.specs.Numbers.{numberOf};
 ghost use Rattle.records.specs.Layout.{words};
 ghost use Rattle.records.specs.Lines.{Wrote};
-ghost use Rattle.jobs.specs.Printing.{turnedLine, solvedLine, told, Turned, Solvable};
+ghost use Rattle.jobs.specs.Printing.{turnedLine, solvedLine, Turned, Solvable};
 use finder::Solved;
 use finder::solving::solve;
 use records::Read;
