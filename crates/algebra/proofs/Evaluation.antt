@@ -18,10 +18,10 @@ use Prim.Native.Nat.{suc, zero, ℕ}
 use lib.ListN.{length}
 use Rattle.algebra.specs.Field.{Laws, Ops, power, squared, trace}
 use Rattle.algebra.specs.Polynomial.{add, coef, eval, fieldPoly, frobenius, linear, mul, traceOf, tracePoly}
-use Rattle.algebra.specs.Routines.{monic}
+use Rattle.algebra.specs.Routines.{monic, square}
 use Rattle.algebra.proofs.Elements.{add-left-comm, add-mul, add-zero, mul-left-comm, mul-one, mul-zero, zero-mul}
 use Rattle.algebra.proofs.Series.{Series, behind, nought, times}
-use Rattle.algebra.proofs.Coefficients.{coef-mul}
+use Rattle.algebra.proofs.Coefficients.{coef-mul, coef-square}
 
 module _ {K : Type 0} {F : Ops K} (L : Laws F) where
   infixl 60 _⊕_
@@ -117,3 +117,7 @@ module _ {K : Type 0} {F : Ops K} (L : Laws F) where
   -- a value of a multiple
   pub eval-multiple : (d f e : List K) (r : K) → coef F d ⊠ coef F e ≡ coef F f → eval F d r ⊗ eval F e r ≡ eval F f r
   eval-multiple d f e r h = sym (eval-mul d e r) ∙ eval-same (mul F d e) f r (coef-mul L d e ∙ h)
+
+  -- a value of a square
+  pub eval-square : (f : List K) (x : K) → eval F (square F f) x ≡ eval F f x ⊗ eval F f x
+  eval-square f x = eval-same (square F f) (mul F f f) x (coef-square L f ∙ sym (coef-mul L f f)) ∙ eval-mul f f x

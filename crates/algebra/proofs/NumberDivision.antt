@@ -2,6 +2,7 @@
 --   factor           z + r divides f exactly where f(r) = 0
 --   roots-divide     distinct roots of f together divide f
 --   division         f = (monic p) quo + rem
+--   eval-rem         at a root of monic p a remainder by it has the value of what was divided
 --   division-unique  no other quotient and remainder of this length
 --   gcd-right        `gcd` is a greatest common divisor: what divides it is what divides both
 --   gcd-only         and the only monic one
@@ -25,6 +26,9 @@ use Rattle.algebra.specs.Routines.{cofactor, gcd, monic, quo, rem}
 use Rattle.algebra.proofs.Series.{plus, times}
 use Rattle.algebra.proofs.Coefficients.{coef-add, coef-mul}
 use Rattle.algebra.proofs.Crossing.{Elem, below-low, by-elements, by-two, coef-down, coef-up, distinct-low, elems, laws, lift, low, low-add, low-cofactor, low-fromRoots, low-gcd, low-lift, low-monic, low-mul, low-quo, low-rem, root-down, root-up}
+use Rattle.algebra.proofs.NumberElements.{zero-mul}
+use Rattle.algebra.proofs.NumberEvaluation.{eval-add, eval-mul, eval-same}
+use Rattle.algebra.proofs.StaysBelow.{add-below, eval-below, monic-below, mul-below, quo-below, rem-below}
 use Rattle.algebra.proofs.Factors as I
 use Rattle.algebra.proofs.Division as A
 use Rattle.algebra.proofs.Euclid as E
@@ -104,6 +108,18 @@ module _ {G : Ops ℕ} {q : ℕ} (N : OnNumbers G q) where
       coef-down N v (add K (mul K (monic K u) (quo K u v)) (rem K u v))
       (A.division L u v ∙ sym (coef-whole u (quo K u v) (rem K u v)))
       ∙ ap (coef G) (low-whole u (quo K u v) (rem K u v) ∙ ap₂ (λ d r. add G (mul G (monic G (low N u)) d) r) (low-quo N u v) (low-rem N u v))
+
+  -- at a root of monic p a remainder by it has the value of what was divided
+  pub eval-rem : (p f : List ℕ) → Below q p → Below q f → (x : ℕ) → x < q → eval G (monic G p) x ≡ G .zero → eval G (rem G p f) x ≡ eval G f x
+  eval-rem p f hp hf x hx z =
+      let m : List ℕ = mul G (monic G p) (quo G p f) in
+      let hq = quo-below N p f hp hf in
+      let hm = mul-below N (monic G p) (quo G p f) (monic-below N p hp) hq in
+      let hr = rem-below N p f hp hf in
+      let none : eval G m x ≡ G .zero = eval-mul N (monic G p) (quo G p f) (monic-below N p hp) hq x hx ∙ ap (λ y. G .mul y (eval G (quo G p f) x)) z
+      ∙ zero-mul N (eval G (quo G p f) x) (eval-below N (quo G p f) x hq hx) in
+      sym (eval-same N f (add G m (rem G p f)) hf (add-below N m (rem G p f) hm hr) (division p f hp hf) x hx
+      ∙ eval-add N m (rem G p f) hm hr x hx ∙ ap (λ y. G .add y (eval G (rem G p f) x)) none ∙ N .zero-add (eval G (rem G p f) x) (eval-below N (rem G p f) x hr hx))
 
   -- no other quotient and remainder of this length
   pub division-unique : (p f d r : List ℕ) → Below q p → Below q f → Below q d → Below q r → length r ≡ length p

@@ -2,6 +2,7 @@
 --   equal-of-sum     two numbers whose sum is 0 are equal
 --   zero-of-product  no product of nonzero numbers is 0
 --   square-add       (x + y)^2 = x^2 + y^2
+--   square-mul       (x y)^2 = x^2 y^2
 --   squared-add      (x + y)^(2^j) = x^(2^j) + y^(2^j)
 --   squared-power    `squared` is the power to 2^j
 --   power-add        x^(n + k) = x^n x^k
@@ -38,6 +39,9 @@ module _ {G : Ops ℕ} {q : ℕ} (N : OnNumbers G q) where
 
   pub square-add : (x y : ℕ) → x < q → y < q → G .mul (G .add x y) (G .add x y) ≡ G .add (G .mul x x) (G .mul y y)
   square-add x y hx hy = ap (λ u. u .0) (E.square-add (laws N) (x, hx) (y, hy))
+
+  pub square-mul : (x y : ℕ) → x < q → y < q → G .mul (G .mul x y) (G .mul x y) ≡ G .mul (G .mul x x) (G .mul y y)
+  square-mul x y hx hy = ap (λ u. u .0) (E.square-mul (laws N) (x, hx) (y, hy))
 
   pub squared-add : (j x y : ℕ) → x < q → y < q → squared G j (G .add x y) ≡ G .add (squared G j x) (squared G j y)
   squared-add j x y hx hy =

@@ -1,5 +1,5 @@
 -- Evaluation on numbers below q: a homomorphism, and the same for all lists that hold one polynomial.
---   eval-add, eval-scale, eval-mul   sums, multiples, products
+--   eval-add, eval-scale, eval-mul, eval-square   sums, multiples, products, squares
 --   eval-monic  p(x) + x^n, with n the degree
 --   eval-same   a value depends on the coefficients alone
 --   top-coef    zeros at the top change no coefficient
@@ -11,8 +11,8 @@ use Prim.Native.Nat.{_<_, suc, zero, ℕ}
 use lib.ListN.{length, length-map, replicate}
 use Rattle.algebra.specs.Field.{Laws, OnNumbers, Ops, power}
 use Rattle.algebra.specs.Polynomial.{Below, add, coef, eval, mul}
-use Rattle.algebra.specs.Routines.{monic}
-use Rattle.algebra.proofs.Crossing.{by-elements, by-two, coef-up, elems, laws, low-add, low-eval, low-monic, low-mul, low-power, low-scale}
+use Rattle.algebra.specs.Routines.{monic, square}
+use Rattle.algebra.proofs.Crossing.{by-elements, by-two, coef-up, elems, laws, low-add, low-eval, low-monic, low-mul, low-power, low-scale, low-square}
 use Rattle.algebra.proofs.StaysBelow.{append-below, replicate-below}
 use Rattle.algebra.proofs.Evaluation as H
 
@@ -34,6 +34,11 @@ module _ {G : Ops ℕ} {q : ℕ} (N : OnNumbers G q) where
   eval-mul p r hp hr x l = by-two N (λ p r. eval G (mul G p r) x ≡ G .mul (eval G p x) (eval G r x)) (λ u v.
       ap (λ f. eval G f x) (sym (low-mul N u v)) ∙ sym (low-eval N (mul (elems N) u v) (x, l)) ∙ ap (λ y. y .0) (H.eval-mul L u v (x, l))
       ∙ ap₂ (G .mul) (low-eval N u (x, l)) (low-eval N v (x, l))) p r hp hr
+
+  pub eval-square : (f : List ℕ) → Below q f → (x : ℕ) → x < q → eval G (square G f) x ≡ G .mul (eval G f x) (eval G f x)
+  eval-square f hf x l = by-elements N (λ f. eval G (square G f) x ≡ G .mul (eval G f x) (eval G f x)) (λ u.
+      ap (λ f. eval G f x) (sym (low-square N u)) ∙ sym (low-eval N (square (elems N) u) (x, l)) ∙ ap (λ y. y .0) (H.eval-square L u (x, l))
+      ∙ ap (λ v. G .mul v v) (low-eval N u (x, l))) f hf
 
   pub eval-monic : (p : List ℕ) → Below q p → (x : ℕ) → x < q → eval G (monic G p) x ≡ G .add (eval G p x) (power G x (length p))
   eval-monic p hp x l = by-elements N (λ p. eval G (monic G p) x ≡ G .add (eval G p x) (power G x (length p))) (λ u.

@@ -3,6 +3,7 @@
 --   begin-gcd       BEGIN: the common part of monic p with z^(2^m) + z is the product over all distinct roots
 --   split-gcd       a polynomial t parts a product over distinct roots: the gcd keeps the roots at which t is 0
 --   split-cofactor  and the cofactor the others
+--   split-same      two polynomials that are 0 at the same of these roots part them alike
 --   step-gcd        A STEP at level i, with b the i-th power of a: the gcd with Tr(b z) keeps the roots r with Tr(b r) = 0
 --   step-cofactor   and the cofactor the others
 --   trace-run       THE CODE, which works modulo P, finds the same gcd with Tr(b z), for every P
@@ -14,11 +15,12 @@ use mathlib.Core.Bool.{Bool, cond, not}
 use mathlib.Core.List.{List, [], _∷_}
 use Prim.Native.Nat.{_<_, _^_, ℕ}
 use Rattle.algebra.specs.Field.{Laws, OnNumbers, Ops, squared, trace}
-use Rattle.algebra.specs.Trial.{Distinct, keep, upFrom}
+use Rattle.algebra.specs.Trial.{All, Distinct, keep, upFrom}
 use Rattle.algebra.specs.Polynomial.{Below, add, coef, eval, fieldPoly, fromRoots, isRoot, linear, rootsOf, traceOf, tracePoly}
 use Rattle.algebra.specs.Routines.{cofactor, frobeniusMod, gcd, monic, monicRoots, rem, traceMod}
 use Rattle.algebra.proofs.Crossing.{Elem, all, by-elements, by-two, coef-down, count-all, distinct-all, distinct-low, elem-equal, elems, laws, low, low-add, low-all, low-cofactor, low-eval, low-fieldPoly, low-frobeniusMod, low-fromRoots, low-gcd, low-keep, low-monic, low-monicRoots, low-rem, low-squared, low-trace, low-traceMod, low-tracePoly}
 use Rattle.algebra.proofs.StaysBelow.{traceOf-below}
+use Rattle.algebra.proofs.Trial.{all-map, keep-same}
 use Rattle.algebra.proofs.Splitting as S
 use Rattle.algebra.proofs.Modular as M
 use Rattle.algebra.proofs.WholeField as W
@@ -84,6 +86,13 @@ module _ {G : Ops ℕ} {q : ℕ} (N : OnNumbers G q) where
       ∙ ap (low N) (S.split-cofactor L u v (distinct-low N u d))
       ∙ low-monicRoots N (keep (λ r. not (isRoot K v r)) u)
       ∙ ap (monicRoots G) (low-keep N (λ r. not (isRoot K v r)) (λ r. not (isRoot G (low N v) r)) u (λ r. ap not (low-roots v r)))
+
+  -- two polynomials that are 0 at the same of these roots part them alike
+  pub split-same : (s t u : List ℕ) → Below q s → Below q t → Below q u → Distinct s → All (λ r. eval G t r ≡ eval G u r) s
+      → gcd G (monicRoots G s) t ≡ gcd G (monicRoots G s) u
+  split-same s t u hs ht hu d e =
+      split-gcd s t hs ht d ∙ ap (monicRoots G) (keep-same (isRoot G t) (isRoot G u) s (all-map (λ r. eval G t r ≡ eval G u r) (λ r. isRoot G t r ≡ isRoot G u r) s (λ r. ap (G .isZero)) e))
+      ∙ sym (split-gcd s u hs hu d)
 
   -- the value of Tr(b z) at r is Tr(b r)
   pub eval-traceOf : (m b r : ℕ) → b < q → r < q → eval G (traceOf G m b) r ≡ trace G m (G .mul b r)

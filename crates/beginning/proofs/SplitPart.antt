@@ -2,14 +2,15 @@
 --   field-run-top    z^(2^m) + z may be reduced by p as the power alone, with zeros on top, and z added
 --   residue-asks, residue-long, residue-is
 --                    `residue`: what the power asks, and what is left
---   split-asks, split-some, split-residual, split-turnable, split-is
+--   split-asks, split-some, split-residual, split-powered, split-turnable, split-is
 --                    `split_part`: what each routine asks, and what is left
 -- Assumes nothing.
 use mathlib.Core.Path.{_≡_, refl, sym, ap, ap₂, _∙_, subst}
 use mathlib.Core.Bool.{Bool, true, false}
 use mathlib.Core.Option.{none, some}
 use mathlib.Core.List.{List, [], _∷_, _++_, map-append}
-use Prim.Native.Nat.{ℕ, zero, suc, _+_, _-_, _^_, _≤_, _<_}
+use Prim.Native.Nat.{ℕ, zero, suc, _+_, _-_, _*_, _^_, _≤_, _<_}
+use native.Mathlib.Nat.{le-trans, mul-le-mul-left}
 use native.Mathlib.Decide.{decLt}
 use native.Mathlib.Omega.{arith}
 use lib.Bits.{bitXor, xor-zero-r}
@@ -38,11 +39,11 @@ use Rattle.field.specs.Field.{fieldAt}
 use Rattle.field.proofs.Instance.{squared-size}
 use Rattle.polynomial.specs.Lent.{G, Lent}
 use Rattle.polynomial.specs.Monic.{front, MadeMonic}
-use Rattle.polynomial.specs.Powers.{Startable}
+use Rattle.polynomial.specs.Powers.{Startable, powerRows}
 use Rattle.polynomial.specs.Euclid.{Turnable, GcdIs}
 use Rattle.polynomial.proofs.Logs.{field-of, numbers-of}
 use Rattle.groups.specs.Limit.{limit}
-use Rattle.beginning.specs.SplitPart.{Residual, Residue, Splittable, SplitOff}
+use Rattle.beginning.specs.SplitPart.{Residual, Residue, Splittable, SplitOff, Powered}
 
 -- ---- z^(2^m) + z modulo p
 
@@ -93,7 +94,7 @@ add-z m [] h = absurd (omega arith)
 add-z m (x ∷ []) h = absurd (omega arith)
 add-z m (x ∷ y ∷ f) h = ap₂ (λ a b. a ∷ bitXor y 1 ∷ b) (sym (xor-zero-r x)) (sym (add-none m f))
 
-module _ {m : ℕ} {ls ts p b : List ℕ} (g : Residual m ls ts p b) where
+module _ {m : ℕ} {ls ts p b rows : List ℕ} (g : Residual m ls ts p b rows) where
   -- what the power asks
   pub residue-asks : {b₁ : List ℕ} → b₁ ≡ replicate (length b) 0
       → Startable m ls ts p (take (length p) (replicate limit 0)) (take (length p) b₁) (take (length p + length p) (replicate (limit + limit) 0))
@@ -140,7 +141,7 @@ module _ {m : ℕ} {ls ts p b : List ℕ} (g : Residual m ls ts p b) where
 
 -- ---- `split_part`
 
-module _ {m : ℕ} {ls ts cs out : List ℕ} (g : Splittable m ls ts cs out) {out₁ : List ℕ} (e : out₁ ≡ copied cs out) where
+module _ {m : ℕ} {ls ts cs out rows : List ℕ} (g : Splittable m ls ts cs out rows) {out₁ : List ℕ} (e : out₁ ≡ copied cs out) where
   -- the coefficients stand in front
   copy-front : take (length cs) out₁ ≡ cs
   copy-front = ap (take (length cs)) e ∙ copied-front cs out refl
@@ -208,7 +209,7 @@ module _ {m : ℕ} {ls ts cs out : List ℕ} (g : Splittable m ls ts cs out) {ou
     split-room = omega (arith, long-out, within, g .room)
 
     -- what the power asks
-    pub split-residual : {b : List ℕ} → length b ≡ suc limit → Residual m ls ts (take (j - 1) (y ++ drop (length cs) out₁)) b
+    pub split-residual : {b : List ℕ} → length b ≡ suc limit → Residual m ls ts (take (j - 1) (y ++ drop (length cs) out₁)) b rows
     unfolding p
     split-residual h = record {
       tables = g .tables;
@@ -216,7 +217,14 @@ module _ {m : ℕ} {ls ts cs out : List ℕ} (g : Splittable m ls ts cs out) {ou
       few = omega (arith, long-p, within, split-some, g .few);
       room = omega (arith, long-p, within, split-some, g .few);
       two = omega arith;
+      room-rows = le-trans (mul-le-mul-left m (let k : length p ≤ limit = omega (arith, long-p, within, split-some, g .few) in k)) (g .room-rows);
     }
+
+    -- the powers are those modulo the polynomial made monic
+    pub split-powered : {rows₁ : List ℕ} → take (m * length (take (j - 1) (y ++ drop (length cs) out₁))) rows₁
+        ≡ powerRows m (take (j - 1) (y ++ drop (length cs) out₁)) m (rem (G m) (take (j - 1) (y ++ drop (length cs) out₁)) (0 ∷ 1 ∷ [])) → Powered m cs (j - 1) rows₁
+    unfolding p
+    split-powered {rows₁} e = record { low = p; made = lead; long = long-p; rows-are = ap (λ k. take (m * k) rows₁) (sym long-p) ∙ e }
 
     module _ {b : List ℕ} (r : Residue m (take (j - 1) (y ++ drop (length cs) out₁)) b) (h : length b ≡ suc limit) where
       -- what the greatest common divisor asks

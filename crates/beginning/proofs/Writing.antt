@@ -1,5 +1,5 @@
 -- `write` and `begin`: what the parts ask, and what is left.
---   size-most, size-least, size-fits         the size of a known field
+--   size-most, size-least, size-fits         the size of a known field;  rows-room  the room for the rows of its powers
 --   logs-asks, antilogs-asks                 what the lent tables ask
 --   lent-tables, write-beginnable            the tables as they are lent, and the polynomial with them
 --   begin-splittable                         what the part that splits asks
@@ -41,6 +41,10 @@ use Rattle.beginning.proofs.PolynomialTests.{polynomial-told, passed-mo
 pub size-most : (m : ℕ) → known m ≡ true → 2 ^ m ≤ 2048
 size-most m k = by-row (λ m p. 2 ^ m ≤ 2048) (omega arith) (omega arith) (omega arith) (listed m k)
 
+-- the rows of m powers fit in 352 places
+pub rows-room : (m : ℕ) → known m ≡ true → {l : ℕ} → 352 ≤ l → m * limit ≤ l
+rows-room m k h = let s : m ≤ 11 = by-row (λ m p. m ≤ 11) (omega arith) (omega arith) (omega arith) (listed m k) in omega arith
+
 module _ {m size : ℕ} {cs table : List ℕ} (g : Writable m size cs table) where
   -- it has an element
   pub size-least : 1 ≤ size
@@ -67,24 +71,26 @@ module _ {m size : ℕ} {cs table : List ℕ} (g : Writable m size cs table) whe
   }
 
   -- with them the table can be written
-  pub write-beginnable : (ls ts : List ℕ) → Logs (fieldAt m) (take (2 ^ m) ls) → Antilogs (fieldAt m) (take (3 * (2 ^ m - 1)) ts)
-      → Beginnable m (take size ls) (take (3 * (size - 1)) ts) cs table
-  write-beginnable ls ts l a = record {
+  pub write-beginnable : (ls ts : List ℕ) {rows : List ℕ} → Logs (fieldAt m) (take (2 ^ m) ls) → Antilogs (fieldAt m) (take (3 * (2 ^ m - 1)) ts) → 352 ≤ length rows
+      → Beginnable m (take size ls) (take (3 * (size - 1)) ts) cs table rows
+  write-beginnable ls ts l a r = record {
     tables = lent-tables ls ts l a;
     small = g .small;
     few = g .few;
     nonzero = g .nonzero;
     room = g .room;
+    room-rows = rows-room m (g .degree) r;
   }
 
 -- what the part that splits asks
-pub begin-splittable : {m : ℕ} {ls ts cs table out : List ℕ} → Beginnable m ls ts cs table → length out ≡ suc limit → Splittable m ls ts cs out
+pub begin-splittable : {m : ℕ} {ls ts cs table out rows : List ℕ} → Beginnable m ls ts cs table rows → length out ≡ suc limit → Splittable m ls ts cs out rows
 begin-splittable g h = record {
   tables = g .tables;
   small = g .small;
   few = g .few;
   nonzero = g .nonzero;
   room = omega (arith, g .few);
+  room-rows = g .room-rows;
 }
 
 -- the part that splits is as long as it says
@@ -92,7 +98,7 @@ pub part-long : {m k : ℕ} {cs out : List ℕ} → SplitOff m cs k out → leng
 part-long {m} {k} {cs} s = ap length (s .low) ∙ length-monicRoots (G m) (rootsOf (G m) (2 ^ m) cs) ∙ sym (s .count)
 
 -- and fits in
-pub part-few : {m k : ℕ} {ls ts cs table out : List ℕ} → Beginnable m ls ts cs table → SplitOff m cs k out → length (take k out) ≤ limit
+pub part-few : {m k : ℕ} {ls ts cs table out rows : List ℕ} → Beginnable m ls ts cs table rows → SplitOff m cs k out → length (take k out) ≤ limit
 part-few g s = omega (arith, part-long s, s .fewer, g .few)
 
 -- what is left in the table

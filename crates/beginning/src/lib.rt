@@ -1,12 +1,15 @@
 // Begin: the tests, the part of the polynomial that splits, and the table that is written.
 // Source document 000: the part of f that splits into distinct factors is its greatest common divisor with z^(2^m) + z. The power is
-// taken by m squarings modulo f, so that no element is tried.
+// taken by m squarings modulo f, so that no element is tried. The powers on the way are kept for the trace sums.
 ghost use mathlib.Core.Path.{_≡_};
 ghost use mathlib.Core.List.{[], _∷_};
 ghost use mathlib.Core.Bool.{not};
-ghost use Prim.Native.Nat.{_≤_};
+ghost use Prim.Native.Nat.{_*_, _≤_};
 ghost use lib.Dec.{eqb, ltb};
-ghost use lib.ListN.{length};
+ghost use lib.ListN.{length, take};
+ghost use Rattle.algebra.specs.Routines.{rem};
+ghost use Rattle.polynomial.specs.Lent.{G};
+ghost use Rattle.polynomial.specs.Powers.{powerRows};
 ghost use Rattle.refusals.specs.Admitting.{Admits};
 ghost use Rattle.groups.specs.Cutoff.{inForce};
 ghost use Rattle.groups.specs.Layout.{byFactor};
@@ -15,13 +18,13 @@ ghost use Rattle.groups.specs.Splitting.{begunTable, slotsBegun};
 ghost use Rattle.groups.specs.Limit.{limit, slots};
 ghost use Rattle.groups.specs.Polynomials.{polynomialTests};
 ghost use Rattle.beginning.specs.Calls.{beginOutcome, beginMemory, paperBegun};
-ghost use Rattle.beginning.specs.SplitPart.{Residual, Residue, Splittable, SplitOff, Beginnable, Writable};
+ghost use Rattle.beginning.specs.SplitPart.{Residual, Residue, Splittable, SplitOff, Powered, Beginnable, Writable};
 use groups::COEFFICIENTS;
 use groups::HOUSE_DEFAULT;
 use groups::SLOTS;
 use polynomial::euclid::gcd;
 use polynomial::monic::make_monic;
-use polynomial::powers::z_power;
+use polynomial::powers::z_powers;
 use refusals::Admission;
 use refusals::Found;
 use refusals::Refusal;
@@ -84,17 +87,17 @@ fn admit(m: u16, coeffs: &[u16], cutoff: u16, room: usize) -> Admission
     Admission::In(row)
 }
 
-// Writes z^(2^m) + z, reduced by the monic polynomial with the low coefficients p, to b: m squarings, then z is added.
-fn residue(m: u16, logs: &[u16], antilogs: &[u16], p: &[u16], b: &mut [u16])
-    requires { ⌜ Residual m (now logs) (now antilogs) (now p) (now b) ⌝ }
-    ensures { λ _. ⌜ Residue m (now (p .entry)) (now (b .exit)) ⌝ }
+// Writes z^(2^m) + z, reduced by the monic polynomial with the low coefficients p, to b: m squarings, then z is added. The rows of the powers are written to rows.
+fn residue(m: u16, logs: &[u16], antilogs: &[u16], p: &[u16], b: &mut [u16], rows: &mut [u16])
+    requires { ⌜ Residual m (now logs) (now antilogs) (now p) (now b) (now rows) ⌝ }
+    ensures { λ _. ⌜ Residue m (now (p .entry)) (now (b .exit)) × (take (m * length (now (p .entry))) (now (rows .exit)) ≡ powerRows m (now (p .entry)) m (rem (G m) (now (p .entry)) (0 ∷ 1 ∷ []))) ⌝ }
 {
     let mut row = [0u16; 32];
     let mut s = [0u16; 64];
     let n = p.len();
     let d = n + n;
     slots::clear(b);
-    z_power(
+    z_powers(
         m,
         logs,
         antilogs,
@@ -103,22 +106,38 @@ fn residue(m: u16, logs: &[u16], antilogs: &[u16], p: &[u16], b: &mut [u16])
         &mut row[..n],
         &mut b[..n],
         &mut s[..d],
+        rows,
     );
     b[1] = b[1] ^ 1;
 }
 
-// Writes the low coefficients of the product of (z + r) over all distinct roots of a polynomial that is not 0 to the front of out. Returns their number.
-pub fn split_part(m: u16, logs: &[u16], antilogs: &[u16], coeffs: &[u16], out: &mut [u16]) -> usize
-    requires { ⌜ Splittable m (now logs) (now antilogs) (now coeffs) (now out) ⌝ }
-    ensures { λ k. ⌜ SplitOff m (now (coeffs .entry)) k (now (out .exit)) ⌝ }
+// The degree of a polynomial, and that of the part of it that splits.
+pub struct Degrees {
+    pub whole: usize,
+    pub part: usize,
+}
+
+// Writes the low coefficients of the product of (z + r) over all distinct roots of a polynomial that is not 0 to the front of out, and the rows of z, z^2, z^4, ..
+// modulo the polynomial to rows.
+pub fn split_part(
+    m: u16,
+    logs: &[u16],
+    antilogs: &[u16],
+    coeffs: &[u16],
+    out: &mut [u16],
+    rows: &mut [u16],
+) -> Degrees
+    requires { ⌜ Splittable m (now logs) (now antilogs) (now coeffs) (now out) (now rows) ⌝ }
+    ensures { λ r. ⌜ SplitOff m (now (coeffs .entry)) (r .part) (now (out .exit)) × Powered m (now (coeffs .entry)) (r .whole) (now (rows .exit)) ⌝ }
 {
     let mut b = [0u16; 33];
     let mut row = [0u16; 32];
     let n = coeffs.len();
     slots::copy(coeffs, out);
     let d = make_monic(m, logs, antilogs, &mut out[..n]) - 1;
-    residue(m, logs, antilogs, &out[..d], &mut b);
-    gcd(m, logs, antilogs, &mut row, out, d, &mut b, 33)
+    residue(m, logs, antilogs, &out[..d], &mut b, rows);
+    let k = gcd(m, logs, antilogs, &mut row, out, d, &mut b, 33);
+    Degrees { whole: d, part: k }
 }
 
 // Writes a whole table with one factor at level 0, or none where low is empty, whatever it held.
@@ -138,14 +157,24 @@ fn lay(table: &mut [u16], m: u16, c: u16, low: &[u16])
     slots::paste(table, 6, low);
 }
 
-// Writes the table of an accepted polynomial, over lent tables.
-pub fn begin_lent(m: u16, c: u16, logs: &[u16], antilogs: &[u16], coeffs: &[u16], table: &mut [u16])
-    requires { ⌜ Beginnable m (now logs) (now antilogs) (now coeffs) (now table) ⌝ }
-    ensures { λ _. ⌜ now (table .exit) ≡ slotsBegun byFactor slots m c (now (coeffs .entry)) ⌝ }
+// Writes the table of an accepted polynomial, over lent tables, and the rows of z, z^2, z^4, .. modulo the polynomial to rows. Returns the polynomial's degree.
+pub fn begin_lent(
+    m: u16,
+    c: u16,
+    logs: &[u16],
+    antilogs: &[u16],
+    coeffs: &[u16],
+    table: &mut [u16],
+    rows: &mut [u16],
+) -> usize
+    requires { ⌜ Beginnable m (now logs) (now antilogs) (now coeffs) (now table) (now rows) ⌝ }
+    ensures { λ d. ⌜ (now (table .exit) ≡ slotsBegun byFactor slots m c (now (coeffs .entry))) × Powered m (now (coeffs .entry)) d (now (rows .exit)) ⌝ }
 {
     let mut part = [0u16; 33];
-    let n = split_part(m, logs, antilogs, coeffs, &mut part);
+    let found = split_part(m, logs, antilogs, coeffs, &mut part, rows);
+    let n = found.part;
     lay(table, m, c, &part[..n]);
+    found.whole
 }
 
 // Writes the table of an accepted polynomial, in a field of `size` elements. The field's tables are lent here.
@@ -155,10 +184,19 @@ fn write(m: u16, size: usize, coeffs: &[u16], c: u16, table: &mut [u16])
 {
     let mut logs = [0u16; 2048];
     let mut antilogs = [0u16; 6141];
+    let mut rows = [0u16; 352];
     lent::logs(m, &mut logs);
     lent::antilogs(m, &mut antilogs);
     let e = 3 * (size - 1);
-    begin_lent(m, c, &logs[..size], &antilogs[..e], coeffs, table);
+    begin_lent(
+        m,
+        c,
+        &logs[..size],
+        &antilogs[..e],
+        coeffs,
+        table,
+        &mut rows,
+    );
 }
 
 // Begins a table: one factor, the product of (z + r) over all distinct roots of the polynomial, or none if it has no root.

@@ -42,6 +42,7 @@ use Rattle.groups.specs.Polynomials.{polynomialTests}
 use Rattle.beginning.specs.SplitPart.{Beginnable}
 use Rattle.beginning.proofs.PolynomialTests.{PolynomialIn, polynomial-told, passed-given, passed-more}
 use Rattle.splitter.proofs.Lending.{logs-room, lent-is}
+use Rattle.beginning.proofs.Writing.{rows-room}
 use Rattle.finder.specs.Searching.{Searchable, LetIn}
 use Rattle.finder.specs.Solving.{begunAfter, Stepping, Solvable, SolvedOut, Admitted}
 use Rattle.finder.specs.declared.solving.Counts.{Counts}
@@ -121,13 +122,14 @@ module _ {m size c : ℕ} {f roots : List ℕ} (g : Admitted m size c f roots) w
 
 module _ {m c : ℕ} {f ls ts hs roots : List ℕ} (g : Solvable m c f ls ts hs roots) where
   -- its table can be begun
-  pub solve-begins : {table : List ℕ} → length table ≡ slots → Beginnable m ls ts f table
-  solve-begins e = record {
+  pub solve-begins : {table rows : List ℕ} → length table ≡ slots → 352 ≤ length rows → Beginnable m ls ts f table rows
+  solve-begins e r = record {
     tables = g .tables;
     small = g .polynomial .small;
     few = g .polynomial .few;
     nonzero = g .polynomial .nonzero;
     room = e;
+    room-rows = rows-room m (g .polynomial .field) r;
   }
 
   -- and stepped

@@ -3,3 +3,4 @@ pub mod Admitting
 pub mod Agreement
 pub mod Running
 pub mod Coincide
+pub mod Tracing

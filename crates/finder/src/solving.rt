@@ -1,4 +1,5 @@
-// The whole call's engine: a polynomial is begun and its table stepped until it is done, over tables that are lent once.
+// The whole call's engine: a polynomial is begun and its table stepped until it is done, over tables that are lent once. A step divides by the trace of its level
+// modulo the polynomial, not modulo the factor: the powers of z on begin's way to z^(2^m) are kept, and Tr(a^i z) is a sum of their multiples, taken once a level.
 ghost use mathlib.Core.Path.{_≡_};
 ghost use mathlib.Core.List.{[], _∷_};
 ghost use lib.Dec.{ltb};
@@ -7,7 +8,7 @@ ghost use Rattle.groups.specs.Cutoff.{inForce};
 ghost use Rattle.groups.specs.Limit.{limit};
 ghost use Rattle.groups.specs.Polynomials.{polynomialTests};
 ghost use Rattle.finder.specs.Calls.{solveOutcome, solveTests, rootMemory, paperSolved};
-ghost use Rattle.finder.specs.Solving.{Running, RunOut, Solvable, SolvedOut, Admitted};
+ghost use Rattle.finder.specs.Solving.{Traceable, TracedTo, Advancing, Advanced, Running, RunOut, Solvable, SolvedOut, Admitted};
 use crate::Solved;
 use beginning::admit_polynomial;
 use beginning::begin_lent;
@@ -15,20 +16,83 @@ use beginning::in_force;
 use groups::LIMIT;
 use judging::Place;
 use judging::find;
+use polynomial::powers::add_trace;
 use refusals::Admission;
 use refusals::Refusal;
 use splitter::finishing::finish_lent;
 use splitter::stepping::step_lent;
 
+// Writes the trace sums of the levels from `ready` to `level` to traces, each in its n places. Returns how many there are then.
+fn trace_to(
+    m: u16,
+    logs: &[u16],
+    antilogs: &[u16],
+    n: usize,
+    rows: &[u16],
+    traces: &mut [u16],
+    ready: u16,
+    level: u16,
+) -> u16
+    requires { ⌜ Traceable m (now logs) (now antilogs) n (now rows) (now traces) ready level ⌝ }
+    ensures { λ k. ⌜ TracedTo m n (now (rows .entry)) level k (now (traces .exit)) ⌝ }
+{
+    let mut k = ready;
+    let mut at = (ready as usize) * n;
+    while k <= level {
+        let e = at + n;
+        let b = antilogs[k as usize];
+        add_trace(m, logs, antilogs, rows, m, b, &mut traces[at..e]);
+        at = e;
+        k += 1;
+    }
+    k
+}
+
+// Takes the step at o, with the trace sum of its level. Returns how many levels have theirs then.
+fn advance(
+    m: u16,
+    logs: &[u16],
+    antilogs: &[u16],
+    n: usize,
+    rows: &[u16],
+    traces: &mut [u16],
+    ready: u16,
+    table: &mut [u16],
+    o: usize,
+) -> u16
+    requires { ⌜ Advancing m (now logs) (now antilogs) n (now rows) (now traces) ready (now table) o ⌝ }
+    ensures { λ k. ⌜ Advanced m n (now (rows .entry)) (now (table .entry)) k (now (traces .exit)) (now (table .exit)) ⌝ }
+{
+    let level = table[o];
+    let k = trace_to(m, logs, antilogs, n, rows, traces, ready, level);
+    let b = (level as usize) * n;
+    let e = b + n;
+    step_lent(table, logs, antilogs, o, &traces[b..e]);
+    k
+}
+
 // Steps a begun table until it is done. It is sound, so that the place of the next step is all that is looked for. The coefficients only say which table it is.
-pub fn run(m: u16, c: u16, coeffs: &[u16], logs: &[u16], antilogs: &[u16], table: &mut [u16])
-    requires { ⌜ Running m c (now coeffs) (now logs) (now antilogs) (now table) ⌝ }
+pub fn run(
+    m: u16,
+    c: u16,
+    coeffs: &[u16],
+    logs: &[u16],
+    antilogs: &[u16],
+    n: usize,
+    rows: &[u16],
+    traces: &mut [u16],
+    table: &mut [u16],
+)
+    requires { ⌜ Running m c (now coeffs) (now logs) (now antilogs) n (now rows) (now traces) (now table) ⌝ }
     ensures { λ _. ⌜ RunOut m c (now (coeffs .entry)) (now (table .exit)) ⌝ }
 {
+    let mut ready: u16 = 0;
     loop {
         let count = table[2];
         match find(table, c, count) {
-            Place::At(o) => step_lent(table, logs, antilogs, o),
+            Place::At(o) => {
+                ready = advance(m, logs, antilogs, n, rows, traces, ready, table, o);
+            }
             Place::Nowhere => {
                 return;
             }
@@ -56,8 +120,21 @@ pub fn solve_lent(
     ensures { λ r. ⌜ SolvedOut m c (now (coeffs .entry)) (now (roots .entry)) r (now (roots .exit)) ⌝ }
 {
     let mut table = [0u16; 100];
-    begin_lent(m, c, logs, antilogs, coeffs, &mut table);
-    run(m, c, coeffs, logs, antilogs, &mut table);
+    let mut rows = [0u16; 352];
+    let mut traces = [0u16; 352];
+    let n = begin_lent(m, c, logs, antilogs, coeffs, &mut table, &mut rows);
+    let e = (m as usize) * n;
+    run(
+        m,
+        c,
+        coeffs,
+        logs,
+        antilogs,
+        n,
+        &rows[..e],
+        &mut traces,
+        &mut table,
+    );
     let s = finish_lent(logs, antilogs, halves, &table, roots);
     Counts {
         s: s as u16,

@@ -12,6 +12,7 @@ pub mod Divisions
 pub mod Remainders
 pub mod Monics
 pub mod PowerLoops
+pub mod TraceLoops
 pub mod Starts
 pub mod EuclidLoops
 pub mod Cofactors
@@ -19,3 +20,4 @@ pub mod Horner
 -- what the outcomes mean, in the words of the theory
 pub mod Meaning
 pub mod HornerFour
+pub mod TraceValues

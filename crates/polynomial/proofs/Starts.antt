@@ -5,7 +5,7 @@
 -- Assumes nothing.
 use mathlib.Core.Path.{_≡_, sym, ap, _∙_, subst}
 use mathlib.Core.List.{List, [], _∷_}
-use Prim.Native.Nat.{ℕ, _^_, _<_}
+use Prim.Native.Nat.{ℕ, _^_, _<_, _*_, _≤_}
 use native.Mathlib.Omega.{arith}
 use lib.ListN.{length, length-map}
 use Rattle.algebra.specs.Polynomial.{Below}
@@ -15,7 +15,7 @@ use Rattle.algebra.proofs.StaysBelow.{rem-below}
 use Rattle.field.specs.Field.{fieldAt}
 use Rattle.field.specs.Tables.{logOf}
 use Rattle.polynomial.specs.Lent.{G, Lent, Row, Loggable, logRow, held}
-use Rattle.polynomial.specs.Powers.{Squarable, Startable}
+use Rattle.polynomial.specs.Powers.{Squarable, Startable, Savable, Saved}
 use Rattle.polynomial.proofs.Logs.{numbers-of, held-row, held-below, held-long, row-is-row}
 
 module _ {m : ℕ} {ls ts p row w s : List ℕ} (g : Startable m ls ts p row w s) where
@@ -51,3 +51,17 @@ module _ {m : ℕ} {ls ts p row w s : List ℕ} (g : Startable m ls ts p row w s
   start-is {row₁} {w₁} b φ e d f =
       let whole : held m row₁ ≡ p = ap (held m) e ∙ held-row (g .tables) p (g .small) in
       f ∙ ap (φ (held m row₁)) d ∙ ap (λ u. φ u (rem (G m) u (0 ∷ b ∷ []))) whole
+
+  -- the powers of z can be written
+  pub start-savable : {k : ℕ} {row₁ w₁ rows : List ℕ} → row₁ ≡ logRow m p → w₁ ≡ rem (G m) (held m row₁) (0 ∷ 1 ∷ []) → k * length p ≤ length rows
+      → Savable m ls ts row₁ k w₁ s rows
+  start-savable {k} {row₁} {rows = rows} e d h = record {
+    squarable = start-on start-one e d;
+    room-rows = subst (λ n. k * n ≤ length rows) (sym (ap length e ∙ length-map p (logOf (fieldAt m)))) h;
+  }
+
+  -- and are those modulo p
+  pub start-saved : {k : ℕ} {row₁ w₁ w′ rows : List ℕ} → row₁ ≡ logRow m p → w₁ ≡ rem (G m) (held m row₁) (0 ∷ 1 ∷ []) → Saved m (held m row₁) k w₁ w′ rows
+      → Saved m p k (rem (G m) p (0 ∷ 1 ∷ [])) w′ rows
+  start-saved {k} {row₁} {w′ = w′} {rows} e d v =
+      subst (λ u. Saved m u k (rem (G m) u (0 ∷ 1 ∷ [])) w′ rows) (ap (held m) e ∙ held-row (g .tables) p (g .small)) (subst (λ u. Saved m (held m row₁) k u w′ rows) d v)

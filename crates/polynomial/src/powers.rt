@@ -1,15 +1,16 @@
-// Squares modulo a monic polynomial, and what is made of them: z^(2^k), and the sum Tr(bz).
+// Squares modulo a monic polynomial, and what is made of them: z^(2^k), and the sum Tr(bz), which needs the powers of z once for all b.
 ghost use mathlib.Core.Path.{_≡_};
-ghost use Prim.Native.Nat.{_<_, _^_};
+ghost use Prim.Native.Nat.{_*_, _≤_, _<_, _^_};
 ghost use mathlib.Core.List.{[], _∷_};
 ghost use lib.ListN.{length};
 ghost use Rattle.algebra.specs.Polynomial.{add};
 ghost use Rattle.algebra.specs.Routines.{rem, square, frobeniusMod, traceMod};
 ghost use Rattle.field.specs.Field.{mul, fieldAt};
 ghost use Rattle.polynomial.specs.Lent.{G, Lent, Row, held};
-ghost use Rattle.polynomial.specs.Powers.{Spreadable, Squarable, Startable};
+ghost use Rattle.polynomial.specs.Powers.{Spreadable, Squarable, Startable, Savable, Saved, Summable, traceSum};
 use crate::division::divide;
 use crate::division::remainder;
+use crate::rows::add_row;
 use crate::rows::log_row;
 
 // The square of x.
@@ -149,4 +150,76 @@ pub fn trace_of(
     log_row(m, logs, antilogs, p, row);
     linear_mod(m, logs, antilogs, row, b, w);
     trace_mod(m, logs, antilogs, row, w, s, sum);
+}
+
+// Squares w k times as `power_mod` does, and writes the row of each power before the last to rows, one behind the other.
+pub fn power_rows(
+    m: u16,
+    logs: &[u16],
+    antilogs: &[u16],
+    row: &[u16],
+    k: u16,
+    w: &mut [u16],
+    s: &mut [u16],
+    rows: &mut [u16],
+)
+    requires { ⌜ Savable m (now logs) (now antilogs) (now row) k (now w) (now s) (now rows) ⌝ }
+    ensures { λ _. ⌜ Saved m (held m (now (row .entry))) k (now (w .entry)) (now (w .exit)) (now (rows .exit)) ⌝ }
+{
+    let n = row.len();
+    let mut at = 0;
+    let mut i: u16 = 0;
+    while i < k {
+        let e = at + n;
+        log_row(m, logs, antilogs, &w[..], &mut rows[at..e]);
+        square_mod(m, logs, antilogs, row, w, s);
+        at = e;
+        i += 1;
+    }
+}
+
+// Writes z^(2^k) modulo the monic polynomial with the low coefficients p to w, and the rows of z, z^2, z^4, .. before it to rows.
+pub fn z_powers(
+    m: u16,
+    logs: &[u16],
+    antilogs: &[u16],
+    p: &[u16],
+    k: u16,
+    row: &mut [u16],
+    w: &mut [u16],
+    s: &mut [u16],
+    rows: &mut [u16],
+)
+    requires { ⌜ Startable m (now logs) (now antilogs) (now p) (now row) (now w) (now s) × (k * length (now p) ≤ length (now rows)) ⌝ }
+    ensures { λ _. ⌜ Saved m (now (p .entry)) k (rem (G m) (now (p .entry)) (0 ∷ 1 ∷ [])) (now (w .exit)) (now (rows .exit)) ⌝ }
+{
+    log_row(m, logs, antilogs, p, row);
+    linear_mod(m, logs, antilogs, row, 1, w);
+    power_rows(m, logs, antilogs, row, k, w, s, rows);
+}
+
+// Adds b w0 + b^2 w1 + b^4 w2 + .. , k terms, to t, where the rows, one behind the other, hold w0, w1, w2, ..
+pub fn add_trace(
+    m: u16,
+    logs: &[u16],
+    antilogs: &[u16],
+    rows: &[u16],
+    k: u16,
+    b: u16,
+    t: &mut [u16],
+)
+    requires { ⌜ Summable m (now logs) (now antilogs) (now rows) k b (now t) ⌝ }
+    ensures { λ _. ⌜ now (t .exit) ≡ add (G m) (now (t .entry)) (traceSum m (length (now (t .entry))) k b (now (rows .entry))) ⌝ }
+{
+    let n = t.len();
+    let mut c = b;
+    let mut at = 0;
+    let mut i: u16 = 0;
+    while i < k {
+        let e = at + n;
+        add_row(m, logs, antilogs, c, &rows[at..e], t);
+        c = square_of(m, logs, antilogs, c);
+        at = e;
+        i += 1;
+    }
 }

@@ -1,7 +1,7 @@
--- The first part of a factor, as the code finds it: the greatest common divisor with the trace sum modulo the factor.
+-- The first part of a factor, as the code finds it: the greatest common divisor with a polynomial that stands for Tr(a^i z), as the trace sum modulo the factor does.
 --   level-fits, level-power   the antilog of the level i is a^i
 --   traced, traced-long       the trace sum that the code makes is that of a^i z, as long as the factor
---   refilled                  a list whose front is written anew stays as long as it is
+--   traced-same               it has the greatest common divisor with the factor that Tr(a^i z) has
 --   gcd-asks, common-is       what Euclid's loop takes and leaves
 -- Assumes nothing.
 use mathlib.Core.Path.{_≡_, refl, sym, ap, ap₂, subst, _∙_}
@@ -29,15 +29,12 @@ use Rattle.polynomial.specs.Lent.{G}
 use Rattle.polynomial.specs.Euclid.{Turnable, GcdIs}
 use Rattle.polynomial.proofs.Logs.{field-of, numbers-of}
 use Rattle.groups.specs.Splitting.{halvingAt}
-use Rattle.splitter.specs.Parting.{Splittable, IsCommon}
+use Rattle.groups.specs.Limit.{limit}
+use Rattle.splitter.specs.Parting.{Splittable, Partable, IsCommon}
 
 -- a known degree is less than the size of its field
 degree-less : (m : ℕ) → known m ≡ true → m < 2 ^ m
 degree-less m k = by-row (λ n p. n < 2 ^ n) (lit< tt) (lit< tt) (lit< tt) (listed m k)
-
--- the front of a list is written anew
-pub refilled : {n : ℕ} (x z : List ℕ) → length x ≡ n → n ≤ length z → length z ≡ length (x ++ drop n z)
-refilled {n} x z e h = omega (arith, length-append x (drop n z), length-drop n z)
 
 module _ {m : ℕ} {ls ts p : List ℕ} {i : ℕ} (s : Splittable m ls ts p i) where
   -- the level indexes the antilog table
@@ -78,35 +75,44 @@ module _ {m : ℕ} {ls ts p : List ℕ} {i : ℕ} (s : Splittable m ls ts p i) w
       ap length e ∙ ap (λ k. length (traceMod (G m) p k start)) j ∙ length-traceMod (G m) p (m - 1) start (length-rem (G m) p (0 ∷ power (G m) 2 i ∷ []))
 
   -- its coefficients are elements
-  trace-small : Below (2 ^ m) trace
+  pub trace-small : Below (2 ^ m) trace
   trace-small =
       let n = numbers-of (s .tables) in
       traceMod-below n p m start (s .small) (rem-below n p (0 ∷ power (G m) 2 i ∷ []) (s .small) (omega (arith, power-small), (power-small, tt)))
 
-  module _ {t g : List ℕ} (g₀ z : List ℕ) (e : t ≡ trace) (c : g ≡ copied p g₀) (l : length p < length g₀) where
-    -- the copy of the factor
-    front-g : take (length p) g ≡ p
-    front-g = ap (take (length p)) c ∙ copied-front p g₀ refl
+  -- and it stands for Tr(a^i z)
+  pub traced-same : gcd (G m) p trace ≡ halvingAt m .low i p
+  traced-same = sym (trace-run (numbers-of (s .tables)) m (power (G m) 2 i) power-small p (s .small))
 
-    -- the trace sum at the front of its room
-    front-t : take (length p) (t ++ z) ≡ trace
-    front-t = take-at t z (length p) (traced-long e) ∙ e
+-- ---- `common`
 
-    -- what Euclid's loop may take for granted
-    pub gcd-asks : {row : List ℕ} → length p ≤ length row → Turnable m ls ts row g (length p) (t ++ z) (length p)
-    gcd-asks r = record {
-      tables = s .tables;
-      room-row = r;
-      room-a = omega (arith, ap length c, length-copied p g₀ (omega arith));
-      room-b = omega (arith, length-append t z, traced-long e);
-      within = omega (arith, length-append t z, traced-long e);
-      small-a = subst (Below (2 ^ m)) (sym front-g) (s .small);
-      small-b = subst (Below (2 ^ m)) (sym front-t) trace-small;
-    }
+module _ {m : ℕ} {ls ts p : List ℕ} {i : ℕ} {t : List ℕ} (s : Partable m ls ts p i t) {b g : List ℕ} (g₀ z : List ℕ) (e : b ≡ copied t z) (c : g ≡ copied p g₀)
+    (l : length p < length g₀) (n : length z ≡ limit) where
+  -- the copy of the factor
+  front-g : take (length p) g ≡ p
+  front-g = ap (take (length p)) c ∙ copied-front p g₀ refl
 
-    -- what it leaves is the first part
-    pub common-is : {r : ℕ} {g′ : List ℕ} → GcdIs m g (length p) (t ++ z) (length p) r g′ → length p < length g′ → IsCommon m i p r g′
-    common-is {r} {g′} q h =
-        let low : take r g′ ≡ halvingAt m .low i p =
-        q .low ∙ ap₂ (gcd (G m)) front-g front-t ∙ sym (trace-run (numbers-of (s .tables)) m (power (G m) 2 i) power-small p (s .small)) in
-        record { degree = sym (length-take-le r g′ (omega (arith, q .count))) ∙ ap length low; low = low }
+  -- and of the polynomial
+  front-b : take (length t) b ≡ t
+  front-b = ap (take (length t)) e ∙ copied-front t z refl
+
+  long-b : length b ≡ limit
+  long-b = ap length e ∙ length-copied t z (omega (arith, s .few)) ∙ n
+
+  -- what Euclid's loop may take for granted
+  pub gcd-asks : {row : List ℕ} → length p ≤ length row → Turnable m ls ts row g (length p) b (length t)
+  gcd-asks r = record {
+    tables = s .splittable .tables;
+    room-row = r;
+    room-a = omega (arith, ap length c, length-copied p g₀ (omega arith));
+    room-b = omega (arith, long-b, s .splittable .few);
+    within = omega (arith, long-b, s .few);
+    small-a = subst (Below (2 ^ m)) (sym front-g) (s .splittable .small);
+    small-b = subst (Below (2 ^ m)) (sym front-b) (s .small);
+  }
+
+  -- what it leaves is the first part
+  pub common-is : {r : ℕ} {g′ : List ℕ} → GcdIs m g (length p) b (length t) r g′ → length p < length g′ → IsCommon m i p r g′
+  common-is {r} {g′} q h =
+      let low : take r g′ ≡ halvingAt m .low i p = q .low ∙ ap₂ (gcd (G m)) front-g front-b ∙ s .same in
+      record { degree = sym (length-take-le r g′ (omega (arith, q .count))) ∙ ap length low; low = low }

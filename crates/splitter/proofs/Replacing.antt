@@ -1,6 +1,6 @@
 -- What `step_lent` reads around the factor to split, and what it leaves.
 --   Reads, reads      the numbers that it reads, and that they fit
---   split-asks        the factor can be split
+--   split-asks        the factor can be split;  part-asks  by what is lent;  trace-ready  as by the trace sum modulo it
 --   Sizes, sizes      how many slots and how many parts there are
 --   replaced          the slots that it leaves are those of a step;  replaced-long  as many as before
 -- Assumes nothing.
@@ -11,11 +11,14 @@ use Prim.Native.Nat.{ℕ, zero, suc, _+_, _-_, _*_, _/_, _^_, _≤_, _<_}
 use native.Mathlib.Nat.{le-trans, mul-le-mul, div-le-self}
 use native.Mathlib.Omega.{arith}
 use lib.ListN.{length, getD, take, drop, set, replicate, length-append, length-replicate}
+use lib.Seq.{take-at}
 use Rattle.algebra.specs.Polynomial.{Below}
 use Rattle.refusals.specs.Rows.{known}
 use Rattle.refusals.proofs.Rows.{by-row, listed}
 use Rattle.refusals.proofs.Order.{failed, others}
-use Rattle.polynomial.specs.Lent.{Lent}
+use Rattle.algebra.specs.Field.{power}
+use Rattle.algebra.specs.Routines.{rem, traceMod, gcd}
+use Rattle.polynomial.specs.Lent.{G, Lent}
 use Rattle.slots.specs.Lists.{spliced}
 use Rattle.slots.proofs.Lists.{length-spliced}
 use Rattle.groups.specs.Entries.{Halving, parts, entryAt, firstAbove, done}
@@ -29,7 +32,8 @@ use Rattle.groups.proofs.Keeping.{Free, free, Halves, trace-halves, sound-lengt
 use Rattle.groups.proofs.Places.{beyond, leading, place, slotsOf, spare, encode-around, level-at, degree-at, coefficients-at, first-fair, room, parts-few, parts-some, length-new, step-spliced}
 use Rattle.groups.specs.Limit.{limit, slots, isSound}
 use Rattle.judging.specs.Verdicts.{Chosen}
-use Rattle.splitter.specs.Parting.{Splittable, Parted}
+use Rattle.splitter.specs.Parting.{Splittable, Partable, Parted, Ready, factorAt}
+use Rattle.splitter.proofs.Commons.{traced-long, trace-small, traced-same}
 
 -- a test that fails to fail holds
 un-not : (b : Bool) → not b ≡ false → b ≡ true
@@ -95,12 +99,12 @@ module _ (l : List ℕ) {o : ℕ} (c : Chosen l o) where
   open-still = c .more
 
   -- test 9 failed: the factor is below level m, and slot 3 below its limit
-  is-free : Free t
+  pub is-free : Free t
   unfolding slotsStuck
   is-free = free t valid open-still (failed (others (others (c .passed))))
 
   -- the level that the code reads
-  level-is : getD l o 0 ≡ P .0
+  pub level-is : getD l o 0 ≡ P .0
   level-is = ap₂ (λ u k. getD u k 0) (sym encoded) (c .at) ∙ level-at t valid open-still slots
 
   -- the degree that it reads
@@ -167,6 +171,50 @@ module _ (l : List ℕ) {o : ℕ} (c : Chosen l o) where
     few = omega (arith, ap length read-is, degree-is, reads .few);
     level = omega (arith, level-is, is-free .level);
   }
+
+  -- they are those at o
+  read-at : read ≡ factorAt l o
+  read-at = let n : o + 2 + getD l (o + 1) 0 - (o + 2) ≡ getD l (o + 1) 0 = omega arith in ap (λ k. take k (drop (o + 2) l)) n
+
+  -- the coefficients at o are the factor's
+  pub factor-is : factorAt l o ≡ P .1
+  factor-is = sym read-at ∙ read-is
+
+  -- and can be parted by what is lent
+  pub part-asks : {ls ts u : List ℕ} → Ready l ls ts o u → Partable (getD l 0 0) ls ts read (getD l o 0) u
+  part-asks {u = u} r = record {
+    splittable = split-asks (r .tables);
+    small = r .small;
+    few = r .few;
+    same = subst (λ p. gcd (G (getD l 0 0)) p u ≡ halvingAt (getD l 0 0) .low (getD l o 0) p) (sym read-at) (r .same);
+  }
+
+  -- as by the trace sum modulo the factor, at the front of its room
+  pub trace-ready : {ls ts u : List ℕ} (a : Lent (getD l 0 0) ls ts) (z : List ℕ)
+      → u ≡ traceMod (G (getD l 0 0)) read (getD l 0 0) (rem (G (getD l 0 0)) read (0 ∷ power (G (getD l 0 0)) 2 (getD l o 0) ∷ []))
+      → Ready l ls ts o (take (getD l (o + 1) 0) (u ++ z))
+  trace-ready {u = u} a z e =
+      let s = split-asks a in
+      let n : length u ≡ getD l (o + 1) 0 = traced-long s e ∙ ap length read-is ∙ sym degree-is in
+      let f : take (getD l (o + 1) 0) (u ++ z) ≡ u = take-at u z (getD l (o + 1) 0) n in
+      record {
+        chosen = c;
+        tables = a;
+        small = subst (Below (2 ^ getD l 0 0)) (sym (f ∙ e)) (trace-small s);
+        few = omega (arith, ap length f, n, reads .few);
+        same = subst (λ p. gcd (G (getD l 0 0)) p (take (getD l (o + 1) 0) (u ++ z)) ≡ halvingAt (getD l 0 0) .low (getD l o 0) p) read-at
+            (ap (gcd (G (getD l 0 0)) read) (f ∙ e) ∙ traced-same s);
+      }
+
+  -- which is long enough
+  pub trace-within : {ls ts u : List ℕ} (a : Lent (getD l 0 0) ls ts) (z : List ℕ)
+      → u ≡ traceMod (G (getD l 0 0)) read (getD l 0 0) (rem (G (getD l 0 0)) read (0 ∷ power (G (getD l 0 0)) 2 (getD l o 0) ∷ []))
+      → getD l (o + 1) 0 ≤ length (u ++ z)
+  trace-within {u = u} a z e = omega (arith, length-append u z, traced-long (split-asks a) e, ap length read-is, degree-is)
+
+  -- it fits its room
+  pub trace-room : length read ≡ getD l (o + 1) 0
+  trace-room = ap length read-is ∙ sym degree-is
 
   -- the parts of the factor that the code reads are those of the factor
   abbrev H : Halving ℕ

@@ -10,7 +10,7 @@ ghost use Rattle.groups.specs.Layout.{byFactor};
 ghost use Rattle.groups.specs.Splitting.{slotsStepped};
 ghost use Rattle.splitter.specs.Calls.{stepOutcome, stepMemory, paperStepped};
 ghost use Rattle.judging.specs.Verdicts.{Chosen};
-ghost use Rattle.splitter.specs.Parting.{Splittable, Restable, IsCommon, Appended, Parted, Ready};
+ghost use Rattle.splitter.specs.Parting.{Splittable, Partable, Restable, IsCommon, Appended, Parted, Steppable, Ready};
 use crate::Stepped;
 use judging::Verdict;
 use judging::judge;
@@ -44,17 +44,26 @@ fn trace_at(m: u16, logs: &[u16], antilogs: &[u16], p: &[u16], level: u16, t: &m
     );
 }
 
-// Leaves the monic greatest common divisor of the factor p and Tr(a^i z) at the front of g. Returns its degree.
-fn common(m: u16, logs: &[u16], antilogs: &[u16], p: &[u16], level: u16, g: &mut [u16]) -> usize
-    requires { ⌜ Splittable m (now logs) (now antilogs) (now p) level × (length (now p) < length (now g)) ⌝ }
+// Leaves the monic greatest common divisor of the factor p and t, which stands for Tr(a^i z), at the front of g. Returns its degree.
+fn common(
+    m: u16,
+    logs: &[u16],
+    antilogs: &[u16],
+    p: &[u16],
+    level: u16,
+    t: &[u16],
+    g: &mut [u16],
+) -> usize
+    requires { ⌜ Partable m (now logs) (now antilogs) (now p) level (now t) × (length (now p) < length (now g)) ⌝ }
     ensures { λ r. ⌜ IsCommon m level (now (p .entry)) r (now (g .exit)) ⌝ }
 {
     let n = p.len();
-    let mut t = [0u16; 32];
-    trace_at(m, logs, antilogs, p, level, &mut t[..n]);
+    let k = t.len();
+    let mut b = [0u16; 32];
+    slots::copy(t, &mut b);
     slots::copy(p, g);
     let mut row = [0u16; 32];
-    gcd(m, logs, antilogs, &mut row, g, n, &mut t, n)
+    gcd(m, logs, antilogs, &mut row, g, n, &mut b, k)
 }
 
 // Writes what is left of the factor p where g, which divides it, is taken out to h.
@@ -86,12 +95,20 @@ pub fn append(w: &mut [u16], at: usize, level: u16, low: &[u16]) -> usize
 }
 
 // Writes the slots of the factor's two parts, at the next level, to the front of w; a constant part is omitted. Returns the number of slots.
-fn parts_of(m: u16, logs: &[u16], antilogs: &[u16], p: &[u16], level: u16, w: &mut [u16]) -> usize
-    requires { ⌜ Splittable m (now logs) (now antilogs) (now p) level × (36 ≤ length (now w)) ⌝ }
+fn parts_of(
+    m: u16,
+    logs: &[u16],
+    antilogs: &[u16],
+    p: &[u16],
+    level: u16,
+    t: &[u16],
+    w: &mut [u16],
+) -> usize
+    requires { ⌜ Partable m (now logs) (now antilogs) (now p) level (now t) × (36 ≤ length (now w)) ⌝ }
     ensures { λ r. ⌜ Parted m level (now (p .entry)) r (now (w .exit)) ⌝ }
 {
     let mut g = [0u16; 33];
-    let k = common(m, logs, antilogs, p, level, &mut g);
+    let k = common(m, logs, antilogs, p, level, t, &mut g);
     let mut h = [0u16; 32];
     let e = p.len() - k;
     rest_of(m, logs, antilogs, p, &g[..k], &mut h[..e]);
@@ -99,9 +116,9 @@ fn parts_of(m: u16, logs: &[u16], antilogs: &[u16], p: &[u16], level: u16, w: &m
     append(w, at, level + 1, &h[..e])
 }
 
-// Replaces the factor at o by its parts, over lent tables, and counts the step.
-pub fn step_lent(table: &mut [u16], logs: &[u16], antilogs: &[u16], o: usize)
-    requires { ⌜ Ready (now table) (now logs) (now antilogs) o ⌝ }
+// Replaces the factor at o by its parts, and counts the step, over lent tables and with a polynomial t that stands for Tr(a^i z).
+pub fn step_lent(table: &mut [u16], logs: &[u16], antilogs: &[u16], o: usize, t: &[u16])
+    requires { ⌜ Ready (now table) (now logs) (now antilogs) o (now t) ⌝ }
     ensures { λ _. ⌜ now (table .exit) ≡ slotsStepped byFactor (now (table .entry)) ⌝ }
 {
     let m = table[0];
@@ -112,10 +129,25 @@ pub fn step_lent(table: &mut [u16], logs: &[u16], antilogs: &[u16], o: usize)
     let b = o + 2;
     let e = b + d;
     let mut w = [0u16; 36];
-    let q = parts_of(m, logs, antilogs, &table[b..e], level, &mut w);
+    let q = parts_of(m, logs, antilogs, &table[b..e], level, t, &mut w);
     slots::splice(table, o, d + 2, &w[..q]);
     table[2] = others + ((q - d) / 2) as u16;
     table[3] = taken;
+}
+
+// Replaces the factor at o by its parts, and counts the step, over lent tables. Tr(a^i z) is taken modulo the factor, whatever the table.
+fn step_traced(table: &mut [u16], logs: &[u16], antilogs: &[u16], o: usize)
+    requires { ⌜ Steppable (now table) (now logs) (now antilogs) o ⌝ }
+    ensures { λ _. ⌜ now (table .exit) ≡ slotsStepped byFactor (now (table .entry)) ⌝ }
+{
+    let m = table[0];
+    let level = table[o];
+    let d = table[o + 1] as usize;
+    let b = o + 2;
+    let e = b + d;
+    let mut t = [0u16; 32];
+    trace_at(m, logs, antilogs, &table[b..e], level, &mut t[..d]);
+    step_lent(table, logs, antilogs, o, &t[..d]);
 }
 
 // Replaces the factor at o by its parts, and counts the step. The field's tables are lent here.
@@ -133,7 +165,7 @@ fn step_at(table: &mut [u16], o: usize)
     tables::lent::antilogs(m, &mut antilogs);
     let size = row.size as usize;
     let end = 3 * (size - 1);
-    step_lent(table, &logs[..size], &antilogs[..end], o);
+    step_traced(table, &logs[..size], &antilogs[..end], o);
 }
 
 // One step: the first factor above the cutoff gives way to its parts.

@@ -10,22 +10,25 @@ slice-aggregate-split-part : tie.Need-slice-aggregate-split-part
 slice-aggregate-split-part c = search needs
 
 split-part-requires : tie.Need-split-part-requires
-split-part-requires c κs = begin-splittable (c .before .before .before .before .before .pre) refl
+split-part-requires c κs = begin-splittable (c .before .before .before .before .before .before .before .pre) refl
 
 array-share-prefix-part : tie.Need-array-share-prefix-part
 array-share-prefix-part c = search needs
 
 slice-aggregate-lay : tie.Need-slice-aggregate-lay
-slice-aggregate-lay c = sym (part-long (c .before .before .before .split-part .ensures))
+slice-aggregate-lay c = sym (part-long (c .before .before .before .before .before .split-part .ensures .0))
 
 lay-requires : tie.Need-lay-requires
-lay-requires c κs = (c .before .before .before .before .before .before .before .before .before .pre .room, part-few (c .before .before .before .before .before .before .before .before .before .pre) (c .before .before .before .split-part .ensures))
+lay-requires c κs = (c .before .before .before .before .before .before .before .before .before .before .before .before .before .pre .room, part-few (c .before .before .before .before .before .before .before .before .before .before .before .before .before .pre) (c .before .before .before .before .before .split-part .ensures .0))
 
 same-length : tie.Need-same-length
 same-length c = search needs
 
+same-length-2 : tie.Need-same-length-2
+same-length-2 c = search needs
+
 returns : tie.Need-returns
-returns c = written-is _ _ (c .before .before .before .before .before .before .split-part .ensures) (c .before .before .lay .ensures)
+returns c = (written-is _ _ (c .before .before .before .before .before .before .before .before .split-part .ensures .0) (c .before .before .lay .ensures), c .before .before .before .before .before .before .before .before .split-part .ensures .1)
 
 pub begin-lent-spec : {M : Type 1} → statement M
 begin-lent-spec =
@@ -37,4 +40,5 @@ begin-lent-spec =
     slice-aggregate-lay
     lay-requires
     same-length
+    same-length-2
     returns)

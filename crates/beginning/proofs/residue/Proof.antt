@@ -17,23 +17,23 @@ clear-requires c κs = search needs
 array-borrow-prefix-row : tie.Need-array-borrow-prefix-row
 array-borrow-prefix-row c = search needs
 
-slice-aggregate-z-power : tie.Need-slice-aggregate-z-power
-slice-aggregate-z-power c = sym (length-take-le _ _ (omega (arith, c .before .before .before .before .before .before .before .before .before .pre .few)))
+slice-aggregate-z-powers : tie.Need-slice-aggregate-z-powers
+slice-aggregate-z-powers c = sym (length-take-le _ _ (omega (arith, c .before .before .before .before .before .before .before .before .before .before .pre .few)))
 
-slice-relend-prefix-z-power : tie.Need-slice-relend-prefix-z-power
-slice-relend-prefix-z-power c = search needs
+slice-relend-prefix-z-powers : tie.Need-slice-relend-prefix-z-powers
+slice-relend-prefix-z-powers c = search needs
 
-slice-aggregate-z-power-2 : tie.Need-slice-aggregate-z-power-2
-slice-aggregate-z-power-2 c = sym (length-take-le _ _ (omega (arith, c .before .before .before .before .before .before .before .before .before .before .pre .room)))
+slice-aggregate-z-powers-2 : tie.Need-slice-aggregate-z-powers-2
+slice-aggregate-z-powers-2 c = sym (length-take-le _ _ (omega (arith, c .before .before .before .before .before .before .before .before .before .before .before .pre .room)))
 
 array-borrow-prefix-s : tie.Need-array-borrow-prefix-s
 array-borrow-prefix-s c = search needs
 
-slice-aggregate-z-power-3 : tie.Need-slice-aggregate-z-power-3
-slice-aggregate-z-power-3 c = sym (length-take-le _ _ (omega (arith, c .before .before .before .before .before .before .before .before .before .before .before .pre .few)))
+slice-aggregate-z-powers-3 : tie.Need-slice-aggregate-z-powers-3
+slice-aggregate-z-powers-3 c = sym (length-take-le _ _ (omega (arith, c .before .before .before .before .before .before .before .before .before .before .before .before .pre .few)))
 
-z-power-requires : tie.Need-z-power-requires
-z-power-requires c κs = residue-asks (c .before .before .before .before .before .before .before .before .before .before .before .pre) (c .before .before .before .before .before .clear .ensures)
+z-powers-requires : tie.Need-z-powers-requires
+z-powers-requires c κs = (residue-asks (c .before .before .before .before .before .before .before .before .before .before .before .before .before .pre) (c .before .before .before .before .before .before .clear .ensures), c .before .before .before .before .before .before .before .before .before .before .before .before .before .pre .room-rows)
 
 slice-read-b : tie.Need-slice-read-b
 slice-read-b c = search needs
@@ -42,10 +42,13 @@ slice-write-b : tie.Need-slice-write-b
 slice-write-b c = search needs
 
 same-length : tie.Need-same-length
-same-length c = residue-long (c .before .before .before .before .before .before .before .before .before .before .before .before .before .before .before .before .before .pre) _ (c .before .before .before .before .before .before .before .before .before .before .before .clear .ensures) (c .before .before .before .before .before .z-power .ensures)
+same-length c = residue-long (c .before .before .before .before .before .before .before .before .before .before .before .before .before .before .before .before .before .before .before .before .before .pre) _ (c .before .before .before .before .before .before .before .before .before .before .before .before .before .before .clear .ensures) (c .before .before .before .before .before .before .before .z-powers .ensures .power)
+
+same-length-2 : tie.Need-same-length-2
+same-length-2 c = search needs
 
 returns : tie.Need-returns
-returns c = residue-is (c .before .before .before .before .before .before .before .before .before .before .before .before .before .before .before .before .before .pre) (c .before .before .before .before .before .before .before .before .before .before .before .clear .ensures) (c .before .before .before .before .before .z-power .ensures)
+returns c = (residue-is (c .before .before .before .before .before .before .before .before .before .before .before .before .before .before .before .before .before .before .before .before .before .pre) (c .before .before .before .before .before .before .before .before .before .before .before .before .before .before .clear .ensures) (c .before .before .before .before .before .before .before .z-powers .ensures .power), c .before .before .before .before .before .before .before .z-powers .ensures .rows-are)
 
 pub residue-spec : {M : Type 1} → statement M
 residue-spec =
@@ -54,13 +57,14 @@ residue-spec =
     add-d
     clear-requires
     array-borrow-prefix-row
-    slice-aggregate-z-power
-    slice-relend-prefix-z-power
-    slice-aggregate-z-power-2
+    slice-aggregate-z-powers
+    slice-relend-prefix-z-powers
+    slice-aggregate-z-powers-2
     array-borrow-prefix-s
-    slice-aggregate-z-power-3
-    z-power-requires
+    slice-aggregate-z-powers-3
+    z-powers-requires
     slice-read-b
     slice-write-b
     same-length
+    same-length-2
     returns)

@@ -38,14 +38,17 @@ array-share-prefix-antilogs c = let h = size-fits (c .before .before .before .be
 slice-aggregate-begin-lent-2 : tie.Need-slice-aggregate-begin-lent-2
 slice-aggregate-begin-lent-2 c = sym (length-take-le _ _ (omega (arith, size-fits (c .before .before .before .before .before .before .before .before .before .before .pre))))
 
+slice-aggregate-begin-lent-3 : tie.Need-slice-aggregate-begin-lent-3
+slice-aggregate-begin-lent-3 c = search needs
+
 begin-lent-requires : tie.Need-begin-lent-requires
-begin-lent-requires c κs = write-beginnable (c .before .before .before .before .before .before .before .before .before .before .before .pre) _ _ (c .before .before .before .before .before .before .before .logs2 .ensures .0) (c .before .before .before .before .antilogs2 .ensures .0)
+begin-lent-requires c κs = write-beginnable (c .before .before .before .before .before .before .before .before .before .before .before .before .pre) _ _ (c .before .before .before .before .before .before .before .before .logs2 .ensures .0) (c .before .before .before .before .before .antilogs2 .ensures .0) (omega arith)
 
 same-length : tie.Need-same-length
 same-length c = search needs
 
 returns : tie.Need-returns
-returns c = search needs
+returns c = c .before .before .before .begin-lent .ensures .0
 
 pub write-spec : {M : Type 1} → statement M
 write-spec =
@@ -61,6 +64,7 @@ write-spec =
     slice-aggregate-begin-lent
     array-share-prefix-antilogs
     slice-aggregate-begin-lent-2
+    slice-aggregate-begin-lent-3
     begin-lent-requires
     same-length
     returns)

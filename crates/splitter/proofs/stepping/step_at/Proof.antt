@@ -70,8 +70,8 @@ array-share-prefix-logs c =
     let w = row-known _ (sym (f .before .before .row-of .ensures) ∙ f .row .given .1) in
     omega (arith, w .size, logs-room (getD (now (k .args .table)) 0 0) (is-known (now (k .args .table)) (k .pre)), c .before .before .before .before .before .before .logs2 .ensures .1)
 
-slice-aggregate-step-lent : tie.Need-slice-aggregate-step-lent
-slice-aggregate-step-lent c =
+slice-aggregate-step-traced : tie.Need-slice-aggregate-step-traced
+slice-aggregate-step-traced c =
     let k = c .before .before .before .before .before .before .before .before .before .before .before .before .before .before .before in
     let f = c .before .before .before .before .before .before .before .before .before .before in
     let w = row-known _ (sym (f .before .before .row-of .ensures) ∙ f .row .given .1) in
@@ -85,16 +85,16 @@ array-share-prefix-antilogs c =
     let e = w .size in
     omega (arith, antilogs-room (getD (now (k .args .table)) 0 0) (is-known (now (k .args .table)) (k .pre)), c .before .before .before .before .antilogs2 .ensures .1)
 
-slice-aggregate-step-lent-2 : tie.Need-slice-aggregate-step-lent-2
-slice-aggregate-step-lent-2 c =
+slice-aggregate-step-traced-2 : tie.Need-slice-aggregate-step-traced-2
+slice-aggregate-step-traced-2 c =
     let k = c .before .before .before .before .before .before .before .before .before .before .before .before .before .before .before .before in
     let f = c .before .before .before .before .before .before .before .before .before .before .before in
     let w = row-known _ (sym (f .before .before .row-of .ensures) ∙ f .row .given .1) in
     let e = w .size in
     sym (length-take-le _ _ (omega (arith, antilogs-room (getD (now (k .args .table)) 0 0) (is-known (now (k .args .table)) (k .pre)), c .before .before .before .before .before .antilogs2 .ensures .1)))
 
-step-lent-requires : tie.Need-step-lent-requires
-step-lent-requires c κs =
+step-traced-requires : tie.Need-step-traced-requires
+step-traced-requires c κs =
     let k = c .before .before .before .before .before .before .before .before .before .before .before .before .before .before .before .before in
     let f = c .before .before .before .before .before .before .before .before .before .before .before in
     let w = row-known _ (sym (f .before .before .row-of .ensures) ∙ f .row .given .1) in
@@ -123,9 +123,9 @@ step-at-spec =
     sub-end
     mul-end
     array-share-prefix-logs
-    slice-aggregate-step-lent
+    slice-aggregate-step-traced
     array-share-prefix-antilogs
-    slice-aggregate-step-lent-2
-    step-lent-requires
+    slice-aggregate-step-traced-2
+    step-traced-requires
     same-length
     returns-2)
