@@ -7,7 +7,7 @@
 --   search-given, search-in           the same of the search;  letIn-in, letIn-fits, searchable  and what is known of what it lets in
 -- Assumes nothing.
 use mathlib.Core.Path.{_≡_, refl, sym, ap, _∙_, subst}
-use mathlib.Core.Bool.{Bool, true, false, not}
+use mathlib.Core.Bool.{Bool, true, false}
 use mathlib.Core.Option.{Option, none, some}
 use mathlib.Core.List.{List, [], _∷_}
 use Prim.Native.Nat.{ℕ, _-_, _*_, _^_, _≤_, _<_}
@@ -19,7 +19,6 @@ use lib.ListN.{length, take, getD}
 use Rattle.refusals.specs.Order.{Given, Passed}
 use Rattle.refusals.specs.Order.Passed.{none as none-left}
 use Rattle.refusals.proofs.Order.{holds, fails, passes, failed, others}
-use Rattle.refusals.specs.Rows.{known}
 use Rattle.algebra.specs.Field.{OnNumbers}
 use Rattle.algebra.specs.Routines.{norm}
 use Rattle.algebra.proofs.NumberMonic.{norm-made, norm-none}
@@ -36,7 +35,6 @@ use Rattle.groups.specs.Demand.{stepCount}
 use Rattle.groups.proofs.HouseDefault.{inForce-least, inForce-most}
 use Rattle.groups.proofs.Demand.{begin-slots}
 use Rattle.groups.proofs.Fields.{known-field}
-use Rattle.polynomial.specs.Lent.{Lent}
 use Rattle.groups.specs.Limit.{limit, slots}
 use Rattle.groups.specs.Polynomials.{polynomialTests}
 use Rattle.beginning.specs.SplitPart.{Beginnable}

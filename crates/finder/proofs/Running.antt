@@ -2,21 +2,19 @@
 --   never-refused   no test of a step holds;  found-none, found-at  what is found of the next step
 --   run-on, run-end   a step, and the end
 -- Assumes nothing.
-use mathlib.Core.Path.{_≡_, refl, sym, ap, ap₂, _∙_, subst}
-use mathlib.Core.Bool.{Bool, true, false, not, _&&_}
-use mathlib.Core.List.{List, [], _∷_}
-use Prim.Native.Nat.{ℕ, zero, suc, _+_, _≤_, _<_}
+use mathlib.Core.Path.{_≡_, refl, sym, ap, _∙_, subst}
+use mathlib.Core.Bool.{Bool, true, false, not}
+use mathlib.Core.List.{List}
+use Prim.Native.Nat.{ℕ, zero, suc, _≤_, _<_}
 use native.Mathlib.Decide.{decLt}
 use native.Mathlib.Omega.{arith}
 use borrow.Author.Tests.{eq-eqb}
-use lib.Dec.{eqb}
 use lib.ListN.{length, getD}
 use Rattle.refusals.specs.Order.{Passed}
 use Rattle.refusals.specs.Order.Passed.{none}
-use Rattle.refusals.specs.Rows.{known}
 use Rattle.refusals.proofs.Order.{passes}
 use Rattle.groups.specs.Layout.{byFactor}
-use Rattle.groups.specs.Table.{encode, slotsFor, sound}
+use Rattle.groups.specs.Table.{encode, sound}
 use Rattle.groups.specs.Splitting.{isDone, stuck, rootsAt, slotsRoots, slotsDone, slotsStuck, slotsStepped, slotsAfter}
 use Rattle.groups.specs.Demand.{Demand3, stepCount, groupsAfter}
 use Rattle.groups.proofs.Layouts.{byFactor-lawful}

@@ -18,9 +18,9 @@ use native.Mathlib.Decide.{decLt}
 use native.Mathlib.Omega.{arith}
 use lib.Dec.{T}
 use lib.ListN.{length, getD, take, drop, replicate, length-append, length-map, length-take, length-drop, length-replicate, take-append-drop}
-use lib.Seq.{take-at, drop-at, take-all, take-append-le, drop-append-le, drop-drop, length-take-le}
-use Rattle.algebra.specs.Field.{Ops, OnNumbers, power, trace}
-use Rattle.algebra.specs.Trial.{All, keep, upFrom}
+use lib.Seq.{drop-at, take-all, take-append-le, drop-append-le, length-take-le}
+use Rattle.algebra.specs.Field.{OnNumbers, power, trace}
+use Rattle.algebra.specs.Trial.{All, upFrom}
 use Rattle.algebra.specs.Polynomial.{Below, add, eval, isRoot, rootsOf, traceOf}
 use Rattle.algebra.specs.Routines.{monic, rem, norm, gcd, euclid, monicRoots}
 use Rattle.algebra.proofs.Trial.{all-keep, all-map, distinct-keep, keep-passed}
@@ -44,7 +44,7 @@ use Rattle.groups.proofs.Layouts.{byFactor-lawful}
 use Rattle.groups.proofs.Soundness.{decode-encode}
 use Rattle.groups.proofs.Demand.{demand-3}
 use Rattle.polynomial.specs.Lent.{G, Lent, Row, held}
-use Rattle.polynomial.specs.Powers.{Summable, powerRows, traceSum}
+use Rattle.polynomial.specs.Powers.{Summable, traceSum}
 use Rattle.polynomial.proofs.Logs.{field-of, numbers-of, held-long}
 use Rattle.polynomial.proofs.TraceLoops.{rows-fit, next-place, part-front, part-long}
 use Rattle.polynomial.proofs.TraceValues.{traceSum-below, powerRows-long, powerRows-row, trace-value}
@@ -53,7 +53,7 @@ use Rattle.judging.specs.Verdicts.{Chosen}
 use Rattle.splitter.specs.Parting.{Ready, factorAt}
 use Rattle.beginning.specs.SplitPart.{Powered}
 use Rattle.beginning.proofs.PolynomialTests.{PolynomialIn}
-use Rattle.splitter.proofs.Commons.{level-fits, level-power, power-small}
+use Rattle.splitter.proofs.Commons.{level-fits, level-power}
 use Rattle.splitter.proofs.Replacing.{factor-is, split-asks}
 use Rattle.finder.specs.Solving.{Stepping, Powers, Traced, Traceable, TracedTo, Advancing, Advanced, Running, Solvable, levelSum, levelSums}
 use Rattle.finder.proofs.Running.{width-now, lent-now, long-now, run-on}

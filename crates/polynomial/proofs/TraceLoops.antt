@@ -5,19 +5,18 @@
 --   Combining, combine-from, combine-asks, combine-on, combine-end  i terms are added
 -- Assumes nothing.
 use mathlib.Core.Path.{_≡_, refl, sym, ap, ap₂, _∙_, subst}
-use mathlib.Core.List.{List, [], _∷_, _++_, map, append-assoc, append-nil}
-use Prim.Native.Nat.{ℕ, zero, suc, _+_, _-_, _*_, _^_, _≤_, _<_}
+use mathlib.Core.List.{List, _++_, map, append-assoc, append-nil}
+use Prim.Native.Nat.{ℕ, suc, _+_, _-_, _*_, _^_, _≤_, _<_}
 use native.Mathlib.Nat.{mul-le-mul-right, suc-mul}
 use native.Mathlib.Omega.{arith}
-use lib.ListN.{length, getD, take, drop, length-append, length-map, length-take, length-drop}
+use lib.ListN.{length, take, drop, length-append, length-map, length-drop}
 use lib.Seq.{take-at, drop-drop, getD-take, getD-drop, length-take-le}
-use Rattle.algebra.specs.Polynomial.{add, Below}
-use Rattle.algebra.specs.Routines.{rem, square, frobeniusMod}
-use Rattle.algebra.proofs.Lengths.{length-rem}
+use Rattle.algebra.specs.Polynomial.{add}
+use Rattle.algebra.specs.Routines.{rem, square}
 use Rattle.field.specs.Field.{mul, fieldAt}
 use Rattle.field.specs.Tables.{logOf}
-use Rattle.polynomial.specs.Lent.{G, Lent, Row, IsLog, logRow, held, Addable, Loggable}
-use Rattle.polynomial.specs.Powers.{Squarable, Savable, Saved, Summable, powerRows, traceSum}
+use Rattle.polynomial.specs.Lent.{G, Row, IsLog, logRow, held, Addable, Loggable}
+use Rattle.polynomial.specs.Powers.{Savable, Saved, Summable, powerRows, traceSum}
 use Rattle.polynomial.proofs.Logs.{numbers-of, held-long}
 use Rattle.polynomial.proofs.Sums.{add-nil, add-assoc, long-row}
 use Rattle.polynomial.proofs.PowerLoops.{Powering, power-from, power-on, power-end}

@@ -1,20 +1,19 @@
 -- What a trace sum of rows means: at a root r of p, where the rows hold the powers w, w^2, w^4, .. modulo p, it is the trace of b w(r).
---   traceSum-below   its coefficients are elements;  traceSum-long  as many as a row has
+--   traceSum-below   its coefficients are elements
 --   powerRows-long   how long the rows are;  powerRows-row  they are logs
 --   TRACE-VALUE      the law
 -- Assumes nothing.
-use mathlib.Core.Path.{_≡_, refl, sym, ap, ap₂, _∙_, subst}
+use mathlib.Core.Path.{_≡_, refl, sym, ap, ap₂, _∙_}
 use mathlib.Core.List.{List, [], _∷_, _++_, map}
-use Prim.Native.Nat.{ℕ, zero, suc, _+_, _*_, _^_, _≤_, _<_}
+use Prim.Native.Nat.{ℕ, zero, suc, _+_, _*_, _^_, _<_}
 use native.Mathlib.Nat.{suc-mul}
 use native.Mathlib.Omega.{arith}
-use native.Mathlib.Decide.{decLt}
-use lib.ListN.{length, getD, take, drop, length-append, length-map, length-drop, List·getD-append}
-use lib.Seq.{take-at, drop-at, length-take-le, getD-append-add}
+use lib.ListN.{length, getD, take, drop, length-append, length-map}
+use lib.Seq.{take-at, drop-at}
 use Rattle.algebra.specs.Field.{OnNumbers, trace}
 use Rattle.algebra.specs.Polynomial.{Below, add, eval}
 use Rattle.algebra.specs.Routines.{monic, rem, square}
-use Rattle.algebra.proofs.Lengths.{length-rem, length-add-left}
+use Rattle.algebra.proofs.Lengths.{length-rem}
 use Rattle.algebra.proofs.StaysBelow.{add-below, eval-below, rem-below, scale-below, square-below}
 use Rattle.algebra.proofs.NumberElements.{square-mul}
 use Rattle.algebra.proofs.NumberEvaluation.{eval-add, eval-scale, eval-square}
@@ -23,7 +22,7 @@ use Rattle.field.specs.Field.{fieldAt}
 use Rattle.field.specs.Tables.{logOf}
 use Rattle.polynomial.specs.Lent.{G, Lent, Row, IsLog, logRow, held}
 use Rattle.polynomial.specs.Powers.{powerRows, traceSum}
-use Rattle.polynomial.proofs.Logs.{numbers-of, held-row, held-below, held-long, row-is-row}
+use Rattle.polynomial.proofs.Logs.{numbers-of, held-row, held-below, row-is-row}
 
 module _ {m : ℕ} {ls ts : List ℕ} (l : Lent m ls ts) where
   abbrev N : OnNumbers (G m) (2 ^ m)

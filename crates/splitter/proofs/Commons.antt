@@ -6,13 +6,13 @@
 -- Assumes nothing.
 use mathlib.Core.Path.{_≡_, refl, sym, ap, ap₂, subst, _∙_}
 use mathlib.Core.Bool.{true}
-use mathlib.Core.List.{List, [], _∷_, _++_}
+use mathlib.Core.List.{List, [], _∷_}
 use Prim.Native.Nat.{ℕ, suc, _-_, _*_, _^_, _≤_, _<_}
 use native.Mathlib.Omega.{arith}
 use borrow.Author.Tests.{lt-ltb}
 use lib.Dec.{lit<}
-use lib.ListN.{length, getD, take, drop, length-append, length-drop}
-use lib.Seq.{take-at, length-take-le}
+use lib.ListN.{length, getD, take}
+use lib.Seq.{length-take-le}
 use Rattle.refusals.specs.Rows.{known}
 use Rattle.refusals.proofs.Rows.{by-row, listed}
 use Rattle.algebra.specs.Field.{power}

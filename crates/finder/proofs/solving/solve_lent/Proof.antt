@@ -1,6 +1,6 @@
 -- `finder::solving::solve_lent` meets its contract: a table is begun and stepped to its end, and what finish lists of it is the roots.
 -- Assumes nothing.
-use mathlib.Core.Path.{_≡_, refl, sym, ap, _∙_}
+use mathlib.Core.Path.{refl, sym, ap, _∙_}
 use mathlib.Core.List.{List}
 use Prim.Native.Nat.{ℕ}
 use native.Mathlib.Omega.{arith}

@@ -1,11 +1,7 @@
 -- `finder::solving::trace_to` meets its contract. The loop's invariant: the sums of the levels below k are written.
 -- Assumes nothing.
-use mathlib.Core.Path.{_≡_}
-use Prim.Native.Nat.{_-_, suc, _*_, _≤_}
-use native.Mathlib.Nat.{mul-le-mul-right}
+use Prim.Native.Nat.{_-_, suc}
 use native.Mathlib.Omega.{arith}
-use denote.Ref.{now}
-use lib.ListN.{length}
 use Rattle.finder.proofs.Tracing.{Levelling, levelling-from, levelling-room, levelling-fits, levelling-asks, levelling-on, levelling-end, traceable-fits}
 use borrow.Author.Needs.{needs}
 use Rattle.finder.proofs.solving.trace_to.Statement.{statement}

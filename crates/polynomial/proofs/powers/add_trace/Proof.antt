@@ -1,16 +1,11 @@
 -- `polynomial::powers::add_trace` meets its contract. The loop's invariant: i terms of the sum are added.
 -- Assumes nothing.
-use mathlib.Core.Path.{_≡_, refl, sym, _∙_}
 use Prim.Native.Nat.{_-_}
 use native.Mathlib.Omega.{arith}
 use Rattle.polynomial.proofs.TraceLoops.{Combining, combine-from, combine-room, combine-asks, combine-on, combine-end}
 use borrow.Author.Needs.{needs}
 use Rattle.polynomial.proofs.powers.add_trace.Statement.{statement}
 use Rattle.polynomial.proofs.powers.add_trace.Tie as tie
-use Rattle.polynomial.proofs.powers.add_trace.Reads as reads
-use Rattle.polynomial.proofs.powers.add_trace.Lts as lts
-use Rattle.polynomial.proofs.rows.add_row.Reads as add-row-reads
-use Rattle.polynomial.proofs.powers.square_of.Reads as square-of-reads
 
 abbrev Inv-loop : tie.InvT-loop
 Inv-loop m logs antilogs rows k b t₀ n c₀ at₀ i₀ t c at i = Combining m logs antilogs rows k b t₀ t c at i

@@ -1,16 +1,11 @@
 -- `polynomial::powers::power_rows` meets its contract. The loop's invariant: i squarings are done, and the rows of the powers before are written.
 -- Assumes nothing.
-use mathlib.Core.Path.{_≡_, refl, sym, _∙_}
 use Prim.Native.Nat.{_-_}
 use native.Mathlib.Omega.{arith}
 use Rattle.polynomial.proofs.TraceLoops.{Saving, saving-from, saving-room, saving-asks, saving-on, saving-end}
 use borrow.Author.Needs.{needs}
 use Rattle.polynomial.proofs.powers.power_rows.Statement.{statement}
 use Rattle.polynomial.proofs.powers.power_rows.Tie as tie
-use Rattle.polynomial.proofs.powers.power_rows.Reads as reads
-use Rattle.polynomial.proofs.powers.power_rows.Lts as lts
-use Rattle.polynomial.proofs.powers.square_mod.Reads as square-mod-reads
-use Rattle.polynomial.proofs.rows.log_row.Reads as log-row-reads
 
 abbrev Inv-loop : tie.InvT-loop
 Inv-loop m logs antilogs row k w₀ s₀ rows₀ n at₀ i₀ w s rows at i = Saving m logs antilogs row k w₀ s₀ rows₀ w s rows at i

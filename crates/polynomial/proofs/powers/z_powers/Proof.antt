@@ -4,9 +4,6 @@ use Rattle.polynomial.proofs.Starts.{start-row, start-one, start-asks, 
 use borrow.Author.Needs.{needs}
 use Rattle.polynomial.proofs.powers.z_powers.Statement.{statement}
 use Rattle.polynomial.proofs.powers.z_powers.Tie as tie
-use Rattle.polynomial.proofs.powers.linear_mod.Reads as linear-mod-reads
-use Rattle.polynomial.proofs.powers.power_rows.Reads as power-rows-reads
-use Rattle.polynomial.proofs.rows.log_row.Reads as log-row-reads
 
 log-row-requires : tie.Need-log-row-requires
 log-row-requires c κs = start-row (c .before .before .before .before .before .before .before .before .pre .0)
