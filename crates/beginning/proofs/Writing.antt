@@ -33,7 +33,7 @@ use Rattle.polynomial.specs.Lent.{G, Lent}
 use Rattle.groups.specs.Limit.{limit, slots}
 use Rattle.groups.specs.Polynomials.{polynomialTests}
 use Rattle.beginning.specs.SplitPart.{Splittable, SplitOff, Beginnable, Writable}
-use Rattle.beginning.proofs.PolynomialTests.{polynomial-told, passed-more, passed-given}
+use Rattle.groups.proofs.Polynomials.{polynomial-told, passed-more, passed-given}
 
 -- ---- the size of a known field
 

@@ -21,9 +21,10 @@ use Rattle.slots.specs.Lists.{copied}
 use Rattle.field.specs.Field.{numbers, fieldAt}
 use Rattle.groups.specs.Splitting.{rootsAt}
 use Rattle.groups.proofs.Fields.{known-field}
-use Rattle.beginning.proofs.PolynomialTests.{PolynomialIn, polynomial-told, passed-more, passed-first, passed-rest}
+use Rattle.groups.specs.Polynomials.{PolynomialIn}
+use Rattle.groups.proofs.Polynomials.{polynomial-told, passed-more, passed-first, passed-rest}
 use Rattle.finder.specs.Calls.{solveTests, searchTests, rootMemory}
-use Rattle.finder.proofs.Admitting.{roots-few}
+use Rattle.groups.proofs.Polynomials.{roots-few}
 use Rattle.finder.proofs.Agreement.{agree-list}
 use Rattle.demands.specs.Demand2.{valueAt, RootList, Holds, Demand2}
 

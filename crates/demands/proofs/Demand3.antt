@@ -27,11 +27,12 @@ use Rattle.groups.specs.Limit.{limit, slots, isSound}
 use Rattle.judging.specs.Verdicts.{stepTests}
 use Rattle.beginning.specs.Calls.{beginTests, beginMemory}
 use Rattle.splitter.specs.Calls.{stepOutcome, stepMemory, finishTests, finishOutcome, finishMemory}
-use Rattle.beginning.proofs.PolynomialTests.{PolynomialIn, polynomial-told, passed-more, passed-first, passed-rest}
-use Rattle.finder.specs.Calls.{stepsAt, solveTests, rootMemory}
+use Rattle.groups.specs.Polynomials.{PolynomialIn}
+use Rattle.groups.proofs.Polynomials.{polynomial-told, passed-more, passed-first, passed-rest}
+use Rattle.groups.specs.Demand.{stepsAt}
+use Rattle.finder.specs.Calls.{solveTests, rootMemory}
 use Rattle.finder.specs.Solving.{begunAfter, Stepping}
-use Rattle.finder.proofs.Admitting.{roots-few}
-use Rattle.finder.proofs.Running.{taken-at, long-now, run-on, run-count, out-roots}
+use Rattle.finder.proofs.Running.{taken-at, begun-after, long-now, run-on, run-count, out-roots}
 use Rattle.demands.specs.Demand3.{afterSteps, groupsSlots, Followed}
 
 module _ (m c : ℕ) (f table : List ℕ) (p : Passed (beginTests m c f table)) where
@@ -56,14 +57,7 @@ module _ (m c : ℕ) (f table : List ℕ) (p : Passed (beginTests m c f table)) 
 
   -- the table after n steps is one that steps alone wrote
   stepping : (n : ℕ) → n ≤ count → Stepping m k f (begunAfter m k f n)
-  stepping n h = record {
-    field = told .field;
-    least = least;
-    most = inForce-most houseDefault c (omega arith) cutoff-most;
-    few = roots-few told;
-    taken = subst (λ (i : ℕ). i ≤ stepCount m k (rootsAt m f)) (sym (taken-at m k f n)) h;
-    slots-are = ap (begunAfter m k f) (sym (taken-at m k f n));
-  }
+  stepping = begun-after told least (inForce-most houseDefault c (omega arith) cutoff-most)
 
   -- whether it is done
   done-at : (n : ℕ) {b : Bool} → isDone (groupsAfter m k (rootsAt m f) n) ≡ b → slotsDone byFactor (begunAfter m k f n) ≡ b

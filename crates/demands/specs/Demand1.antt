@@ -25,7 +25,8 @@ use Rattle.beginning.specs.Calls.{beginTests, beginOutcome, beginMemory}
 use Rattle.splitter.specs.Calls.{finishTests, stepOutcome, finishOutcome, stepMemory, finishMemory}
 use Rattle.beginning.specs.Calls.{paperBegun}
 use Rattle.splitter.specs.Calls.{paperStepped, paperFinished}
-use Rattle.finder.specs.Calls.{stepsAt, solveTests, searchTests, solveOutcome, searchOutcome, rootMemory, paperSolved, paperSearched}
+use Rattle.groups.specs.Demand.{stepsAt}
+use Rattle.finder.specs.Calls.{solveTests, searchTests, solveOutcome, searchOutcome, rootMemory, paperSolved, paperSearched}
 use Rattle.records.specs.Layout.{recordLength}
 use Rattle.records.specs.Reading.{Outcome, startTests, recordTests, readAt}
 use Rattle.records.specs.Reading.{paper as paperRead}

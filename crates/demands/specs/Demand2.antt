@@ -15,7 +15,8 @@ use Rattle.algebra.specs.Polynomial.{eval}
 use Rattle.field.specs.Field.{numbers, fieldAt}
 use Rattle.groups.specs.Splitting.{rootsAt}
 use Rattle.groups.specs.Limit.{limit}
-use Rattle.finder.specs.Calls.{stepsAt, solveTests, searchTests, solveOutcome, searchOutcome, rootMemory}
+use Rattle.groups.specs.Demand.{stepsAt}
+use Rattle.finder.specs.Calls.{solveTests, searchTests, solveOutcome, searchOutcome, rootMemory}
 
 abbrev pub valueAt : ℕ → List ℕ → ℕ → ℕ
 valueAt m f x = eval (numbers (fieldAt m)) f x

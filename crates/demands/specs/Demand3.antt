@@ -19,7 +19,8 @@ use Rattle.groups.specs.Demand.{Demand3, groupsAfter}
 use Rattle.groups.specs.Limit.{limit, slots}
 use Rattle.beginning.specs.Calls.{beginOutcome, beginMemory}
 use Rattle.splitter.specs.Calls.{stepOutcome, stepMemory, finishOutcome, finishMemory}
-use Rattle.finder.specs.Calls.{stepsAt, solveTests, solveOutcome, rootMemory}
+use Rattle.groups.specs.Demand.{stepsAt}
+use Rattle.finder.specs.Calls.{solveTests, solveOutcome, rootMemory}
 
 unfoldable pub afterSteps : ℕ → List ℕ → List ℕ
 afterSteps zero table = table

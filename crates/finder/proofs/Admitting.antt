@@ -1,67 +1,41 @@
 -- The whole call's and the search's refusals, and what is known of what was let in.
---   roots-few                         a polynomial that was let in has no more roots than the limit
 --   cutoff-given, room-given, solve-in  which refusal the further tests show
 --   admitted-in                       what is known of the polynomial;  cutoff-most  and of the cutoff
 --   solvable                          with the tables lent, the engine can run;  solved-at  what it gives at the cutoff in force
 --   solve-begins, begun-stepping      it can begin a table, and step what begin leaves
 --   search-given, search-in           the same of the search;  letIn-in, letIn-fits, searchable  and what is known of what it lets in
 -- Assumes nothing.
-use mathlib.Core.Path.{_≡_, refl, sym, ap, _∙_, subst}
-use mathlib.Core.Bool.{Bool, true, false}
-use mathlib.Core.Option.{Option, none, some}
+use mathlib.Core.Path.{_≡_, sym, _∙_, subst}
+use mathlib.Core.Bool.{Bool}
+use mathlib.Core.Option.{none}
 use mathlib.Core.List.{List, [], _∷_}
 use Prim.Native.Nat.{ℕ, _-_, _*_, _^_, _≤_, _<_}
 use native.Mathlib.Omega.{arith}
 use borrow.Author.Tests.{lt-ltb, le-ltb, ltb-false}
 use lib.Dec.{ltb}
 use lib.Pow.{pow-pos}
-use lib.ListN.{length, take, getD}
+use lib.ListN.{length, take}
 use Rattle.refusals.specs.Order.{Given, Passed}
 use Rattle.refusals.specs.Order.Passed.{none as none-left}
 use Rattle.refusals.proofs.Order.{holds, fails, passes, failed, others}
-use Rattle.algebra.specs.Field.{OnNumbers}
-use Rattle.algebra.specs.Routines.{norm}
-use Rattle.algebra.proofs.NumberMonic.{norm-made, norm-none}
-use Rattle.algebra.proofs.RootList.{rootsOf-degree}
-use Rattle.algebra.proofs.StaysBelow.{below-from}
-use Rattle.slots.specs.Bounded.{allZero}
-use Rattle.slots.proofs.Bounded.{allBelow-exactly}
-use Rattle.field.specs.Field.{numbers, fieldAt}
+use Rattle.field.specs.Field.{fieldAt}
 use Rattle.field.specs.Tables.{Logs, Antilogs, Halves}
 use Rattle.groups.specs.Layout.{byFactor}
 use Rattle.groups.specs.Cutoff.{houseDefault, inForce}
-use Rattle.groups.specs.Splitting.{rootsAt, slotsBegun}
-use Rattle.groups.specs.Demand.{stepCount}
+use Rattle.groups.specs.Splitting.{slotsBegun}
 use Rattle.groups.proofs.HouseDefault.{inForce-least, inForce-most}
 use Rattle.groups.proofs.Demand.{begin-slots}
-use Rattle.groups.proofs.Fields.{known-field}
 use Rattle.groups.specs.Limit.{limit, slots}
 use Rattle.groups.specs.Polynomials.{polynomialTests}
 use Rattle.beginning.specs.SplitPart.{Beginnable}
-use Rattle.beginning.proofs.PolynomialTests.{PolynomialIn, polynomial-told, passed-given, passed-more}
+use Rattle.groups.specs.Polynomials.{PolynomialIn}
+use Rattle.groups.proofs.Polynomials.{polynomial-told, roots-few, passed-given, passed-more, passed-rest}
 use Rattle.splitter.proofs.Lending.{logs-room, lent-is}
 use Rattle.beginning.proofs.Writing.{rows-room}
 use Rattle.finder.specs.Searching.{Searchable, LetIn}
-use Rattle.finder.specs.Solving.{begunAfter, Stepping, Solvable, SolvedOut, Admitted}
+use Rattle.finder.specs.Solving.{Stepping, Solvable, SolvedOut, Admitted}
 use Rattle.finder.specs.declared.solving.Counts.{Counts}
-use Rattle.finder.proofs.Running.{taken-at}
-
--- ---- the roots of what was let in
-
--- no more than the limit
-pub roots-few : {m : ℕ} {f : List ℕ} → PolynomialIn m f → length (rootsAt m f) ≤ limit
-roots-few {m} {f} t = go (norm (numbers (fieldAt m)) (length f) f) refl
-  where
-    N : OnNumbers (numbers (fieldAt m)) (2 ^ m)
-    N = known-field m (t .field) .numbers
-
-    go : (o : Option (List ℕ)) → norm (numbers (fieldAt m)) (length f) f ≡ o → length (rootsAt m f) ≤ limit
-    go none e =
-        let zeros : allZero f ≡ true = allBelow-exactly 1 f .1 (below-from 1 f (λ i l. let z : getD f i 0 ≡ 0 = norm-none N f (t .small) e i in omega arith)) in
-        let b : _≡_ {A = Bool} true false = sym zeros ∙ t .nonzero in
-        let o : _≡_ {A = ℕ} 0 1 = cc in
-        absurd (let x : ⊥ = omega arith in x)
-    go (some s) e = omega (arith, rootsOf-degree N f (t .small) e, norm-made N f (t .small) e .shorter, t .few)
+use Rattle.finder.proofs.Running.{begun-after}
 
 -- ---- refusals 6 and 7 of the whole call
 
@@ -90,7 +64,7 @@ module _ {m size c : ℕ} {f roots : List ℕ} (g : Admitted m size c f roots) w
   admitted-in = polynomial-told m f (g .passed)
 
   six : Passed ((6, ltb 3 c) ∷ (7, ltb (length roots) limit) ∷ [])
-  six = others (others (others (others (others (g .passed)))))
+  six = passed-rest m f (g .passed)
 
   -- the cutoff
   cutoff-most : c ≤ 3
@@ -133,16 +107,8 @@ module _ {m c : ℕ} {f ls ts hs roots : List ℕ} (g : Solvable m c f ls ts hs 
   -- and stepped
   pub begun-stepping : {table : List ℕ} → table ≡ slotsBegun byFactor slots m c f → Stepping m c f table
   begun-stepping {table} e =
-      let to : table ≡ begunAfter m c f 0 = e ∙ begin-slots m (g .polynomial .field) c (g .least) f byFactor slots in
-      let k : getD table 3 0 ≡ 0 = ap (λ (x : List ℕ). getD x 3 0) to ∙ taken-at m c f 0 in
-      record {
-        field = g .polynomial .field;
-        least = g .least;
-        most = g .most;
-        few = roots-few (g .polynomial);
-        taken = subst (λ (i : ℕ). i ≤ stepCount m c (rootsAt m f)) (sym k) (omega arith);
-        slots-are = to ∙ ap (begunAfter m c f) (sym k);
-      }
+      subst (Stepping m c f) (sym (e ∙ begin-slots m (g .polynomial .field) c (g .least) f byFactor slots))
+      (begun-after (g .polynomial) (g .least) (g .most) 0 (omega arith))
 
 -- what the engine gives at the cutoff in force
 pub solved-at : {m c k : ℕ} {f roots roots′ : List ℕ} {r : Counts} → k ≡ c → SolvedOut m k f roots r roots′ → SolvedOut m c f roots r roots′
@@ -176,5 +142,5 @@ module _ {m size : ℕ} {f roots : List ℕ} (g : LetIn m size f roots) where
   searchable x y a b = record {
     tables = lent-is m (letIn-in .field) x y (g .elements) a b;
     small = letIn-in .small;
-    room = omega (arith, roots-few letIn-in, ltb-false (length roots) limit (failed (others (others (others (others (others (g .passed))))))));
+    room = omega (arith, roots-few letIn-in, ltb-false (length roots) limit (failed (passed-rest m f (g .passed))));
   }

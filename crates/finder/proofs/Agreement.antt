@@ -14,7 +14,8 @@ use Rattle.refusals.specs.Order.{decide, outcome}
 use Rattle.groups.specs.Splitting.{rootsAt}
 use Rattle.groups.specs.Limit.{limit}
 use Rattle.groups.specs.Polynomials.{polynomialTests}
-use Rattle.finder.specs.Calls.{stepsAt, solveTests, searchTests, solveOutcome, searchOutcome, rootMemory}
+use Rattle.groups.specs.Demand.{stepsAt}
+use Rattle.finder.specs.Calls.{solveTests, searchTests, solveOutcome, searchOutcome, rootMemory}
 
 skipped : {A : Type 0} (ts : List (ℕ × Bool)) (k : ℕ) (us : List (ℕ × Bool)) (refuse : ℕ → A) (accept : A)
     → decide (ts ++ (k, false) ∷ us) refuse accept ≡ decide (ts ++ us) refuse accept

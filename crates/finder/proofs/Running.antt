@@ -1,5 +1,6 @@
 -- A begun table is stepped until it is done: what the engine's loop keeps.
 --   never-refused   no test of a step holds;  found-none, found-at  what is found of the next step
+--   begun-after     the table after n steps is one that steps alone wrote
 --   run-on, run-end   a step, and the end
 -- Assumes nothing.
 use mathlib.Core.Path.{_≡_, refl, sym, ap, _∙_, subst}
@@ -15,6 +16,8 @@ use Rattle.refusals.specs.Order.Passed.{none}
 use Rattle.refusals.proofs.Order.{passes}
 use Rattle.groups.specs.Layout.{byFactor}
 use Rattle.groups.specs.Table.{encode, sound}
+use Rattle.groups.specs.Polynomials.{PolynomialIn}
+use Rattle.groups.proofs.Polynomials.{roots-few}
 use Rattle.groups.specs.Splitting.{isDone, stuck, rootsAt, slotsRoots, slotsDone, slotsStuck, slotsStepped, slotsAfter}
 use Rattle.groups.specs.Demand.{Demand3, stepCount, groupsAfter}
 use Rattle.groups.proofs.Layouts.{byFactor-lawful}
@@ -44,6 +47,17 @@ after-more (suc n) l = after-more n (slotsStepped byFactor l)
 pub taken-at : (m c : ℕ) (f : List ℕ) (n : ℕ) → getD (begunAfter m c f n) 3 0 ≡ n
 unfolding encode
 taken-at m c f n = refl
+
+-- the table after n steps is one that steps alone wrote
+pub begun-after : {m c : ℕ} {f : List ℕ} → PolynomialIn m f → 1 ≤ c → c ≤ 3 → (n : ℕ) → n ≤ stepCount m c (rootsAt m f) → Stepping m c f (begunAfter m c f n)
+begun-after {m} {c} {f} t least most n h = record {
+  field = t .field;
+  least = least;
+  most = most;
+  few = roots-few t;
+  taken = subst (λ (i : ℕ). i ≤ stepCount m c (rootsAt m f)) (sym (taken-at m c f n)) h;
+  slots-are = ap (begunAfter m c f) (sym (taken-at m c f n));
+}
 
 module _ {m c : ℕ} {f table : List ℕ} (s : Stepping m c f table) where
   n : ℕ

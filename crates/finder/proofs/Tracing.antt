@@ -52,7 +52,7 @@ use Rattle.groups.specs.Limit.{limit, slots}
 use Rattle.judging.specs.Verdicts.{Chosen}
 use Rattle.splitter.specs.Parting.{Ready, factorAt}
 use Rattle.beginning.specs.SplitPart.{Powered}
-use Rattle.beginning.proofs.PolynomialTests.{PolynomialIn}
+use Rattle.groups.specs.Polynomials.{PolynomialIn}
 use Rattle.splitter.proofs.Commons.{level-fits, level-power}
 use Rattle.splitter.proofs.Replacing.{factor-is, split-asks}
 use Rattle.finder.specs.Solving.{Stepping, Powers, Traced, Traceable, TracedTo, Advancing, Advanced, Running, Solvable, levelSum, levelSums}

@@ -1,5 +1,4 @@
 -- What the whole call and the plain search answer, and what they leave in the lent root list, for every input.
---   stepsAt                    the steps of a polynomial at the cutoff that is asked for: the groups of its roots that outnumber the cutoff in force
 --   solveTests, searchTests    the tests of each call in their order, each behind its number
 --   solveOutcome, searchOutcome, rootMemory   the outcome of each call, and the lent list afterwards: the roots fill its front
 --   paperSolved, paperSearched                the number and the values of each answer
@@ -12,18 +11,14 @@ use lib.ListN.{length}
 use Rattle.refusals.specs.Order.{outcome, memory}
 use Rattle.refusals.specs.Numbers.{numberOf}
 use Rattle.slots.specs.Lists.{copied}
-use Rattle.groups.specs.Cutoff.{inForce}
 use Rattle.groups.specs.Splitting.{rootsAt}
-use Rattle.groups.specs.Demand.{stepCount}
+use Rattle.groups.specs.Demand.{stepsAt}
 use Rattle.groups.specs.Limit.{limit}
 use Rattle.groups.specs.Polynomials.{polynomialTests}
 use Rattle.finder.specs.declared.Solved.{Solved}
 use Rattle.finder.specs.declared.Solved.the-variants.{Found, NotSolved}
 use Rattle.finder.specs.declared.Searched.{Searched}
 use Rattle.finder.specs.declared.Searched.the-variants.{Seen, NotSearched}
-
-abbrev pub stepsAt : ℕ → ℕ → List ℕ → ℕ
-stepsAt m c cs = stepCount m (inForce c) (rootsAt m cs)
 
 -- ---- the whole call
 

@@ -34,7 +34,7 @@ use Rattle.groups.specs.Limit.{limit, slots}
 use Rattle.groups.specs.Polynomials.{polynomialTests}
 use Rattle.judging.specs.Verdicts.{Chosen}
 use Rattle.splitter.specs.Parting.{factorAt}
-use Rattle.beginning.proofs.PolynomialTests.{PolynomialIn}
+use Rattle.groups.specs.Polynomials.{PolynomialIn}
 use Rattle.finder.specs.declared.solving.Counts.{Counts}
 
 abbrev pub begunAfter : ℕ → ℕ → List ℕ → ℕ → List ℕ

@@ -13,6 +13,7 @@ pub mod Soundness
 pub mod Scanning
 -- the known fields; a step keeps every sound table sound; where it writes
 pub mod Fields
+pub mod Polynomials
 pub mod Keeping
 pub mod Places
 -- begun tables and DEMAND 3

@@ -2,6 +2,7 @@
 -- that it holds in each known field, at each cutoff from 1, for the roots of each polynomial, is `demand-3`.
 --   groupsAfter  the table after n steps, told by groups
 --   stepCount    how many groups, levels 0 to m-1, have more than c members: the number of steps
+--   stepsAt      the same of a polynomial's roots, at the cutoff in force
 --   Demand3      all of it: the table after each step, the order of factors, the levels, the steps to "done", no refusal, the bound, finish, the slots
 -- Assumes nothing.
 use mathlib.Core.Path.{_≡_}
@@ -13,16 +14,21 @@ use Rattle.algebra.specs.Trial.{All}
 use Rattle.algebra.specs.Routines.{monicRoots}
 use Rattle.refusals.specs.Rows.{known}
 use Rattle.field.specs.Field.{numbers, fieldAt}
+use Rattle.groups.specs.Cutoff.{inForce}
 use Rattle.groups.specs.Groups.{InOrder, group, groupCount}
 use Rattle.groups.specs.Layout.{Layout, Lawful}
 use Rattle.groups.specs.Table.{Table, slotsFor, encode, sound}
-use Rattle.groups.specs.Splitting.{isDone, stuck, tableAfter, begunTable, groupedTable, finished, bitAt, halvingAt, slotsAfter}
+use Rattle.groups.specs.Splitting.{isDone, stuck, tableAfter, begunTable, groupedTable, finished, bitAt, halvingAt, rootsAt, slotsAfter}
 
 abbrev pub groupsAfter : ℕ → ℕ → List ℕ → ℕ → Table
 groupsAfter m c roots n = groupedTable (numbers (fieldAt m)) m 2 c roots n
 
 abbrev pub stepCount : ℕ → ℕ → List ℕ → ℕ
 stepCount m c roots = groupCount (bitAt m) c m roots
+
+-- of a polynomial, at the cutoff that is asked for
+abbrev pub stepsAt : ℕ → ℕ → List ℕ → ℕ
+stepsAt m c f = stepCount m (inForce c) (rootsAt m f)
 
 pub record Demand3 (m c : ℕ) (roots : List ℕ) : Type 0 where
   -- THE TABLE AFTER n STEPS, from begin's one factor over all roots, is the table of the groups after n steps: the first group above c is parted by its next

@@ -30,11 +30,13 @@ use Rattle.slots.proofs.Lists.{copied-front}
 use Rattle.groups.specs.Cutoff.{houseDefault, inForceBy, inForce}
 use Rattle.groups.specs.Splitting.{rootsAt}
 use Rattle.groups.specs.Limit.{limit}
-use Rattle.beginning.proofs.PolynomialTests.{PolynomialIn, polynomial-told}
-use Rattle.finder.specs.Calls.{stepsAt, solveTests, solveOutcome, rootMemory, paperSolved}
+use Rattle.groups.specs.Polynomials.{PolynomialIn}
+use Rattle.groups.proofs.Polynomials.{polynomial-told}
+use Rattle.groups.specs.Demand.{stepsAt}
+use Rattle.finder.specs.Calls.{solveTests, solveOutcome, rootMemory, paperSolved}
 use Rattle.finder.specs.declared.Solved.{Solved}
 use Rattle.finder.specs.declared.Solved.the-variants.{Found, NotSolved}
-use Rattle.finder.proofs.Admitting.{roots-few}
+use Rattle.groups.proofs.Polynomials.{roots-few}
 use Rattle.records.specs.Layout.{words, part}
 use Rattle.records.specs.Cutoffs.{stated, statedBy, resolved}
 use Rattle.records.specs.declared.Cutoff.{Cutoff}

@@ -17,7 +17,7 @@ use Rattle.refusals.specs.Order.{Passed}
 use Rattle.slots.specs.Lists.{pasted}
 use Rattle.groups.specs.Cutoff.{houseDefault}
 use Rattle.groups.specs.Splitting.{rootsAt}
-use Rattle.finder.specs.Calls.{stepsAt}
+use Rattle.groups.specs.Demand.{stepsAt}
 use Rattle.records.specs.Layout.{words, part}
 use Rattle.records.specs.Reading.{Outcome, callTests, readAt}
 use Rattle.records.specs.Files.{Reads}

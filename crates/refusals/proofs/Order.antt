@@ -1,11 +1,12 @@
 -- Refusals in a fixed order: a refusal is given exactly when its test is the first to hold.
 --   holds, fails, passes   how an entry shows which case it met, test by test;  failed, others: what a pass says of each test
+--   given-before, given-behind, passed-both   tests behind others: what comes first decides first
 --   refused, accepted   the outcome of each;  unwritten, written: the lent memory of each
 --   exactly             the outcome's number is k exactly when k is given
 -- Assumes nothing.
 use mathlib.Core.Path.{_≡_, refl, sym, ap, subst, _∙_}
 use mathlib.Core.Bool.{Bool, true, false, cond}
-use mathlib.Core.List.{List, [], _∷_}
+use mathlib.Core.List.{List, [], _∷_, _++_}
 use mathlib.Core.Logic.{_↔_, _⊎_, inl, inr}
 use Prim.Native.Nat.{ℕ, zero, suc, _<_}
 use native.Mathlib.Omega.{arith}
@@ -29,6 +30,21 @@ failed (more p) = refl
 
 pub others : {j : ℕ} {t : Bool} {ts : List (ℕ × Bool)} → Passed ((j, t) ∷ ts) → Passed ts
 others (more p) = p
+
+-- tests behind others: a refusal is given whatever follows
+pub given-before : {k : ℕ} {ts : List (ℕ × Bool)} (us : List (ℕ × Bool)) → Given k ts → Given k (ts ++ us)
+given-before us here = here
+given-before us (later g) = later (given-before us g)
+
+-- where those before pass, what follows decides: by a refusal
+pub given-behind : {k : ℕ} {ts us : List (ℕ × Bool)} → Passed ts → Given k us → Given k (ts ++ us)
+given-behind none g = g
+given-behind (more p) g = later (given-behind p g)
+
+-- or by a pass
+pub passed-both : {ts us : List (ℕ × Bool)} → Passed ts → Passed us → Passed (ts ++ us)
+passed-both none q = q
+passed-both (more p) q = more (passed-both p q)
 
 -- what a given refusal, and a pass, decide
 module _ {A : Type 0} (refuse : ℕ → A) (accept : A) where

@@ -2,7 +2,7 @@
 -- Assumes nothing.
 use denote.Ref.{now}
 use Rattle.refusals.proofs.Admitting.{let-in}
-use Rattle.beginning.proofs.PolynomialTests.{out-more}
+use Rattle.groups.proofs.Polynomials.{out-more}
 use Rattle.beginning.proofs.Writing.{cutoff-given, room-given, begin-in}
 use borrow.Author.Needs.{needs}
 use Rattle.beginning.proofs.admit.Statement.{statement}
