@@ -1,7 +1,7 @@
 // The plain search: the polynomial is evaluated at every element, four side by side, so that their chains of table loads overlap.
 ghost use mathlib.Core.Path.{_≡_};
 ghost use mathlib.Core.List.{[], _∷_};
-ghost use Prim.Native.Nat.{_<_};
+ghost use Prim.Native.Nat.{_-_, _*_, _≤_, _<_};
 ghost use lib.Dec.{ltb};
 ghost use lib.ListN.{length};
 ghost use Rattle.refusals.specs.Admitting.{Admits};
@@ -63,17 +63,37 @@ pub fn search_lent(m: u16, logs: &[u16], antilogs: &[u16], f: &[u16], roots: &mu
     k
 }
 
-// The roots of an accepted polynomial, in a field of `size` elements. The field's tables are lent here.
+// The roots of an accepted polynomial, in a field of `size` elements, whose tables are lent into rooms that hold them.
+fn search_over(
+    m: u16,
+    size: usize,
+    logs: &mut [u16],
+    antilogs: &mut [u16],
+    f: &[u16],
+    roots: &mut [u16],
+) -> u16
+    requires { ⌜ LetIn m size (now f) (now roots) × (size ≤ length (now logs)) × (3 * (size - 1) ≤ length (now antilogs)) ⌝ }
+    ensures { λ k. ⌜ SearchedOut m (now (f .entry)) (now (roots .entry)) k (now (roots .exit)) ⌝ }
+{
+    tables::lent::logs(m, logs);
+    tables::lent::antilogs(m, antilogs);
+    let end = 3 * (size - 1);
+    search_lent(m, &logs[..size], &antilogs[..end], f, roots)
+}
+
+// The same, with rooms of the field's size: to zero the largest costs more than a search in a small field.
 fn search_in(m: u16, size: usize, f: &[u16], roots: &mut [u16]) -> u16
     requires { ⌜ LetIn m size (now f) (now roots) ⌝ }
     ensures { λ k. ⌜ SearchedOut m (now (f .entry)) (now (roots .entry)) k (now (roots .exit)) ⌝ }
 {
+    if size <= 256 {
+        let mut few = [0u16; 256];
+        let mut powers = [0u16; 765];
+        return search_over(m, size, &mut few, &mut powers, f, roots);
+    }
     let mut logs = [0u16; 2048];
     let mut antilogs = [0u16; 6141];
-    tables::lent::logs(m, &mut logs);
-    tables::lent::antilogs(m, &mut antilogs);
-    let end = 3 * (size - 1);
-    search_lent(m, &logs[..size], &antilogs[..end], f, roots)
+    search_over(m, size, &mut logs, &mut antilogs, f, roots)
 }
 
 // Refusals 1 to 5 and 7 of the plain search.

@@ -2,7 +2,9 @@
 // modulo the polynomial, not modulo the factor: the powers of z on begin's way to z^(2^m) are kept, and Tr(a^i z) is a sum of their multiples, taken once a level.
 ghost use mathlib.Core.Path.{_≡_};
 ghost use mathlib.Core.List.{[], _∷_};
+ghost use Prim.Native.Nat.{_-_, _*_, _≤_};
 ghost use lib.Dec.{ltb};
+ghost use lib.ListN.{length};
 ghost use Rattle.refusals.specs.Admitting.{Admits};
 ghost use Rattle.groups.specs.Cutoff.{inForce};
 ghost use Rattle.groups.specs.Limit.{limit};
@@ -142,17 +144,23 @@ pub fn solve_lent(
     }
 }
 
-// The roots and steps of an accepted polynomial, in a field of `size` elements. The field's tables are lent here.
-fn solve_in(m: u16, size: usize, coeffs: &[u16], cutoff: u16, roots: &mut [u16]) -> Counts
-    requires { ⌜ Admitted m size cutoff (now coeffs) (now roots) ⌝ }
+// The roots and steps of an accepted polynomial, in a field of `size` elements, whose tables are lent into rooms that hold them.
+fn solve_over(
+    m: u16,
+    size: usize,
+    logs: &mut [u16],
+    antilogs: &mut [u16],
+    halves: &mut [u16],
+    coeffs: &[u16],
+    cutoff: u16,
+    roots: &mut [u16],
+) -> Counts
+    requires { ⌜ Admitted m size cutoff (now coeffs) (now roots) × (size ≤ length (now logs)) × (3 * (size - 1) ≤ length (now antilogs)) × (size ≤ length (now halves)) ⌝ }
     ensures { λ r. ⌜ SolvedOut m (inForce cutoff) (now (coeffs .entry)) (now (roots .entry)) r (now (roots .exit)) ⌝ }
 {
-    let mut logs = [0u16; 2048];
-    let mut antilogs = [0u16; 6141];
-    let mut halves = [0u16; 2048];
-    tables::lent::logs(m, &mut logs);
-    tables::lent::antilogs(m, &mut antilogs);
-    tables::lent::halves(m, &mut halves);
+    tables::lent::logs(m, logs);
+    tables::lent::antilogs(m, antilogs);
+    tables::lent::halves(m, halves);
     let c = in_force(cutoff);
     let end = 3 * (size - 1);
     solve_lent(
@@ -162,6 +170,41 @@ fn solve_in(m: u16, size: usize, coeffs: &[u16], cutoff: u16, roots: &mut [u16])
         &logs[..size],
         &antilogs[..end],
         &halves[..size],
+        roots,
+    )
+}
+
+// The same, with rooms of the field's size: to zero the largest costs more than a small field's whole call.
+fn solve_in(m: u16, size: usize, coeffs: &[u16], cutoff: u16, roots: &mut [u16]) -> Counts
+    requires { ⌜ Admitted m size cutoff (now coeffs) (now roots) ⌝ }
+    ensures { λ r. ⌜ SolvedOut m (inForce cutoff) (now (coeffs .entry)) (now (roots .entry)) r (now (roots .exit)) ⌝ }
+{
+    if size <= 256 {
+        let mut few = [0u16; 256];
+        let mut powers = [0u16; 765];
+        let mut solutions = [0u16; 256];
+        return solve_over(
+            m,
+            size,
+            &mut few,
+            &mut powers,
+            &mut solutions,
+            coeffs,
+            cutoff,
+            roots,
+        );
+    }
+    let mut logs = [0u16; 2048];
+    let mut antilogs = [0u16; 6141];
+    let mut halves = [0u16; 2048];
+    solve_over(
+        m,
+        size,
+        &mut logs,
+        &mut antilogs,
+        &mut halves,
+        coeffs,
+        cutoff,
         roots,
     )
 }
