@@ -109,8 +109,7 @@ def sentences(run):
             f"- On dense polynomials of degree 32 in field 11, where the lists of lib/bch.c are wrong, it takes {say(dense, 'solve', 'flint')} times FLINT's {unit};",
             f"  on 32 distinct roots {say(split, 'solve', 'flint')} times.",
             f"- At degree 4 in field 11 it takes {say('11.split.4', 'solve', 'bch')} times lib/bch.c, which solves degrees up to 4 in closed form and copies no table.",
-            f"- The plain search takes {say(split, 'search', 'chien')} times the Chien search at degree 32 in field 11, and {say(small, 'search', 'chien')} times in field 4,",
-            "  where 16 elements are few beside the copy of the tables."]
+            f"- The plain search takes {say(split, 'search', 'chien')} times the Chien search at degree 32 in field 11, and {say(small, 'search', 'chien')} times at degree 8 in field 4."]
     if run["vector"]:
         spared = {f: run["count"][split, f] - run["vector"][split, f] for f in ("solve", "search", "bch", "flint", "chien") if (split, f) in run["vector"]}
         said.append("- Without rep the count at degree 32, split, falls by (thousands): " + ", ".join(f"{dict(FINDERS)[f]} {x:.1f}" for f, x in spared.items()) + ".")
