@@ -1,50 +1,15 @@
 /* A libFuzzer target over the C face: arbitrary field degrees, elements, coefficients, cutoffs, tables and lengths. Each list that is lent stands against
    a page that cannot be touched, before it or behind it, with guards on its other side. What the calls give is compared with short functions of its own:
    the refusals and their order, soundness, products, values; a refusal writes nothing; begin, steps and finish give what the whole call and the search give.
-   The archive has no instrumentation: outcomes are reported to libFuzzer as counters of their own. tests/fuzz builds and runs it. */
+   tests/fuzz builds and runs it. */
 #define _GNU_SOURCE
 #include "locator.h"
-#include <fcntl.h>
-#include <stdio.h>
-#include <stdlib.h>
-#include <string.h>
-#include <sys/mman.h>
-#include <unistd.h>
 
 enum { PAGE = 65536, MOST = 512, GUARD = 64, GUARDED = 0xA5A5 };
 enum { PRODUCT, INVERSE, POSITION, QUADRATIC, SOLVE, SEARCH, BEGIN, STEP, FINISH, CALLS };
 
 static const char *const name[CALLS] = {"product", "inverse", "position", "quadratic", "solve", "search", "begin", "step", "finish"};
-static unsigned long tally[CALLS][16];
-__attribute__((section("__libfuzzer_extra_counters"))) static uint8_t reached[16384];
-
-static void expect(int holds, const char *what)
-{
-    if (!holds) {
-        fprintf(stderr, "fuzz: %s\n", what);
-        abort();
-    }
-}
-
-/* counts the call, and tells libFuzzer what came of it */
-static void note(int call, unsigned outcome, unsigned detail)
-{
-    expect(outcome < 16, "an outcome that is no number of the paper");
-    tally[call][outcome]++;
-    reached[(unsigned)call * 1600 + outcome * 100 + detail % 100] = 1;
-}
-
-static void print_tally(void)
-{
-    for (int c = 0; c < CALLS; c++) {
-        printf("%s:", name[c]);
-        for (int k = 0; k < 16; k++)
-            if (tally[c][k] != 0)
-                printf(" outcome %d: %lu", k, tally[c][k]);
-        printf("\n");
-    }
-    fflush(stdout);
-}
+#include "fuzz.h"
 
 /* ---- lent memory */
 
@@ -87,63 +52,11 @@ static void keep(list *l)
     memcpy(l->was, l->at, l->n * sizeof *l->at);
 }
 
-/* ---- the field, in its own way */
-
-static int known(unsigned m)
-{
-    return m == 4 || m == 8 || m == 11;
-}
-
-static unsigned times(unsigned m, unsigned a, unsigned b)
-{
-    unsigned p = m == 4 ? 19 : m == 8 ? 285 : 2053, r = 0;
-    for (; b != 0; b >>= 1, a = a << 1 ^ (a >> (m - 1) & 1) * p)
-        r ^= (b & 1) * a;
-    return r;
-}
-
-static unsigned value_at(unsigned m, const uint16_t *f, size_t n, unsigned x)
-{
-    unsigned v = 0;
-    while (n-- > 0)
-        v = times(m, v, x) ^ f[n];
-    return v;
-}
-
-/* ---- the input */
-
-static const uint8_t *tape;
-static size_t left;
-
-static unsigned byte(void)
-{
-    return left == 0 ? 0 : (left--, *tape++);
-}
-
-static unsigned word(void)
-{
-    unsigned low = byte();
-    return low | byte() << 8;
-}
-
-static uint16_t degree(void)
-{
-    unsigned b = byte();
-    return (uint16_t)(b % 8 == 7 ? word() : b % 8 == 6 ? b : b % 3 == 0 ? 4 : b % 3 == 1 ? 8 : 11);
-}
-
 /* a length that is often the usual one */
 static size_t length(size_t usual)
 {
     unsigned b = byte();
     return b < 192 ? usual : b < 224 ? usual + b % 4 - 2 : word() % MOST;
-}
-
-/* an element of the field where there is one, or sometimes any number */
-static uint16_t element(unsigned m, unsigned loose)
-{
-    unsigned x = word();
-    return (uint16_t)(known(m) && !loose ? x % (1u << m) : x);
 }
 
 /* ---- the element calls */
@@ -175,38 +88,6 @@ static void elements(void)
 }
 
 /* ---- polynomials */
-
-/* refusals 1 to 6 in their order, 6 where it is asked for */
-static unsigned refusal(unsigned m, const uint16_t *f, size_t n, unsigned cutoff)
-{
-    unsigned any = 0, large = 0;
-    for (size_t i = 0; i < n; i++) {
-        any |= f[i];
-        large |= f[i] >> (m & 15);
-    }
-    return !known(m) ? 1 : n == 0 ? 2 : n > 33 ? 3 : large ? 4 : !any ? 5 : cutoff > 3 ? 6 : 0;
-}
-
-/* n coefficients: any, or the product of z + r over numbers r, times z^k */
-static size_t polynomial(unsigned m, uint16_t *f)
-{
-    unsigned kind = byte();
-    size_t n = kind < 250 ? byte() % 36 : word() % MOST;
-    if (kind % 2 == 0 || !known(m) || n == 0 || n > 33) {
-        for (size_t i = 0; i < n; i++)
-            f[i] = element(m, kind % 16 == 0 && byte() % 8 == 0);
-        return n;
-    }
-    memset(f, 0, n * sizeof *f);
-    f[0] = 1;
-    for (size_t d = 1; d < n; d++) {
-        uint16_t r = element(m, 0);
-        for (size_t i = d; i > 0; i--)
-            f[i] = (uint16_t)(f[i - 1] ^ times(m, f[i], r));
-        f[0] = (uint16_t)times(m, f[0], r);
-    }
-    return n;
-}
 
 static void noise(uint16_t *to, size_t n)
 {
@@ -295,7 +176,7 @@ static void polynomials(void)
     static uint16_t found[MOST];
     j.m = degree();
     j.cutoff = (uint16_t)(byte() % 8 == 7 ? word() : byte() % 5);
-    j.n = polynomial(j.m, j.f);
+    j.n = polynomial(j.m, j.f, MOST);
     j.room = length(32);
     j.slots = length(100);
     j.front = byte() % 2;
@@ -413,30 +294,15 @@ static void tables(void)
     expect(now.sound && now.sum == was.sum && table.at[3] == t[3] + 1 && table.at[0] == t[0] && table.at[1] == t[1], "a step that breaks the table");
 }
 
-/* the input that is tried, in the file that FUZZ_LAST names: an emulator may end the program before libFuzzer has saved it. Zeros behind it change nothing */
-static uint8_t *last;
-
 int LLVMFuzzerInitialize(int *count, char ***words)
 {
     (void)count, (void)words;
-    const char *path = getenv("FUZZ_LAST");
-    if (path != NULL) {
-        int file = open(path, O_RDWR | O_CREAT | O_TRUNC, 0644);
-        expect(file >= 0 && ftruncate(file, MOST) == 0, "FUZZ_LAST cannot be written");
-        last = mmap(NULL, MOST, PROT_READ | PROT_WRITE, MAP_SHARED, file, 0);
-        expect(last != MAP_FAILED, "FUZZ_LAST cannot be mapped");
-    }
-    return atexit(print_tally);
+    return start();
 }
 
 int LLVMFuzzerTestOneInput(const uint8_t *data, size_t size)
 {
-    tape = data;
-    left = size < MOST ? size : MOST;
-    if (last != NULL) {
-        memset(last, 0, MOST);
-        memcpy(last, data, left);
-    }
+    wind(data, size);
     unsigned kind = byte();
     if (kind % 8 == 0)
         elements();
