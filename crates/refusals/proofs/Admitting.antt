@@ -1,22 +1,25 @@
 -- What the code's tests show of an entry's first test, and what an admission says.
 --   not-listed, is-listed, listed-on   what the row that was found says
 --   let-in, turned-away                what an admission says
+--   admits-behind                      a test behind the others keeps the order
 -- Assumes nothing.
 use mathlib.Core.Path.{_≡_, sym, ap, _∙_, subst}
 use mathlib.Core.Bool.{Bool, true, false, not}
-use mathlib.Core.List.{List, [], _∷_}
+use mathlib.Core.List.{List, [], _∷_, _++_}
 use Prim.Native.Nat.{ℕ}
 use Rattle.refusals.specs.Order.{Given, Passed}
+use Rattle.refusals.specs.Order.Given.{here}
+use Rattle.refusals.specs.Order.Passed.{none, more}
 use Rattle.refusals.specs.Numbers.{numberOf}
 use Rattle.refusals.specs.Rows.{known, rowAt, IsRow}
-use Rattle.refusals.specs.Admitting.{Admits}
+use Rattle.refusals.specs.Admitting.{Admits, behind}
 use Rattle.refusals.specs.declared.Refusal.{Refusal}
 use Rattle.refusals.specs.declared.Row.{Row}
 use Rattle.refusals.specs.declared.Found.{Found}
 use Rattle.refusals.specs.declared.Found.the-variants.{At, Unknown}
 use Rattle.refusals.specs.declared.Admission.{Admission}
 use Rattle.refusals.specs.declared.Admission.the-variants.{In, Out}
-use Rattle.refusals.proofs.Order.{holds}
+use Rattle.refusals.proofs.Order.{holds, given-before, given-behind, passed-both}
 use Rattle.refusals.proofs.Rows.{row-known, row-unknown}
 
 pub not-listed : (m : ℕ) {f : Found} {ts : List (ℕ × Bool)} → f ≡ rowAt m → f ≡ Unknown → Given 1 ((1, not (known m)) ∷ ts)
@@ -35,3 +38,10 @@ let-in {ts} {m} h e = subst (Admits ts m) e h
 
 pub turned-away : {ts : List (ℕ × Bool)} (m : ℕ) {r : Admission} {k : Refusal} → Admits ts m r → r ≡ Out k → Given (numberOf k) ts
 turned-away {ts} m h e = subst (Admits ts m) e h
+
+-- a test behind the others keeps the order
+pub admits-behind : (ts : List (ℕ × Bool)) (m : ℕ) (found : Admission) (t : Bool) (k : Refusal) → Admits ts m found
+    → Admits (ts ++ (numberOf k, t) ∷ []) m (behind found t k)
+admits-behind ts m (Out j) t k g = given-before _ g
+admits-behind ts m (In row) true k p = given-behind (p .0) here
+admits-behind ts m (In row) false k p = (passed-both (p .0) (more none), p .1)

@@ -2,6 +2,7 @@
 ghost use mathlib.Core.Path.{_≡_};
 ghost use Rattle.refusals.specs.Numbers.{numberOf};
 ghost use Rattle.refusals.specs.Rows.{rowAt};
+ghost use Rattle.refusals.specs.Admitting.{behind};
 
 // Each reason to turn an input away.
 pub enum Refusal {
@@ -90,4 +91,19 @@ pub fn row_of(m: u16) -> Found
 pub enum Admission {
     In(Row),
     Out(Refusal),
+}
+
+// One test more, behind those that `found` came from: where it holds, what was let in is turned away under k.
+pub fn also(found: Admission, holds: bool, k: Refusal) -> Admission
+    ensures { λ r. ⌜ r ≡ behind found holds k ⌝ }
+{
+    match found {
+        Admission::Out(j) => Admission::Out(j),
+        Admission::In(row) => {
+            if holds {
+                return Admission::Out(k);
+            }
+            Admission::In(row)
+        }
+    }
 }
