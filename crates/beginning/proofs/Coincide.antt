@@ -2,10 +2,11 @@
 --   begun-told       two answers with one number are one
 --   begin-coincide   so for the call
 -- Assumes nothing.
-use mathlib.Core.Path.{_≡_, sym, ap, _∙_}
+use mathlib.Core.Path.{_≡_}
 use mathlib.Core.List.{List}
 use Prim.Native.Nat.{ℕ}
 use Rattle.refusals.proofs.Numbers.{by-number, refused-back, accepted-back}
+use Rattle.refusals.proofs.Told.{told, coincide}
 use Rattle.beginning.specs.Calls.{paperBegun, beginOutcome, beginMemory}
 use Rattle.beginning.specs.declared.Begun.{Begun}
 use Rattle.beginning.specs.declared.Begun.the-variants.{Ready, NotBegun}
@@ -22,9 +23,9 @@ begun-back (NotBegun k) = refused-back NotBegun Ready k
 
 -- two answers of begin with one number are one
 pub begun-told : (r s : Begun) → paperBegun r ≡ paperBegun s → r ≡ s
-begun-told r s e = sym (begun-back r) ∙ ap begunOf e ∙ begun-back s
+begun-told = told paperBegun begunOf begun-back
 
 -- the answer and the lent memory of begin
 pub begin-coincide : (m c : ℕ) (cs table : List ℕ) (r s : Begun) (x y : List ℕ) → (paperBegun r ≡ beginOutcome m c cs table) × (x ≡ beginMemory m c cs table)
     → (paperBegun s ≡ beginOutcome m c cs table) × (y ≡ beginMemory m c cs table) → (r ≡ s) × (x ≡ y)
-begin-coincide m c cs table r s x y h k = (begun-told r s (h .0 ∙ sym (k .0)), h .1 ∙ sym (k .1))
+begin-coincide m c cs table = coincide paperBegun begun-told (beginOutcome m c cs table) (beginMemory m c cs table)

@@ -1,5 +1,4 @@
--- The table that begin writes: the cutoff in force, and one factor on cleared slots.
---   inForce-house           cutoff 0 stands for the house default
+-- The table that begin writes: one factor on cleared slots.
 --   laid-none, laid-some    what is left where there is no factor, and where there is one
 -- Assumes nothing.
 use mathlib.Core.Path.{_≡_, refl, sym, ap, ap₂, _∙_}
@@ -7,22 +6,15 @@ use mathlib.Core.Logic.{_≢_}
 use mathlib.Core.List.{List, [], _∷_, _++_, append-nil}
 use Prim.Native.Nat.{ℕ, suc, _+_, _-_}
 use native.Mathlib.Omega.{arith}
-use borrow.Author.Tests.{eq-eqb}
 use lib.ListN.{length, drop, set, replicate}
 use lib.Seq.{drop-append-add}
 use Rattle.slots.specs.Lists.{pasted}
 use Rattle.slots.proofs.Lists.{drop-zeros}
-use Rattle.groups.specs.Cutoff.{houseDefault, inForceBy, inForce}
 use Rattle.groups.specs.Entries.{unlessEmpty}
 use Rattle.groups.specs.Layout.{byFactor, blocks}
 use Rattle.groups.specs.Table.{encode, padded}
 use Rattle.groups.specs.Splitting.{begunTable}
 use Rattle.groups.specs.Limit.{slots}
-
--- cutoff 0
-pub inForce-house : (c : ℕ) → c ≡ 0 → houseDefault ≡ inForce c
-unfolding inForceBy
-inForce-house c e = rw (eq-eqb c 0 e)
 
 -- ---- the slots of one factor
 

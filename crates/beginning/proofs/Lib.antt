@@ -1,5 +1,4 @@
--- Why: refusals 1 to 5 and what follows them; the part that splits; the table; two admitted outcomes.
-pub mod PolynomialTests
+-- Why: the part that splits, the table, what was let in, and two admitted outcomes.
 pub mod SplitPart
 pub mod Laying
 pub mod Writing

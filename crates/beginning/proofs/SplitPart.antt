@@ -39,8 +39,8 @@ use Rattle.field.specs.Field.{fieldAt}
 use Rattle.field.proofs.Instance.{squared-size}
 use Rattle.polynomial.specs.Lent.{G, Lent}
 use Rattle.polynomial.specs.Monic.{front, MadeMonic}
-use Rattle.polynomial.specs.Powers.{Startable, powerRows}
-use Rattle.polynomial.specs.Euclid.{Turnable, GcdIs}
+use Rattle.powers.specs.Powers.{Startable, powerRows}
+use Rattle.euclid.specs.Euclid.{Turnable, GcdIs}
 use Rattle.polynomial.proofs.Logs.{field-of, numbers-of}
 use Rattle.groups.specs.Limit.{limit}
 use Rattle.beginning.specs.SplitPart.{Residual, Residue, Splittable, SplitOff, Powered}

@@ -18,7 +18,7 @@ use Rattle.algebra.specs.Routines.{rem, norm, gcd, monicRoots}
 use Rattle.refusals.specs.Rows.{known}
 use Rattle.slots.specs.Bounded.{allZero}
 use Rattle.polynomial.specs.Lent.{G, Lent}
-use Rattle.polynomial.specs.Powers.{powerRows}
+use Rattle.powers.specs.Powers.{powerRows}
 use Rattle.groups.specs.Limit.{limit, slots}
 
 -- with room for a remainder, for z, and for the rows of m powers

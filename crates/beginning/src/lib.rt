@@ -3,30 +3,24 @@
 // taken by m squarings modulo f, so that no element is tried. The powers on the way are kept for the trace sums.
 ghost use mathlib.Core.Path.{_≡_};
 ghost use mathlib.Core.List.{[], _∷_};
-ghost use mathlib.Core.Bool.{not};
 ghost use Prim.Native.Nat.{_*_, _≤_};
-ghost use lib.Dec.{eqb, ltb};
 ghost use lib.ListN.{length, take};
 ghost use Rattle.algebra.specs.Routines.{rem};
 ghost use Rattle.polynomial.specs.Lent.{G};
-ghost use Rattle.polynomial.specs.Powers.{powerRows};
-ghost use Rattle.refusals.specs.Admitting.{Admits};
-ghost use Rattle.groups.specs.Cutoff.{inForce};
+ghost use Rattle.powers.specs.Powers.{powerRows};
 ghost use Rattle.groups.specs.Layout.{byFactor};
 ghost use Rattle.groups.specs.Table.{encode};
 ghost use Rattle.groups.specs.Splitting.{begunTable, slotsBegun};
 ghost use Rattle.groups.specs.Limit.{limit, slots};
-ghost use Rattle.groups.specs.Polynomials.{polynomialTests};
 ghost use Rattle.beginning.specs.Calls.{beginOutcome, beginMemory, paperBegun};
 ghost use Rattle.beginning.specs.SplitPart.{Residual, Residue, Splittable, SplitOff, Powered, Beginnable, Writable};
-use groups::COEFFICIENTS;
-use groups::HOUSE_DEFAULT;
+use admitting::admit;
+use admitting::in_force;
 use groups::SLOTS;
-use polynomial::euclid::gcd;
+use euclid::gcd;
 use polynomial::monic::make_monic;
-use polynomial::powers::z_powers;
+use powers::z_powers;
 use refusals::Admission;
-use refusals::Found;
 use refusals::Refusal;
 use tables::lent;
 
@@ -34,57 +28,6 @@ use tables::lent;
 pub enum Begun {
     Ready,
     NotBegun(Refusal),
-}
-
-// The cutoff in force.
-pub fn in_force(cutoff: u16) -> u16
-    ensures { λ r. ⌜ r ≡ inForce cutoff ⌝ }
-{
-    if cutoff == 0 {
-        return HOUSE_DEFAULT;
-    }
-    cutoff
-}
-
-// Refusals 1 to 5, of a field degree and a polynomial's coefficients.
-pub fn admit_polynomial(m: u16, coeffs: &[u16]) -> Admission
-    ensures { λ r. ⌜ Admits (polynomialTests m (now (coeffs .entry)) []) m r ⌝ }
-{
-    let found = refusals::row_of(m);
-    let Found::At(row) = found else {
-        return Admission::Out(Refusal::Field);
-    };
-    let n = coeffs.len();
-    if n == 0 {
-        return Admission::Out(Refusal::Empty);
-    }
-    if COEFFICIENTS < n {
-        return Admission::Out(Refusal::Long);
-    }
-    if slots::any_from(coeffs, row.size) {
-        return Admission::Out(Refusal::Element);
-    }
-    if slots::all_zero(coeffs) {
-        return Admission::Out(Refusal::AllZero);
-    }
-    Admission::In(row)
-}
-
-// Refusals 1 to 7, of these, a cutoff and a table's number of slots.
-fn admit(m: u16, coeffs: &[u16], cutoff: u16, room: usize) -> Admission
-    ensures { λ r. ⌜ Admits (polynomialTests m (now (coeffs .entry)) ((6, ltb 3 cutoff) ∷ (7, not (eqb room slots)) ∷ [])) m r ⌝ }
-{
-    let found = admit_polynomial(m, coeffs);
-    let Admission::In(row) = found else {
-        return found;
-    };
-    if 3 < cutoff {
-        return Admission::Out(Refusal::Cutoff);
-    }
-    if room != SLOTS {
-        return Admission::Out(Refusal::Room);
-    }
-    Admission::In(row)
 }
 
 // Writes z^(2^m) + z, reduced by the monic polynomial with the low coefficients p, to b: m squarings, then z is added. The rows of the powers are written to rows.
@@ -203,7 +146,7 @@ fn write(m: u16, size: usize, coeffs: &[u16], c: u16, table: &mut [u16])
 pub fn begin(m: u16, coeffs: &[u16], cutoff: u16, table: &mut [u16]) -> Begun
     ensures { λ r. ⌜ (paperBegun r ≡ beginOutcome m cutoff (now (coeffs .entry)) (now (table .entry))) × (now (table .exit) ≡ beginMemory m cutoff (now (coeffs .entry)) (now (table .entry))) ⌝ }
 {
-    match admit(m, coeffs, cutoff, table.len()) {
+    match admit(m, coeffs, cutoff, table.len() != SLOTS) {
         Admission::Out(k) => Begun::NotBegun(k),
         Admission::In(row) => {
             write(m, row.size as usize, coeffs, in_force(cutoff), table);

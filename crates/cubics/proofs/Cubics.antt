@@ -21,8 +21,8 @@ use Rattle.algebra.proofs.NumberSteps.{field-run, trace-run}
 use Rattle.slots.specs.Lists.{copied}
 use Rattle.slots.proofs.Lists.{copied-front, length-copied}
 use Rattle.polynomial.specs.Lent.{G}
-use Rattle.polynomial.specs.Powers.{Startable}
-use Rattle.polynomial.specs.Euclid.{Turnable, GcdIs}
+use Rattle.powers.specs.Powers.{Startable}
+use Rattle.euclid.specs.Euclid.{Turnable, GcdIs}
 use Rattle.polynomial.proofs.Logs.{numbers-of}
 use Rattle.polynomial.proofs.Divisions.{rem-short}
 use Rattle.cubics.specs.Parting.{Cubic, GcdOf}

@@ -28,7 +28,7 @@ use Rattle.algebra.proofs.Parting.{parting-roots}
 use Rattle.field.specs.Field.{fieldAt}
 use Rattle.field.proofs.Instance.{squared-size}
 use Rattle.polynomial.specs.Lent.{G, Lent}
-use Rattle.polynomial.specs.Euclid.{Cofactorable}
+use Rattle.euclid.specs.Euclid.{Cofactorable}
 use Rattle.polynomial.proofs.Logs.{numbers-of, field-of, small-of}
 use Rattle.cubics.specs.Roots.{Front, RootsOut, Lowly, Solvable}
 use Rattle.cubics.specs.Parting.{GcdOf, Parts, Partable, Parted, Pieces, Split}

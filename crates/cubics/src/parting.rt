@@ -7,10 +7,10 @@ ghost use Rattle.polynomial.specs.Lent.{G};
 ghost use Rattle.cubics.specs.Roots.{Solvable, RootsOut};
 ghost use Rattle.cubics.specs.Parting.{Cubic, GcdOf, Partable, Parted, Pieces, Split};
 use crate::low::low_roots;
-use polynomial::euclid::cofactor;
-use polynomial::euclid::gcd;
-use polynomial::powers::trace_of;
-use polynomial::powers::z_power;
+use euclid::cofactor;
+use euclid::gcd;
+use powers::trace_of;
+use powers::z_power;
 
 // Writes the part of the monic cubic with the low coefficients p that splits, its gcd with z^(2^m) + z, to the front of g. Returns its degree.
 fn split_part(m: u16, logs: &[u16], antilogs: &[u16], p: &[u16], g: &mut [u16]) -> usize

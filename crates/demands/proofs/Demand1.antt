@@ -15,8 +15,10 @@ use Rattle.refusals.proofs.Order as order
 use Rattle.algebra.specs.Trial.{All}
 use Rattle.elements.proofs.Coincide.{answer-told, roots-told}
 use Rattle.beginning.proofs.Coincide.{begun-told}
-use Rattle.splitter.proofs.Coincide.{stepped-told, finished-told}
-use Rattle.finder.proofs.Coincide.{solved-told, searched-told}
+use Rattle.splitter.proofs.Coincide.{stepped-told}
+use Rattle.finishing.proofs.Coincide.{finished-told}
+use Rattle.finder.proofs.Coincide.{solved-told}
+use Rattle.searching.proofs.Coincide.{searched-told}
 use Rattle.records.proofs.Coincide as records
 use Rattle.records.proofs.Exactly.{ends-exactly, stops-exactly, refuses-exactly}
 use Rattle.demands.specs.Demand1.{Decides, Spares, Demand1}

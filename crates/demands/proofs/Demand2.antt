@@ -23,9 +23,11 @@ use Rattle.groups.specs.Splitting.{rootsAt}
 use Rattle.groups.proofs.Fields.{known-field}
 use Rattle.groups.specs.Polynomials.{PolynomialIn}
 use Rattle.groups.proofs.Polynomials.{polynomial-told, passed-more, passed-first, passed-rest}
-use Rattle.finder.specs.Calls.{solveTests, searchTests, rootMemory}
+use Rattle.finder.specs.Calls.{solveTests}
+use Rattle.searching.specs.Calls.{searchTests}
+use Rattle.groups.specs.RootMemory.{rootMemory}
 use Rattle.groups.proofs.Polynomials.{roots-few}
-use Rattle.finder.proofs.Agreement.{agree-list}
+use Rattle.demands.proofs.Agreement.{agree-list}
 use Rattle.demands.specs.Demand2.{valueAt, RootList, Holds, Demand2}
 
 -- the roots of an accepted polynomial

@@ -26,11 +26,13 @@ use Rattle.groups.proofs.Demand.{demand-3, begin-slots}
 use Rattle.groups.specs.Limit.{limit, slots, isSound}
 use Rattle.judging.specs.Verdicts.{stepTests}
 use Rattle.beginning.specs.Calls.{beginTests, beginMemory}
-use Rattle.splitter.specs.Calls.{stepOutcome, stepMemory, finishTests, finishOutcome, finishMemory}
+use Rattle.splitter.specs.Calls.{stepOutcome, stepMemory}
+use Rattle.finishing.specs.Calls.{finishTests, finishOutcome, finishMemory}
 use Rattle.groups.specs.Polynomials.{PolynomialIn}
 use Rattle.groups.proofs.Polynomials.{polynomial-told, passed-more, passed-first, passed-rest}
 use Rattle.groups.specs.Demand.{stepsAt}
-use Rattle.finder.specs.Calls.{solveTests, rootMemory}
+use Rattle.finder.specs.Calls.{solveTests}
+use Rattle.groups.specs.RootMemory.{rootMemory}
 use Rattle.finder.specs.Solving.{begunAfter, Stepping}
 use Rattle.finder.proofs.Running.{taken-at, begun-after, long-now, run-on, run-count, out-roots}
 use Rattle.demands.specs.Demand3.{afterSteps, groupsSlots, Followed}

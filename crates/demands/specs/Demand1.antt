@@ -22,11 +22,15 @@ use Rattle.groups.specs.Splitting.{rootsAt, slotsDone, slotsStepped, slotsBegun
 use Rattle.groups.specs.Limit.{slots}
 use Rattle.judging.specs.Verdicts.{stepTests}
 use Rattle.beginning.specs.Calls.{beginTests, beginOutcome, beginMemory}
-use Rattle.splitter.specs.Calls.{finishTests, stepOutcome, finishOutcome, stepMemory, finishMemory}
+use Rattle.finishing.specs.Calls.{finishTests, finishOutcome, finishMemory}
+use Rattle.splitter.specs.Calls.{stepOutcome, stepMemory}
 use Rattle.beginning.specs.Calls.{paperBegun}
-use Rattle.splitter.specs.Calls.{paperStepped, paperFinished}
+use Rattle.splitter.specs.Calls.{paperStepped}
+use Rattle.finishing.specs.Calls.{paperFinished}
 use Rattle.groups.specs.Demand.{stepsAt}
-use Rattle.finder.specs.Calls.{solveTests, searchTests, solveOutcome, searchOutcome, rootMemory, paperSolved, paperSearched}
+use Rattle.finder.specs.Calls.{solveTests, solveOutcome, paperSolved}
+use Rattle.searching.specs.Calls.{searchTests, searchOutcome, paperSearched}
+use Rattle.groups.specs.RootMemory.{rootMemory}
 use Rattle.records.specs.Layout.{recordLength}
 use Rattle.records.specs.Reading.{Outcome, startTests, recordTests, readAt}
 use Rattle.records.specs.Reading.{paper as paperRead}

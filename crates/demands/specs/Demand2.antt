@@ -16,7 +16,9 @@ use Rattle.field.specs.Field.{numbers, fieldAt}
 use Rattle.groups.specs.Splitting.{rootsAt}
 use Rattle.groups.specs.Limit.{limit}
 use Rattle.groups.specs.Demand.{stepsAt}
-use Rattle.finder.specs.Calls.{solveTests, searchTests, solveOutcome, searchOutcome, rootMemory}
+use Rattle.finder.specs.Calls.{solveTests, solveOutcome}
+use Rattle.searching.specs.Calls.{searchTests, searchOutcome}
+use Rattle.groups.specs.RootMemory.{rootMemory}
 
 abbrev pub valueAt : ℕ → List ℕ → ℕ → ℕ
 valueAt m f x = eval (numbers (fieldAt m)) f x

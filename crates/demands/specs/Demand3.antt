@@ -18,9 +18,11 @@ use Rattle.groups.specs.Splitting.{rootsAt}
 use Rattle.groups.specs.Demand.{Demand3, groupsAfter}
 use Rattle.groups.specs.Limit.{limit, slots}
 use Rattle.beginning.specs.Calls.{beginOutcome, beginMemory}
-use Rattle.splitter.specs.Calls.{stepOutcome, stepMemory, finishOutcome, finishMemory}
+use Rattle.splitter.specs.Calls.{stepOutcome, stepMemory}
+use Rattle.finishing.specs.Calls.{finishOutcome, finishMemory}
 use Rattle.groups.specs.Demand.{stepsAt}
-use Rattle.finder.specs.Calls.{solveTests, solveOutcome, rootMemory}
+use Rattle.finder.specs.Calls.{solveTests, solveOutcome}
+use Rattle.groups.specs.RootMemory.{rootMemory}
 
 unfoldable pub afterSteps : ℕ → List ℕ → List ℕ
 afterSteps zero table = table

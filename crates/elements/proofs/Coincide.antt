@@ -2,11 +2,12 @@
 --   answer-told, roots-told   two answers with one number and one list of values are one
 --   product-coincide ..       so for each call
 -- Assumes nothing.
-use mathlib.Core.Path.{_≡_, refl, sym, ap, _∙_}
+use mathlib.Core.Path.{_≡_, sym, _∙_}
 use mathlib.Core.List.{List, [], _∷_}
 use Prim.Native.Nat.{ℕ}
 use lib.ListN.{getD}
 use Rattle.refusals.proofs.Numbers.{by-number, refused-back, accepted-back}
+use Rattle.refusals.proofs.Told.{told}
 use Rattle.field.specs.Quadratics.{paperRoots}
 use Rattle.elements.specs.Calls.{paper, productOutcome, inverseOutcome, positionOutcome, quadraticOutcome}
 use Rattle.elements.specs.declared.Answer.{Answer}
@@ -24,7 +25,7 @@ answer-back (Value v) = accepted-back Refused (Value v)
 answer-back (Refused k) = refused-back Refused (Value 0) k
 
 pub answer-told : (r s : Answer) → paper r ≡ paper s → r ≡ s
-answer-told r s e = sym (answer-back r) ∙ ap answerOf e ∙ answer-back s
+answer-told = told paper answerOf answer-back
 
 rootsFrom : List ℕ → Quadratic
 rootsFrom [] = NoRoot
@@ -42,7 +43,7 @@ roots-back (One x) = accepted-back Turned (One x)
 roots-back (Two x y) = accepted-back Turned (Two x y)
 
 pub roots-told : (r s : Quadratic) → paperRoots r ≡ paperRoots s → r ≡ s
-roots-told r s e = sym (roots-back r) ∙ ap rootsAnswer e ∙ roots-back s
+roots-told = told paperRoots rootsAnswer roots-back
 
 pub product-coincide : (m a b : ℕ) (r s : Answer) → paper r ≡ productOutcome m a b → paper s ≡ productOutcome m a b → r ≡ s
 product-coincide m a b r s h k = answer-told r s (h ∙ sym k)

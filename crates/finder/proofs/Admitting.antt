@@ -1,23 +1,18 @@
--- The whole call's and the search's refusals, and what is known of what was let in.
---   cutoff-given, room-given, solve-in  which refusal the further tests show
---   admitted-in                       what is known of the polynomial;  cutoff-most  and of the cutoff
+-- What is known of what the whole call lets in.
+--   admitted-in                       what is known of the polynomial;  cutoff-most  of the cutoff;  list-room  and of the list
 --   solvable                          with the tables lent, the engine can run;  solved-at  what it gives at the cutoff in force
 --   solve-begins, begun-stepping      it can begin a table, and step what begin leaves
---   search-given, search-in           the same of the search;  letIn-in, letIn-fits, searchable  and what is known of what it lets in
 -- Assumes nothing.
 use mathlib.Core.Path.{_≡_, sym, _∙_, subst}
-use mathlib.Core.Bool.{Bool}
-use mathlib.Core.Option.{none}
 use mathlib.Core.List.{List, [], _∷_}
 use Prim.Native.Nat.{ℕ, _-_, _*_, _^_, _≤_, _<_}
 use native.Mathlib.Omega.{arith}
-use borrow.Author.Tests.{lt-ltb, le-ltb, ltb-false}
+use borrow.Author.Tests.{ltb-false}
 use lib.Dec.{ltb}
 use lib.Pow.{pow-pos}
 use lib.ListN.{length, take}
-use Rattle.refusals.specs.Order.{Given, Passed}
-use Rattle.refusals.specs.Order.Passed.{none as none-left}
-use Rattle.refusals.proofs.Order.{holds, fails, passes, failed, others}
+use Rattle.refusals.specs.Order.{Passed}
+use Rattle.refusals.proofs.Order.{failed, others}
 use Rattle.field.specs.Field.{fieldAt}
 use Rattle.field.specs.Tables.{Logs, Antilogs, Halves}
 use Rattle.groups.specs.Layout.{byFactor}
@@ -29,32 +24,12 @@ use Rattle.groups.specs.Limit.{limit, slots}
 use Rattle.groups.specs.Polynomials.{polynomialTests}
 use Rattle.beginning.specs.SplitPart.{Beginnable}
 use Rattle.groups.specs.Polynomials.{PolynomialIn}
-use Rattle.groups.proofs.Polynomials.{polynomial-told, roots-few, passed-given, passed-more, passed-rest}
-use Rattle.splitter.proofs.Lending.{logs-room, lent-is}
+use Rattle.groups.proofs.Polynomials.{polynomial-told, passed-rest}
+use Rattle.polynomial.proofs.Lending.{logs-room, lent-is}
 use Rattle.beginning.proofs.Writing.{rows-room}
-use Rattle.finder.specs.Searching.{Searchable, LetIn}
 use Rattle.finder.specs.Solving.{Stepping, Solvable, SolvedOut, Admitted}
-use Rattle.finder.specs.declared.solving.Counts.{Counts}
+use Rattle.finder.specs.declared.Counts.{Counts}
 use Rattle.finder.proofs.Running.{begun-after}
-
--- ---- refusals 6 and 7 of the whole call
-
-module _ (m : ℕ) (cs : List ℕ) (c room : ℕ) where
-  -- the two tests behind those of a polynomial
-  abbrev further : List (ℕ × Bool)
-  further = (6, ltb 3 c) ∷ (7, ltb room limit) ∷ []
-
-  -- the cutoff is above 3
-  pub cutoff-given : Passed (polynomialTests m cs []) → 3 < c → Given 6 (polynomialTests m cs further)
-  cutoff-given p h = passed-given m cs p (holds (lt-ltb 3 c h))
-
-  -- the list has too few slots
-  pub room-given : Passed (polynomialTests m cs []) → c ≤ 3 → room < limit → Given 7 (polynomialTests m cs further)
-  room-given p h n = passed-given m cs p (fails (le-ltb 3 c h) (holds (lt-ltb room limit n)))
-
-  -- none of the seven holds
-  pub solve-in : Passed (polynomialTests m cs []) → c ≤ 3 → limit ≤ room → Passed (polynomialTests m cs further)
-  solve-in p h e = passed-more m cs p (passes (le-ltb 3 c h) (passes (le-ltb room limit e) none-left))
 
 -- ---- what was let in
 
@@ -113,34 +88,3 @@ module _ {m c : ℕ} {f ls ts hs roots : List ℕ} (g : Solvable m c f ls ts hs 
 -- what the engine gives at the cutoff in force
 pub solved-at : {m c k : ℕ} {f roots roots′ : List ℕ} {r : Counts} → k ≡ c → SolvedOut m k f roots r roots′ → SolvedOut m c f roots r roots′
 solved-at {m} {f = f} {roots} {roots′} {r} e s = subst (λ (w : ℕ). SolvedOut m w f roots r roots′) e s
-
--- ---- refusal 7 of the plain search
-
-module _ (m : ℕ) (cs : List ℕ) (room : ℕ) where
-  -- the list has too few slots
-  pub search-given : Passed (polynomialTests m cs []) → room < limit → Given 7 (polynomialTests m cs ((7, ltb room limit) ∷ []))
-  search-given p n = passed-given m cs p (holds (lt-ltb room limit n))
-
-  -- none of the six holds
-  pub search-in : Passed (polynomialTests m cs []) → limit ≤ room → Passed (polynomialTests m cs ((7, ltb room limit) ∷ []))
-  search-in p e = passed-more m cs p (passes (le-ltb room limit e) none-left)
-
--- ---- what was let in
-
-module _ {m size : ℕ} {f roots : List ℕ} (g : LetIn m size f roots) where
-  -- the polynomial
-  pub letIn-in : PolynomialIn m f
-  letIn-in = polynomial-told m f (g .passed)
-
-  -- the size of the field
-  pub letIn-fits : (1 ≤ size) × (size ≤ 2048)
-  letIn-fits = (omega (arith, pow-pos m, g .elements), omega (arith, logs-room m (letIn-in .field), g .elements))
-
-  -- with the tables lent, the elements can be tried
-  pub searchable : (x y : List ℕ) → Logs (fieldAt m) (take (2 ^ m) x) → Antilogs (fieldAt m) (take (3 * (2 ^ m - 1)) y)
-      → Searchable m (take size x) (take (3 * (size - 1)) y) f roots
-  searchable x y a b = record {
-    tables = lent-is m (letIn-in .field) x y (g .elements) a b;
-    small = letIn-in .small;
-    room = omega (arith, roots-few letIn-in, ltb-false (length roots) limit (failed (passed-rest m f (g .passed))));
-  }

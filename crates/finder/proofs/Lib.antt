@@ -1,6 +1,5 @@
-pub mod Trying
-pub mod Admitting
-pub mod Agreement
+-- Why: what was let in, the run of steps, the trace sums, and two admitted outcomes.
 pub mod Running
-pub mod Coincide
 pub mod Tracing
+pub mod Admitting
+pub mod Coincide

@@ -30,7 +30,7 @@ use Rattle.judging.specs.Verdicts.{stepTests}
 use Rattle.finder.specs.Solving.{begunAfter, Stepping, RunOut, Solvable}
 use Rattle.field.specs.Field.{fieldAt}
 use Rattle.field.specs.Tables.{Halves}
-use Rattle.splitter.specs.Finishing.{Listable}
+use Rattle.finishing.specs.Finishing.{Listable}
 use Rattle.judging.specs.Verdicts.{Chosen}
 use Rattle.judging.specs.Walk.{seek}
 use Rattle.judging.specs.declared.Place.{Place}

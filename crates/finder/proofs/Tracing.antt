@@ -44,10 +44,10 @@ use Rattle.groups.proofs.Layouts.{byFactor-lawful}
 use Rattle.groups.proofs.Soundness.{decode-encode}
 use Rattle.groups.proofs.Demand.{demand-3}
 use Rattle.polynomial.specs.Lent.{G, Lent, Row, held}
-use Rattle.polynomial.specs.Powers.{Summable, traceSum}
+use Rattle.powers.specs.Powers.{Summable, traceSum}
 use Rattle.polynomial.proofs.Logs.{field-of, numbers-of, held-long}
-use Rattle.polynomial.proofs.TraceLoops.{rows-fit, next-place, part-front, part-long}
-use Rattle.polynomial.proofs.TraceValues.{traceSum-below, powerRows-long, powerRows-row, trace-value}
+use Rattle.powers.proofs.TraceLoops.{rows-fit, next-place, part-front, part-long}
+use Rattle.powers.proofs.TraceValues.{traceSum-below, powerRows-long, powerRows-row, trace-value}
 use Rattle.groups.specs.Limit.{limit, slots}
 use Rattle.judging.specs.Verdicts.{Chosen}
 use Rattle.splitter.specs.Parting.{Ready, factorAt}

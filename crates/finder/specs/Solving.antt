@@ -26,7 +26,7 @@ use Rattle.groups.specs.Table.{encode}
 use Rattle.groups.specs.Splitting.{rootsAt, halvingAt, slotsStepped}
 use Rattle.groups.specs.Demand.{stepCount, groupsAfter}
 use Rattle.polynomial.specs.Lent.{G, Lent, Row}
-use Rattle.polynomial.specs.Powers.{powerRows, traceSum}
+use Rattle.powers.specs.Powers.{powerRows, traceSum}
 use Rattle.slots.specs.Lists.{copied}
 use Rattle.field.specs.Field.{fieldAt}
 use Rattle.field.specs.Tables.{Halves}
@@ -35,7 +35,7 @@ use Rattle.groups.specs.Polynomials.{polynomialTests}
 use Rattle.judging.specs.Verdicts.{Chosen}
 use Rattle.splitter.specs.Parting.{factorAt}
 use Rattle.groups.specs.Polynomials.{PolynomialIn}
-use Rattle.finder.specs.declared.solving.Counts.{Counts}
+use Rattle.finder.specs.declared.Counts.{Counts}
 
 abbrev pub begunAfter : ℕ → ℕ → List ℕ → ℕ → List ℕ
 begunAfter m c f n = encode byFactor slots (groupsAfter m c (rootsAt m f) n)

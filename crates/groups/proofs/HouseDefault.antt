@@ -1,4 +1,5 @@
 -- The house default, over its value: what changes where it is raised (M-105).
+--   inForce-house                cutoff 0 stands for the house default
 --   inForce-stated               a cutoff that is not 0 is in force as it is
 --   inForce-least, inForce-most  the cutoff in force is 1 to 3
 --   DEFAULT-STEPS                under a higher house default step numbers fall or stay equal
@@ -10,15 +11,20 @@ use mathlib.Core.Bool.{Bool, true, false, cond}
 use mathlib.Core.List.{List}
 use Prim.Native.Nat.{ℕ, _≤_}
 use native.Mathlib.Omega.{arith}
-use borrow.Author.Tests.{eqb-false, ne-eqb}
+use borrow.Author.Tests.{eq-eqb, eqb-false, ne-eqb}
 use lib.Dec.{eqb}
 use Rattle.refusals.specs.Rows.{known}
 use Rattle.field.specs.Field.{numbers, fieldAt}
 use Rattle.groups.specs.Splitting.{finished, bitAt, rootsAt}
-use Rattle.groups.specs.Cutoff.{inForceBy}
+use Rattle.groups.specs.Cutoff.{houseDefault, inForceBy, inForce}
 use Rattle.groups.proofs.Counting.{count-falls}
 use Rattle.groups.specs.Demand.{groupsAfter, stepCount}
 use Rattle.groups.proofs.Demand.{demand-3}
+
+-- cutoff 0
+pub inForce-house : (c : ℕ) → c ≡ 0 → houseDefault ≡ inForce c
+unfolding inForceBy
+inForce-house c e = rw (eq-eqb c 0 e)
 
 -- a stated cutoff
 pub inForce-stated : (d c : ℕ) → c ≢ 0 → inForceBy d c ≡ c

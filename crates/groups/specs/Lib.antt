@@ -8,3 +8,4 @@ pub mod Cutoff
 pub mod Demand
 pub mod Limit
 pub mod Polynomials
+pub mod RootMemory

@@ -33,7 +33,8 @@ use Rattle.groups.specs.Limit.{limit}
 use Rattle.groups.specs.Polynomials.{PolynomialIn}
 use Rattle.groups.proofs.Polynomials.{polynomial-told}
 use Rattle.groups.specs.Demand.{stepsAt}
-use Rattle.finder.specs.Calls.{solveTests, solveOutcome, rootMemory, paperSolved}
+use Rattle.finder.specs.Calls.{solveTests, solveOutcome, paperSolved}
+use Rattle.groups.specs.RootMemory.{rootMemory}
 use Rattle.finder.specs.declared.Solved.{Solved}
 use Rattle.finder.specs.declared.Solved.the-variants.{Found, NotSolved}
 use Rattle.groups.proofs.Polynomials.{roots-few}

@@ -7,7 +7,7 @@ ghost use Rattle.records.specs.Layout.{words};
 ghost use Rattle.records.specs.Lines.{Wrote};
 ghost use Rattle.jobs.specs.Printing.{turnedLine, solvedLine, Turned, Solvable};
 use finder::Solved;
-use finder::solving::solve;
+use finder::solve;
 use records::Read;
 use records::lines::line;
 use refusals::Refusal;

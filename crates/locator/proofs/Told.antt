@@ -1,5 +1,4 @@
 -- The C face loses nothing: a struct tells the answer that it was made from.
---   told              what a map with a way back gives for two is one only where the two are one
 --   value-told ..     so for the struct of each answer
 -- Assumes nothing.
 use mathlib.Core.Path.{_≡_, sym, ap, _∙_}
@@ -7,33 +6,33 @@ use mathlib.Core.Bool.{cond}
 use Prim.Native.Nat.{ℕ, zero, suc}
 use lib.Dec.{eqb}
 use Rattle.refusals.proofs.Numbers.{by-number, refused-back, accepted-back}
+use Rattle.refusals.proofs.Told.{told}
 use Rattle.field.specs.Quadratics.{paperRoots}
 use Rattle.field.specs.declared.solver.Quadratic.{Quadratic}
 use Rattle.field.specs.declared.solver.Quadratic.the-variants.{Refused as Turned, NoRoot, One, Two}
 use Rattle.elements.specs.Calls.{paper}
 use Rattle.elements.specs.declared.Answer.{Answer}
 use Rattle.elements.specs.declared.Answer.the-variants.{Value, Refused}
-use Rattle.finder.specs.Calls.{paperSolved, paperSearched}
+use Rattle.finder.specs.Calls.{paperSolved}
+use Rattle.searching.specs.Calls.{paperSearched}
 use Rattle.finder.specs.declared.Solved.{Solved}
 use Rattle.finder.specs.declared.Solved.the-variants.{Found, NotSolved}
-use Rattle.finder.specs.declared.Searched.{Searched}
-use Rattle.finder.specs.declared.Searched.the-variants.{Seen, NotSearched}
+use Rattle.searching.specs.declared.Searched.{Searched}
+use Rattle.searching.specs.declared.Searched.the-variants.{Seen, NotSearched}
 use Rattle.beginning.specs.Calls.{paperBegun}
-use Rattle.splitter.specs.Calls.{paperStepped, paperFinished}
+use Rattle.splitter.specs.Calls.{paperStepped}
+use Rattle.finishing.specs.Calls.{paperFinished}
 use Rattle.beginning.specs.declared.Begun.{Begun}
 use Rattle.beginning.specs.declared.Begun.the-variants.{Ready, NotBegun}
 use Rattle.splitter.specs.declared.Stepped.{Stepped}
 use Rattle.splitter.specs.declared.Stepped.the-variants.{Taken, Done, NotStepped}
-use Rattle.splitter.specs.declared.Finished.{Finished}
-use Rattle.splitter.specs.declared.Finished.the-variants.{Listed, NotFinished}
+use Rattle.finishing.specs.declared.Finished.{Finished}
+use Rattle.finishing.specs.declared.Finished.the-variants.{Listed, NotFinished}
 use Rattle.locator.specs.Calls.{asValue, asPair, asFound, asStepped}
 use Rattle.locator.specs.declared.LocatorValue.{LocatorValue}
 use Rattle.locator.specs.declared.LocatorPair.{LocatorPair}
 use Rattle.locator.specs.declared.LocatorFound.{LocatorFound}
 use Rattle.locator.specs.declared.LocatorStepped.{LocatorStepped}
-
-pub told : {A B : Type 0} (there : A → B) (back : B → A) → ((a : A) → back (there a) ≡ a) → (a b : A) → there a ≡ there b → a ≡ b
-told there back returns a b e = sym (returns a) ∙ ap back e ∙ returns b
 
 -- ---- element calls
 

@@ -2,9 +2,11 @@
 ghost use mathlib.Core.Path.{_≡_};
 ghost use Rattle.field.specs.Quadratics.{paperRoots};
 ghost use Rattle.elements.specs.Calls.{paper};
-ghost use Rattle.finder.specs.Calls.{paperSolved, paperSearched};
+ghost use Rattle.finder.specs.Calls.{paperSolved};
+ghost use Rattle.searching.specs.Calls.{paperSearched};
 ghost use Rattle.beginning.specs.Calls.{paperBegun};
-ghost use Rattle.splitter.specs.Calls.{paperStepped, paperFinished};
+ghost use Rattle.splitter.specs.Calls.{paperStepped};
+ghost use Rattle.finishing.specs.Calls.{paperFinished};
 ghost use Rattle.locator.specs.Calls.{asValue, asPair, asFound, asStepped};
 use crate::LocatorFound;
 use crate::LocatorPair;
@@ -13,10 +15,10 @@ use crate::LocatorValue;
 use beginning::Begun;
 use elements::Answer;
 use field::solver::Quadratic;
-use finder::Searched;
+use searching::Searched;
 use finder::Solved;
 use refusals::number;
-use splitter::Finished;
+use finishing::Finished;
 use splitter::Stepped;
 
 // Of an element call.

@@ -2,9 +2,12 @@
 // pointer, then a count. Each call answers every input; it neither allocates nor calls out, and keeps no state.
 ghost use mathlib.Core.Path.{_≡_};
 ghost use Rattle.elements.specs.Calls.{productOutcome, inverseOutcome, positionOutcome, quadraticOutcome};
-ghost use Rattle.finder.specs.Calls.{solveOutcome, solveTests, searchOutcome, searchTests, rootMemory};
+ghost use Rattle.finder.specs.Calls.{solveOutcome, solveTests};
+ghost use Rattle.searching.specs.Calls.{searchOutcome, searchTests};
+ghost use Rattle.groups.specs.RootMemory.{rootMemory};
 ghost use Rattle.beginning.specs.Calls.{beginOutcome, beginMemory};
-ghost use Rattle.splitter.specs.Calls.{stepOutcome, stepMemory, finishOutcome, finishMemory};
+ghost use Rattle.splitter.specs.Calls.{stepOutcome, stepMemory};
+ghost use Rattle.finishing.specs.Calls.{finishOutcome, finishMemory};
 ghost use Rattle.locator.specs.Calls.{asValue, asPair, asFound, asStepped};
 
 mod answers; // what the calls answer, as these structs
@@ -82,7 +85,7 @@ pub extern "C" fn locator_solve(
 ) -> LocatorFound
     ensures { λ r. ⌜ (r ≡ asFound (solveOutcome m cutoff (now (coeffs .entry)) (now (roots .entry)))) × (now (roots .exit) ≡ rootMemory (solveTests m cutoff (now (coeffs .entry)) (now (roots .entry))) m (now (coeffs .entry)) (now (roots .entry))) ⌝ }
 {
-    answers::solved_of(finder::solving::solve(m, coeffs, cutoff, roots))
+    answers::solved_of(finder::solve(m, coeffs, cutoff, roots))
 }
 
 // The plain search.
@@ -90,7 +93,7 @@ pub extern "C" fn locator_solve(
 pub extern "C" fn locator_search(m: u16, coeffs: &[u16], roots: &mut [u16]) -> LocatorFound
     ensures { λ r. ⌜ (r ≡ asFound (searchOutcome m (now (coeffs .entry)) (now (roots .entry)))) × (now (roots .exit) ≡ rootMemory (searchTests m (now (coeffs .entry)) (now (roots .entry))) m (now (coeffs .entry)) (now (roots .entry))) ⌝ }
 {
-    answers::searched_of(finder::searching::search(m, coeffs, roots))
+    answers::searched_of(searching::search(m, coeffs, roots))
 }
 
 // Begins a table: the paper's number alone.
@@ -106,7 +109,7 @@ pub extern "C" fn locator_begin(m: u16, coeffs: &[u16], cutoff: u16, table: &mut
 pub extern "C" fn locator_step(table: &mut [u16]) -> LocatorStepped
     ensures { λ r. ⌜ (r ≡ asStepped (stepOutcome (now (table .entry)))) × (now (table .exit) ≡ stepMemory (now (table .entry))) ⌝ }
 {
-    answers::stepped_of(splitter::stepping::step(table))
+    answers::stepped_of(splitter::step(table))
 }
 
 // Finishes a table that is done.
@@ -114,5 +117,5 @@ pub extern "C" fn locator_step(table: &mut [u16]) -> LocatorStepped
 pub extern "C" fn locator_finish(table: &[u16], roots: &mut [u16]) -> LocatorFound
     ensures { λ r. ⌜ (r ≡ asFound (finishOutcome (now (table .entry)) (now (roots .entry)))) × (now (roots .exit) ≡ finishMemory (now (table .entry)) (now (roots .entry))) ⌝ }
 {
-    answers::finished_of(splitter::finishing::finish(table, roots))
+    answers::finished_of(finishing::finish(table, roots))
 }

@@ -4,20 +4,13 @@
 pub mod Parts
 pub mod Filling
 pub mod Sums
--- products, inverses and rows over lent tables
+-- products, inverses and rows over lent tables, and how they are lent
 pub mod Logs
+pub mod Lending
 -- what the loops hold at each turn
 pub mod RowLoops
 pub mod Divisions
 pub mod Remainders
 pub mod Monics
-pub mod PowerLoops
-pub mod TraceLoops
-pub mod Starts
-pub mod EuclidLoops
-pub mod Cofactors
 pub mod Horner
--- what the outcomes mean, in the words of the theory
-pub mod Meaning
 pub mod HornerFour
-pub mod TraceValues

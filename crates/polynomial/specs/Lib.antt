@@ -2,6 +2,4 @@
 pub mod Lent
 pub mod Division
 pub mod Monic
-pub mod Powers
-pub mod Euclid
 pub mod Values

@@ -3,6 +3,4 @@
 pub mod rows; // the kernel: a multiple of a row is added
 pub mod division; // remainder and quotient
 pub mod monic; // the degree, and division by the leading coefficient
-pub mod powers; // squares, z^(2^k) and the trace sum, modulo a polynomial
-pub mod euclid; // the monic greatest common divisor, and the cofactor
 pub mod values; // evaluation

@@ -22,8 +22,8 @@ use Rattle.slots.proofs.Bounded.{allBelow-exactly}
 use Rattle.slots.proofs.Lists.{copied-front, length-copied}
 use Rattle.polynomial.specs.Lent.{Lent, Row, logRow}
 use Rattle.polynomial.specs.Division.{Reducible}
-use Rattle.polynomial.specs.Powers.{Squarable}
-use Rattle.polynomial.specs.Euclid.{Turnable}
+use Rattle.powers.specs.Powers.{Squarable}
+use Rattle.euclid.specs.Euclid.{Turnable}
 use Rattle.polynomial.proofs.Logs.{row-is-row}
 use Rattle.polynomial.proofs.Remainders.{copied-whole}
 use Rattle.polynomial_bench.specs.Runs.{Reduces, Squares, Divides}

@@ -6,8 +6,8 @@ ghost use lib.ListN.{length};
 ghost use Rattle.polynomial.specs.Lent.{Lent};
 ghost use Rattle.polynomial_bench.specs.Runs.{Reduces, Squares, Divides};
 use polynomial::division;
-use polynomial::euclid;
-use polynomial::powers;
+use euclid;
+use powers;
 use polynomial::rows;
 
 // Room for the log table.

@@ -17,8 +17,8 @@ use Rattle.slots.specs.Lists.{copied}
 use Rattle.slots.proofs.Lists.{copied-front, length-copied}
 use Rattle.polynomial.specs.Lent.{Lent, logRow}
 use Rattle.polynomial.specs.Division.{Reducible}
-use Rattle.polynomial.specs.Powers.{Squarable, Startable}
-use Rattle.polynomial.specs.Euclid.{Turnable, Cofactorable}
+use Rattle.powers.specs.Powers.{Squarable, Startable}
+use Rattle.euclid.specs.Euclid.{Turnable, Cofactorable}
 use Rattle.polynomial.proofs.Logs.{row-is-row}
 use Rattle.polynomial.proofs.Remainders.{copied-whole}
 use Rattle.polynomial_lines.specs.Cases.{Asked, Rooms}

@@ -1,7 +1,7 @@
 -- What the code's tests show of an entry's first test, and what an admission says.
 --   not-listed, is-listed, listed-on   what the row that was found says
 --   let-in, turned-away                what an admission says
---   admits-behind                      a test behind the others keeps the order
+--   admits-also                        a test behind the others keeps the order
 -- Assumes nothing.
 use mathlib.Core.Path.{_≡_, sym, ap, _∙_, subst}
 use mathlib.Core.Bool.{Bool, true, false, not}
@@ -40,8 +40,11 @@ pub turned-away : {ts : List (ℕ × Bool)} (m : ℕ) {r : Admission} {k : Refus
 turned-away {ts} m h e = subst (Admits ts m) e h
 
 -- a test behind the others keeps the order
-pub admits-behind : (ts : List (ℕ × Bool)) (m : ℕ) (found : Admission) (t : Bool) (k : Refusal) → Admits ts m found
-    → Admits (ts ++ (numberOf k, t) ∷ []) m (behind found t k)
-admits-behind ts m (Out j) t k g = given-before _ g
-admits-behind ts m (In row) true k p = given-behind (p .0) here
-admits-behind ts m (In row) false k p = (passed-both (p .0) (more none), p .1)
+pub admits-also : (ts : List (ℕ × Bool)) (m : ℕ) (found : Admission) (t : Bool) (k : Refusal) {r : Admission} → r ≡ behind found t k → Admits ts m found
+    → Admits (ts ++ (numberOf k, t) ∷ []) m r
+admits-also ts m found t k e h = subst (Admits (ts ++ (numberOf k, t) ∷ []) m) (sym e) (go found t h)
+  where
+    go : (f : Admission) (b : Bool) → Admits ts m f → Admits (ts ++ (numberOf k, b) ∷ []) m (behind f b k)
+    go (Out j) b g = given-before _ g
+    go (In row) true p = given-behind (p .0) here
+    go (In row) false p = (passed-both (p .0) (more none), p .1)

@@ -2,3 +2,4 @@ pub mod Order
 pub mod Numbers
 pub mod Rows
 pub mod Admitting
+pub mod Told

@@ -26,7 +26,7 @@ use Rattle.field.specs.Tables.{antilogOf}
 use Rattle.slots.specs.Lists.{copied}
 use Rattle.slots.proofs.Lists.{copied-front, length-copied}
 use Rattle.polynomial.specs.Lent.{G}
-use Rattle.polynomial.specs.Euclid.{Turnable, GcdIs}
+use Rattle.euclid.specs.Euclid.{Turnable, GcdIs}
 use Rattle.polynomial.proofs.Logs.{field-of, numbers-of}
 use Rattle.groups.specs.Splitting.{halvingAt}
 use Rattle.groups.specs.Limit.{limit}

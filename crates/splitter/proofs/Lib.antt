@@ -1,13 +1,6 @@
--- Why: the step, finish, and two admitted outcomes.
-
--- the step
+-- Why: the parts of a factor, their slots, the table that a step leaves, and two admitted outcomes.
 pub mod Commons
 pub mod Packing
 pub mod Replacing
-pub mod Lending
 pub mod Outcomes
--- finish
-pub mod Merging
-pub mod Opening
--- two admitted outcomes
 pub mod Coincide

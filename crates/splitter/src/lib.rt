@@ -1,8 +1,24 @@
-// The stepped splitter: step and finish on a lent work table of 100 slots.
+// A step: the first factor P above the cutoff, at its level i, gives way to the monic greatest common divisor g of P and Tr(a^i z), and to h = P/g.
+ghost use mathlib.Core.Path.{_≡_};
+ghost use mathlib.Core.List.{[], _∷_};
+ghost use Prim.Native.Nat.{_+_, _≤_, _<_};
+ghost use lib.ListN.{length};
+ghost use Rattle.algebra.specs.Field.{power};
+ghost use Rattle.algebra.specs.Routines.{rem, traceMod, cofactor};
+ghost use Rattle.polynomial.specs.Lent.{G};
+ghost use Rattle.groups.specs.Layout.{byFactor};
+ghost use Rattle.groups.specs.Splitting.{slotsStepped};
+ghost use Rattle.splitter.specs.Calls.{stepOutcome, stepMemory, paperStepped};
+ghost use Rattle.judging.specs.Verdicts.{Chosen};
+ghost use Rattle.splitter.specs.Parting.{Splittable, Partable, Restable, IsCommon, Appended, Parted, Steppable, Ready};
+use euclid::cofactor;
+use euclid::gcd;
+use judging::Verdict;
+use judging::judge;
+use powers::trace_of;
+use refusals::Found;
 use refusals::Refusal;
-
-pub mod stepping; // a step
-pub mod finishing; // finish
+use refusals::row_of;
 
 // What a step answers: it was taken, there is nothing to split, or it was turned away.
 pub enum Stepped {
@@ -11,8 +27,164 @@ pub enum Stepped {
     NotStepped(Refusal),
 }
 
-// What finish answers: the number of roots listed, or what is turned away.
-pub enum Finished {
-    Listed(u16),
-    NotFinished(Refusal),
+// Writes Tr(a^i z) modulo the monic polynomial with the low coefficients p, i being its level, to t.
+fn trace_at(m: u16, logs: &[u16], antilogs: &[u16], p: &[u16], level: u16, t: &mut [u16])
+    requires { ⌜ Splittable m (now logs) (now antilogs) (now p) level × (length (now t) ≡ length (now p)) ⌝ }
+    ensures { λ _. ⌜ now (t .exit) ≡ traceMod (G m) (now (p .entry)) m (rem (G m) (now (p .entry)) (0 ∷ power (G m) 2 level ∷ [])) ⌝ }
+{
+    let n = p.len();
+    let e = n + n;
+    let b = antilogs[level as usize];
+    let mut row = [0u16; 32];
+    let mut w = [0u16; 32];
+    let mut s = [0u16; 64];
+    trace_of(
+        m,
+        logs,
+        antilogs,
+        p,
+        b,
+        &mut row[..n],
+        &mut w[..n],
+        &mut s[..e],
+        t,
+    );
+}
+
+// Leaves the monic greatest common divisor of the factor p and t, which stands for Tr(a^i z), at the front of g. Returns its degree.
+fn common(
+    m: u16,
+    logs: &[u16],
+    antilogs: &[u16],
+    p: &[u16],
+    level: u16,
+    t: &[u16],
+    g: &mut [u16],
+) -> usize
+    requires { ⌜ Partable m (now logs) (now antilogs) (now p) level (now t) × (length (now p) < length (now g)) ⌝ }
+    ensures { λ r. ⌜ IsCommon m level (now (p .entry)) r (now (g .exit)) ⌝ }
+{
+    let n = p.len();
+    let k = t.len();
+    let mut b = [0u16; 32];
+    slots::copy(t, &mut b);
+    slots::copy(p, g);
+    let mut row = [0u16; 32];
+    gcd(m, logs, antilogs, &mut row, g, n, &mut b, k)
+}
+
+// Writes what is left of the factor p where g, which divides it, is taken out to h.
+fn rest_of(m: u16, logs: &[u16], antilogs: &[u16], p: &[u16], g: &[u16], h: &mut [u16])
+    requires { ⌜ Restable m (now logs) (now antilogs) (now p) (now g) (now h) ⌝ }
+    ensures { λ _. ⌜ now (h .exit) ≡ cofactor (G m) (now (p .entry)) (now (g .entry)) ⌝ }
+{
+    let k = g.len();
+    let j = p.len() + 1;
+    let mut row = [0u16; 32];
+    let mut f = [0u16; 33];
+    cofactor(m, logs, antilogs, p, g, &mut row[..k], &mut f[..j], h);
+}
+
+// Writes the slots of a factor to w at `at`, and nothing where it is constant. Returns the place behind them.
+pub fn append(w: &mut [u16], at: usize, level: u16, low: &[u16]) -> usize
+    requires { ⌜ (at + (length (now low) + 2) ≤ length (now w)) × (length (now low) < 65536) ⌝ }
+    ensures { λ r. ⌜ Appended at level (now (low .entry)) (now (w .entry)) r (now (w .exit)) ⌝ }
+{
+    let n = low.len();
+    if n == 0 {
+        return at;
+    }
+    let b = at + 2;
+    slots::paste(w, b, low);
+    w[at] = level;
+    w[at + 1] = n as u16;
+    b + n
+}
+
+// Writes the slots of the factor's two parts, at the next level, to the front of w; a constant part is omitted. Returns the number of slots.
+fn parts_of(
+    m: u16,
+    logs: &[u16],
+    antilogs: &[u16],
+    p: &[u16],
+    level: u16,
+    t: &[u16],
+    w: &mut [u16],
+) -> usize
+    requires { ⌜ Partable m (now logs) (now antilogs) (now p) level (now t) × (36 ≤ length (now w)) ⌝ }
+    ensures { λ r. ⌜ Parted m level (now (p .entry)) r (now (w .exit)) ⌝ }
+{
+    let mut g = [0u16; 33];
+    let k = common(m, logs, antilogs, p, level, t, &mut g);
+    let mut h = [0u16; 32];
+    let e = p.len() - k;
+    rest_of(m, logs, antilogs, p, &g[..k], &mut h[..e]);
+    let at = append(w, 0, level + 1, &g[..k]);
+    append(w, at, level + 1, &h[..e])
+}
+
+// Replaces the factor at o by its parts, and counts the step, over lent tables and with a polynomial t that stands for Tr(a^i z).
+pub fn step_lent(table: &mut [u16], logs: &[u16], antilogs: &[u16], o: usize, t: &[u16])
+    requires { ⌜ Ready (now table) (now logs) (now antilogs) o (now t) ⌝ }
+    ensures { λ _. ⌜ now (table .exit) ≡ slotsStepped byFactor (now (table .entry)) ⌝ }
+{
+    let m = table[0];
+    let others = table[2] - 1;
+    let taken = table[3] + 1;
+    let level = table[o];
+    let d = table[o + 1] as usize;
+    let b = o + 2;
+    let e = b + d;
+    let mut w = [0u16; 36];
+    let q = parts_of(m, logs, antilogs, &table[b..e], level, t, &mut w);
+    slots::splice(table, o, d + 2, &w[..q]);
+    table[2] = others + ((q - d) / 2) as u16;
+    table[3] = taken;
+}
+
+// Replaces the factor at o by its parts, and counts the step, over lent tables. Tr(a^i z) is taken modulo the factor, whatever the table.
+fn step_traced(table: &mut [u16], logs: &[u16], antilogs: &[u16], o: usize)
+    requires { ⌜ Steppable (now table) (now logs) (now antilogs) o ⌝ }
+    ensures { λ _. ⌜ now (table .exit) ≡ slotsStepped byFactor (now (table .entry)) ⌝ }
+{
+    let m = table[0];
+    let level = table[o];
+    let d = table[o + 1] as usize;
+    let b = o + 2;
+    let e = b + d;
+    let mut t = [0u16; 32];
+    trace_at(m, logs, antilogs, &table[b..e], level, &mut t[..d]);
+    step_lent(table, logs, antilogs, o, &t[..d]);
+}
+
+// Replaces the factor at o by its parts, and counts the step. The field's tables are lent here.
+fn step_at(table: &mut [u16], o: usize)
+    requires { ⌜ Chosen (now table) o ⌝ }
+    ensures { λ _. ⌜ now (table .exit) ≡ slotsStepped byFactor (now (table .entry)) ⌝ }
+{
+    let m = table[0];
+    let Found::At(row) = row_of(m) else {
+        return;
+    };
+    let mut logs = [0u16; 2048];
+    let mut antilogs = [0u16; 6141];
+    tables::lent::logs(m, &mut logs);
+    tables::lent::antilogs(m, &mut antilogs);
+    let size = row.size as usize;
+    let end = 3 * (size - 1);
+    step_traced(table, &logs[..size], &antilogs[..end], o);
+}
+
+// One step: the first factor above the cutoff gives way to its parts.
+pub fn step(table: &mut [u16]) -> Stepped
+    ensures { λ r. ⌜ (paperStepped r ≡ stepOutcome (now (table .entry))) × (now (table .exit) ≡ stepMemory (now (table .entry))) ⌝ }
+{
+    match judge(table) {
+        Verdict::Refused(k) => Stepped::NotStepped(k),
+        Verdict::Over => Stepped::Done,
+        Verdict::Split(o) => {
+            step_at(table, o);
+            Stepped::Taken
+        }
+    }
 }

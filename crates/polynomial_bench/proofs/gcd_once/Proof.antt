@@ -4,7 +4,7 @@ use Rattle.polynomial_bench.proofs.Running.{divides-may}
 use borrow.Author.Needs.{needs}
 use Rattle.polynomial_bench.proofs.gcd_once.Statement.{statement}
 use Rattle.polynomial_bench.proofs.gcd_once.Tie as tie
-use Rattle.polynomial.proofs.euclid.gcd.Reads as gcd-reads
+use Rattle.euclid.proofs.gcd.Reads as gcd-reads
 use Rattle.slots.proofs.copy.Reads as copy-reads
 
 copy-requires : tie.Need-copy-requires

@@ -4,7 +4,7 @@ use Rattle.polynomial_bench.proofs.Running.{squares-may}
 use borrow.Author.Needs.{needs}
 use Rattle.polynomial_bench.proofs.squares_once.Statement.{statement}
 use Rattle.polynomial_bench.proofs.squares_once.Tie as tie
-use Rattle.polynomial.proofs.powers.power_mod.Reads as power-mod-reads
+use Rattle.powers.proofs.power_mod.Reads as power-mod-reads
 use Rattle.slots.proofs.copy.Reads as copy-reads
 
 copy-requires : tie.Need-copy-requires

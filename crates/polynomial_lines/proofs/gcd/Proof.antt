@@ -7,7 +7,7 @@ use Rattle.polynomial_lines.proofs.Asking.{gcd-may}
 use borrow.Author.Needs.{needs}
 use Rattle.polynomial_lines.proofs.gcd.Statement.{statement}
 use Rattle.polynomial_lines.proofs.gcd.Tie as tie
-use Rattle.polynomial.proofs.euclid.gcd.Reads as gcd-reads
+use Rattle.euclid.proofs.gcd.Reads as gcd-reads
 use Rattle.polynomial_lines.proofs.print_line.Reads as print-line-reads
 use Rattle.slots.proofs.copy.Reads as copy-reads
 

@@ -5,7 +5,7 @@ use Rattle.polynomial_lines.proofs.Asking.{square-may}
 use borrow.Author.Needs.{needs}
 use Rattle.polynomial_lines.proofs.square.Statement.{statement}
 use Rattle.polynomial_lines.proofs.square.Tie as tie
-use Rattle.polynomial.proofs.powers.square_mod.Reads as square-mod-reads
+use Rattle.powers.proofs.square_mod.Reads as square-mod-reads
 use Rattle.polynomial.proofs.rows.log_row.Reads as log-row-reads
 use Rattle.polynomial_lines.proofs.print_line.Reads as print-line-reads
 use Rattle.slots.proofs.copy.Reads as copy-reads

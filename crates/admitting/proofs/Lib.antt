@@ -1,0 +1,2 @@
+-- Why: refusals 1 to 5.
+pub mod PolynomialTests

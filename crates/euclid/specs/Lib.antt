@@ -1,0 +1,2 @@
+-- What Euclid's loop may take for granted, and what it leaves.
+pub mod Euclid

@@ -1,0 +1,36 @@
+-- What is known of what the plain search lets in.
+--   letIn-in     what is known of the polynomial;  letIn-fits  of the size of the field
+--   searchable   with the tables lent, the elements can be tried
+-- Assumes nothing.
+use mathlib.Core.List.{List}
+use Prim.Native.Nat.{ℕ, _-_, _*_, _^_, _≤_}
+use native.Mathlib.Omega.{arith}
+use borrow.Author.Tests.{ltb-false}
+use lib.Pow.{pow-pos}
+use lib.ListN.{length, take}
+use Rattle.refusals.proofs.Order.{failed}
+use Rattle.field.specs.Field.{fieldAt}
+use Rattle.field.specs.Tables.{Logs, Antilogs}
+use Rattle.groups.specs.Limit.{limit}
+use Rattle.groups.specs.Polynomials.{PolynomialIn}
+use Rattle.groups.proofs.Polynomials.{polynomial-told, roots-few, passed-rest}
+use Rattle.polynomial.proofs.Lending.{logs-room, lent-is}
+use Rattle.searching.specs.Searching.{Searchable, LetIn}
+
+module _ {m size : ℕ} {f roots : List ℕ} (g : LetIn m size f roots) where
+  -- the polynomial
+  pub letIn-in : PolynomialIn m f
+  letIn-in = polynomial-told m f (g .passed)
+
+  -- the size of the field
+  pub letIn-fits : (1 ≤ size) × (size ≤ 2048)
+  letIn-fits = (omega (arith, pow-pos m, g .elements), omega (arith, logs-room m (letIn-in .field), g .elements))
+
+  -- with the tables lent, the elements can be tried
+  pub searchable : (x y : List ℕ) → Logs (fieldAt m) (take (2 ^ m) x) → Antilogs (fieldAt m) (take (3 * (2 ^ m - 1)) y)
+      → Searchable m (take size x) (take (3 * (size - 1)) y) f roots
+  searchable x y a b = record {
+    tables = lent-is m (letIn-in .field) x y (g .elements) a b;
+    small = letIn-in .small;
+    room = omega (arith, roots-few letIn-in, ltb-false (length roots) limit (failed (passed-rest m f (g .passed))));
+  }

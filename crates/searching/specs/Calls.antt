@@ -1,0 +1,27 @@
+-- What the plain search answers, for every input. What it leaves in the lent root list is `rootMemory` of groups.
+--   searchTests     its tests in their order, each behind its number
+--   searchOutcome   its outcome: the number of roots
+--   paperSearched   the number and the value of its answer
+-- Assumes nothing.
+use mathlib.Core.Bool.{Bool}
+use mathlib.Core.List.{List, [], _∷_}
+use Prim.Native.Nat.{ℕ}
+use lib.Dec.{ltb}
+use lib.ListN.{length}
+use Rattle.refusals.specs.Order.{outcome}
+use Rattle.refusals.specs.Numbers.{numberOf}
+use Rattle.groups.specs.Splitting.{rootsAt}
+use Rattle.groups.specs.Limit.{limit}
+use Rattle.groups.specs.Polynomials.{polynomialTests}
+use Rattle.searching.specs.declared.Searched.{Searched}
+use Rattle.searching.specs.declared.Searched.the-variants.{Seen, NotSearched}
+
+abbrev pub searchTests : ℕ → List ℕ → List ℕ → List (ℕ × Bool)
+searchTests m cs list = polynomialTests m cs ((7, ltb (length list) limit) ∷ [])
+
+abbrev pub searchOutcome : ℕ → List ℕ → List ℕ → ℕ × List ℕ
+searchOutcome m cs list = outcome (searchTests m cs list) (length (rootsAt m cs) ∷ [])
+
+abbrev pub paperSearched : Searched → ℕ × List ℕ
+paperSearched (Seen s) = (0, s ∷ [])
+paperSearched (NotSearched k) = (numberOf k, [])

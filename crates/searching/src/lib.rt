@@ -1,0 +1,108 @@
+// The plain search: the polynomial is evaluated at every element, four side by side, so that their chains of table loads overlap.
+ghost use mathlib.Core.Path.{_≡_};
+ghost use Prim.Native.Nat.{_-_, _*_, _≤_, _<_};
+ghost use lib.ListN.{length};
+ghost use Rattle.searching.specs.Calls.{searchOutcome, searchTests, paperSearched};
+ghost use Rattle.groups.specs.RootMemory.{rootMemory};
+ghost use Rattle.searching.specs.Searching.{Searchable, SearchedOut, Tried, Noted, LetIn};
+use admitting::admit_room;
+use groups::LIMIT;
+use polynomial::values::evaluate;
+use polynomial::values::evaluate_four;
+use refusals::Admission;
+use refusals::Refusal;
+
+// What the plain search answers: the number of roots, or what is turned away.
+pub enum Searched {
+    Seen(u16),
+    NotSearched(Refusal),
+}
+
+// Puts the element x behind the k roots at the front of the list where its value v is 0. Returns how many there are then.
+fn note(v: u16, x: u16, roots: &mut [u16], k: u16) -> u16
+    requires { ⌜ (v ≡ 0 → k < length (now roots)) × (k < 65535) ⌝ }
+    ensures { λ j. ⌜ Noted v x k (now (roots .entry)) j (now (roots .exit)) ⌝ }
+{
+    if v == 0 {
+        roots[k as usize] = x;
+        return k + 1;
+    }
+    k
+}
+
+// Tries the first four elements.
+fn try_first(m: u16, logs: &[u16], antilogs: &[u16], f: &[u16], roots: &mut [u16]) -> u16
+    requires { ⌜ Searchable m (now logs) (now antilogs) (now f) (now roots) ⌝ }
+    ensures { λ k. ⌜ Tried m (now (f .entry)) (now (roots .entry)) 4 k (now (roots .exit)) ⌝ }
+{
+    let mut k: u16 = 0;
+    let mut x: u16 = 0;
+    while x < 4 {
+        let v = evaluate(m, logs, antilogs, f, x);
+        k = note(v, x, roots, k);
+        x += 1;
+    }
+    k
+}
+
+// Lists every element at which f is 0 at the front of the roots, ascending. Returns how many there are.
+pub fn search_lent(m: u16, logs: &[u16], antilogs: &[u16], f: &[u16], roots: &mut [u16]) -> u16
+    requires { ⌜ Searchable m (now logs) (now antilogs) (now f) (now roots) ⌝ }
+    ensures { λ k. ⌜ SearchedOut m (now (f .entry)) (now (roots .entry)) k (now (roots .exit)) ⌝ }
+{
+    let size = logs.len() as u16;
+    let mut k = try_first(m, logs, antilogs, f, roots);
+    let mut x: u16 = 4;
+    while x < size {
+        let v = evaluate_four(m, logs, antilogs, f, x);
+        k = note(v.a, x, roots, k);
+        k = note(v.b, x + 1, roots, k);
+        k = note(v.c, x + 2, roots, k);
+        k = note(v.d, x + 3, roots, k);
+        x += 4;
+    }
+    k
+}
+
+// The roots of an accepted polynomial, in a field of `size` elements, whose tables are lent into rooms that hold them.
+fn search_over(
+    m: u16,
+    size: usize,
+    logs: &mut [u16],
+    antilogs: &mut [u16],
+    f: &[u16],
+    roots: &mut [u16],
+) -> u16
+    requires { ⌜ LetIn m size (now f) (now roots) × (size ≤ length (now logs)) × (3 * (size - 1) ≤ length (now antilogs)) ⌝ }
+    ensures { λ k. ⌜ SearchedOut m (now (f .entry)) (now (roots .entry)) k (now (roots .exit)) ⌝ }
+{
+    tables::lent::logs(m, logs);
+    tables::lent::antilogs(m, antilogs);
+    let end = 3 * (size - 1);
+    search_lent(m, &logs[..size], &antilogs[..end], f, roots)
+}
+
+// The same, with rooms of the field's size: to zero the largest costs more than a search in a small field.
+fn search_in(m: u16, size: usize, f: &[u16], roots: &mut [u16]) -> u16
+    requires { ⌜ LetIn m size (now f) (now roots) ⌝ }
+    ensures { λ k. ⌜ SearchedOut m (now (f .entry)) (now (roots .entry)) k (now (roots .exit)) ⌝ }
+{
+    if size <= 256 {
+        let mut few = [0u16; 256];
+        let mut powers = [0u16; 765];
+        return search_over(m, size, &mut few, &mut powers, f, roots);
+    }
+    let mut logs = [0u16; 2048];
+    let mut antilogs = [0u16; 6141];
+    search_over(m, size, &mut logs, &mut antilogs, f, roots)
+}
+
+// The plain search: every element is tried, the distinct roots stand ascending at the front of the list, and their number is returned.
+pub fn search(m: u16, coeffs: &[u16], roots: &mut [u16]) -> Searched
+    ensures { λ r. ⌜ (paperSearched r ≡ searchOutcome m (now (coeffs .entry)) (now (roots .entry))) × (now (roots .exit) ≡ rootMemory (searchTests m (now (coeffs .entry)) (now (roots .entry))) m (now (coeffs .entry)) (now (roots .entry))) ⌝ }
+{
+    match admit_room(m, coeffs, roots.len() < LIMIT) {
+        Admission::Out(k) => Searched::NotSearched(k),
+        Admission::In(row) => Searched::Seen(search_in(m, row.size as usize, coeffs, roots)),
+    }
+}
