@@ -201,6 +201,7 @@ static size_t theirs_run(int kind, uint32_t times)
     return d;
 }
 
+/* Stops: the results are not the same. */
 static void differ(const char *where, int n)
 {
     fprintf(stderr, "polynomial: the two sides differ, %s %d\n", where, n);

@@ -7,6 +7,7 @@
 
 enum { GUARD = 64, GUARDED = 0xA5A5 };
 
+/* says what is wrong, behind the lines so far, and stops */
 static inline void fail(const char *what)
 {
     fflush(stdout);
@@ -14,6 +15,7 @@ static inline void fail(const char *what)
     exit(1);
 }
 
+/* stops where it does not hold */
 static inline void expect(int holds, const char *what)
 {
     if (!holds)
@@ -27,6 +29,7 @@ static inline int word(void)
     return low == EOF || high == EOF ? EOF : low | high << 8;
 }
 
+/* a number of two bytes that must be there */
 static inline uint16_t number(void)
 {
     int w = word();
@@ -66,6 +69,7 @@ static inline list lend(size_t n)
     return l;
 }
 
+/* does it hold what it must? */
 static inline int unchanged(list l)
 {
     return memcmp(l.at, l.at + l.n + GUARD, l.n * sizeof *l.at) == 0;
@@ -79,6 +83,7 @@ static inline void end(list l)
     free(l.at - GUARD);
 }
 
+/* the same of a list that was lent to be read only */
 static inline void end_read(list l)
 {
     expect(unchanged(l), "a write to memory lent for reading");

@@ -14,6 +14,7 @@ typedef struct { list logs, antilogs; } tables;
 
 static tables lent[12];
 
+/* those of a known field */
 static tables tables_of(uint16_t m)
 {
     tables *t = &lent[m];
@@ -58,6 +59,7 @@ static void print_line(int kind, list l, size_t n)
     putchar('\n');
 }
 
+/* 1: the remainder of f by p */
 static void run_remainder(given c)
 {
     list row = row_of(c, c.p), f = copied(c.f, c.f.n), r = lend_room(c.p.n);
@@ -68,7 +70,7 @@ static void run_remainder(given c)
     end(r);
 }
 
-/* f is a remainder: as long as p */
+/* 2: the square of f modulo p; f is as long as p */
 static void run_square(given c)
 {
     if (c.f.n != c.p.n)
@@ -81,6 +83,7 @@ static void run_square(given c)
     end(s);
 }
 
+/* 3: z^(2^k) modulo p */
 static void run_z_power(given c)
 {
     list row = lend_room(c.p.n), w = lend_room(c.p.n), s = lend_room(2 * c.p.n);
@@ -91,7 +94,7 @@ static void run_z_power(given c)
     end(s);
 }
 
-/* k has an antilog */
+/* 4: Tr(a^k z) modulo p; k has an antilog */
 static void run_trace(given c)
 {
     if (c.k >= c.in.antilogs.n)
@@ -105,6 +108,7 @@ static void run_trace(given c)
     end(sum);
 }
 
+/* 5: the monic greatest common divisor of p and f */
 static void run_gcd(given c)
 {
     size_t n = c.p.n, k = c.f.n;
@@ -117,7 +121,7 @@ static void run_gcd(given c)
     end(b);
 }
 
-/* f divides p: it is no longer */
+/* 6: the quotient of p by the monic polynomial with the low coefficients f; f is no longer */
 static void run_quotient(given c)
 {
     if (c.p.n < c.f.n)
@@ -130,13 +134,14 @@ static void run_quotient(given c)
     end(h);
 }
 
-/* p holds an element */
+/* 7: the value of f at the element that p holds */
 static void run_value(given c)
 {
     if (c.p.n > 0)
         printf("%d %u\n", VALUE, polynomial_evaluate(FIELD(c), LENT(c.f), c.p.at[0]));
 }
 
+/* 8: the degree of f */
 static void run_top(given c)
 {
     size_t k = polynomial_top(LENT(c.f));
@@ -146,6 +151,7 @@ static void run_top(given c)
         printf("%d %zu\n", TOP, k - 1);
 }
 
+/* 9: f made monic */
 static void run_monic(given c)
 {
     list r = copied(c.f, c.f.n);
@@ -164,6 +170,7 @@ static void (*const run[])(given) = {
     [QUOTIENT] = run_quotient, [VALUE] = run_value, [TOP] = run_top, [MONIC] = run_monic,
 };
 
+/* are all numbers of the list below the size? */
 static int all_below(list l, unsigned size)
 {
     for (size_t i = 0; i < l.n; i++)
