@@ -1,26 +1,23 @@
 /*
- * The proved polynomial routines beside the same algorithms in plain C, in field 11 (2048 elements, z^11 + z^2 + 1).
+ * The proved polynomial routines (libpolynomial_face.a) beside the same algorithms in plain C, in field 11 (2048 elements, z^11 + z^2 + 1).
  *
  * Both sides hold a monic divisor by the logs of its low coefficients, divide in place from the top, spread squares,
  * and run Euclid's loop on two buffers that change roles. Tables: logs of 2048 elements, with twice the order at 0,
- * and antilogs of three times the order, the last third 0, so that a product by 0 needs no branch.
+ * and antilogs of three times the order, the last third 0, so that a product by 0 needs no branch. Each side has its own.
+ * The loops are here, and neither side knows the lengths before it is called.
  */
-#include <stdbool.h>
-#include <stddef.h>
-#include <stdint.h>
+#include "../tests/polynomial_face.h"
 #include <stdio.h>
 #include <stdlib.h>
 #include <string.h>
 #include <time.h>
 
-/* The proved side: a slice is a pointer, then an element count. */
-bool bench_remainder(uint32_t times, const uint16_t *p, size_t np, const uint16_t *f, size_t nf, uint16_t *r, size_t nr);
-bool bench_squares(uint32_t times, const uint16_t *p, size_t np, const uint16_t *x, size_t nx, uint16_t *w, size_t nw);
-size_t bench_gcd(uint32_t times, const uint16_t *p, size_t np, const uint16_t *f, size_t nf, uint16_t *a, size_t na);
-
 enum { SIZE = 2048, ORDER = 2047, POLY = 2053, DEGREE = 32, LONG = 63, ROUNDS = 201 };
 
-static uint16_t logs[SIZE], antilogs[3 * ORDER];
+/* the tables of the C side, and those that the proved side lends */
+static uint16_t logs[SIZE], antilogs[3 * ORDER], lent_logs[SIZE], lent_antilogs[3 * ORDER];
+
+#define FIELD 11, lent_logs, SIZE, lent_antilogs, 3 * ORDER
 
 static void make_tables(void)
 {
@@ -109,41 +106,22 @@ static size_t gcd(uint16_t *restrict row, uint16_t *restrict a, size_t n, uint16
     }
 }
 
-/* The C side of each export. It knows the lengths, as the proved side does; noipa keeps the inputs unknown to both. */
-static __attribute__((noipa)) bool c_remainder(uint32_t times, const uint16_t *p, const uint16_t *f, uint16_t *r)
+/* The C side of each export: noipa keeps its input and its lengths unknown, as they are to the proved side. */
+static __attribute__((noipa)) void c_remainder(const uint16_t *row, size_t n, uint16_t *f, size_t len, uint16_t *r)
 {
-    uint16_t row[DEGREE], s[LONG];
-    log_row(p, DEGREE, row);
-    for (uint32_t i = 0; i < times; i++) {
-        memcpy(s, f, sizeof s);
-        divide(row, DEGREE, s, LONG);
-        memcpy(r, s, DEGREE * sizeof *r);
-    }
-    return true;
+    divide(row, n, f, len);
+    memcpy(r, f, n * sizeof *r);
 }
 
-static __attribute__((noipa)) bool c_squares(uint32_t times, const uint16_t *p, const uint16_t *x, uint16_t *w)
+static __attribute__((noipa)) void c_power_mod(const uint16_t *row, size_t n, unsigned k, uint16_t *w, uint16_t *s)
 {
-    uint16_t row[DEGREE], s[2 * DEGREE];
-    log_row(p, DEGREE, row);
-    for (uint32_t i = 0; i < times; i++) {
-        memcpy(w, x, DEGREE * sizeof *w);
-        for (int j = 0; j < 10; j++)
-            square_mod(row, DEGREE, w, s);
-    }
-    return true;
+    for (unsigned i = 0; i < k; i++)
+        square_mod(row, n, w, s);
 }
 
-static __attribute__((noipa)) size_t c_gcd(uint32_t times, const uint16_t *p, const uint16_t *f, uint16_t *a)
+static __attribute__((noipa)) size_t c_gcd(uint16_t *row, uint16_t *a, size_t n, uint16_t *b, size_t k)
 {
-    uint16_t row[DEGREE], b[DEGREE];
-    size_t d = 0;
-    for (uint32_t i = 0; i < times; i++) {
-        memcpy(a, p, DEGREE * sizeof *a);
-        memcpy(b, f, DEGREE * sizeof *b);
-        d = gcd(row, a, DEGREE, b, DEGREE);
-    }
-    return d;
+    return gcd(row, a, n, b, k);
 }
 
 /* Numbers drawn by xorshift, below 2048. */
@@ -176,30 +154,65 @@ static double median(double *t)
     return t[ROUNDS / 2];
 }
 
+static const char *const names[] = {"remainder of degree 62 by 32", "ten squarings modulo degree 32", "gcd of degree 32 with 31"};
 static uint16_t p[DEGREE], f[LONG], g[DEGREE];
 static uint16_t ours[DEGREE + 1], theirs[DEGREE + 1];
 
-static size_t ours_run(int kind, uint32_t times)
+/* The input of a routine, where it works: in s what it uses up, in out what becomes its result. */
+static void lay(int kind, uint16_t *s, uint16_t *out)
 {
-    if (kind == 0)
-        return bench_remainder(times, p, DEGREE, f, LONG, ours, DEGREE) ? DEGREE : 0;
-    if (kind == 1)
-        return bench_squares(times, p, DEGREE, g, DEGREE, ours, DEGREE) ? DEGREE : 0;
-    return bench_gcd(times, p, DEGREE, g, DEGREE, ours, DEGREE + 1);
+    memcpy(s, kind == 0 ? f : g, (kind == 0 ? LONG : DEGREE) * sizeof *s);
+    memcpy(out, kind == 1 ? g : p, DEGREE * sizeof *out);
 }
 
+/* A routine of the proved side, so many times on the same input; returns how many coefficients its result has. */
+static size_t ours_run(int kind, uint32_t times)
+{
+    uint16_t row[DEGREE], s[2 * DEGREE];
+    size_t d = DEGREE;
+    polynomial_log_row(FIELD, p, DEGREE, row, DEGREE);
+    for (uint32_t i = 0; i < times; i++) {
+        lay(kind, s, ours);
+        if (kind == 0)
+            polynomial_remainder(FIELD, row, DEGREE, s, LONG, ours, DEGREE);
+        else if (kind == 1)
+            polynomial_power_mod(FIELD, row, DEGREE, 10, ours, DEGREE, s, 2 * DEGREE);
+        else
+            d = polynomial_gcd(FIELD, row, DEGREE, ours, DEGREE + 1, DEGREE, s, DEGREE, DEGREE);
+    }
+    return d;
+}
+
+/* The same of the C side. */
 static size_t theirs_run(int kind, uint32_t times)
 {
-    if (kind == 0)
-        return c_remainder(times, p, f, theirs) ? DEGREE : 0;
-    if (kind == 1)
-        return c_squares(times, p, g, theirs) ? DEGREE : 0;
-    return c_gcd(times, p, g, theirs);
+    uint16_t row[DEGREE], s[2 * DEGREE];
+    size_t d = DEGREE;
+    log_row(p, DEGREE, row);
+    for (uint32_t i = 0; i < times; i++) {
+        lay(kind, s, theirs);
+        if (kind == 0)
+            c_remainder(row, DEGREE, s, LONG, theirs);
+        else if (kind == 1)
+            c_power_mod(row, DEGREE, 10, theirs, s);
+        else
+            d = c_gcd(row, theirs, DEGREE, s, DEGREE);
+    }
+    return d;
+}
+
+/* Stops: the results are not the same. */
+static void differ(const char *where, int n)
+{
+    fprintf(stderr, "polynomial: the two sides differ, %s %d\n", where, n);
+    exit(1);
 }
 
 /* Random inputs, some with zeros on top and some with a shared power of z: both sides must agree. */
 static void agree(uint64_t *seed)
 {
+    if (memcmp(logs, lent_logs, sizeof logs) != 0 || memcmp(antilogs, lent_antilogs, sizeof antilogs) != 0)
+        differ("tables of field", 11);
     for (int n = 0; n < 3000; n++) {
         draw(seed, p, DEGREE);
         draw(seed, f, LONG);
@@ -215,22 +228,21 @@ static void agree(uint64_t *seed)
         }
         for (int kind = 0; kind < 3; kind++) {
             size_t a = ours_run(kind, 1), b = theirs_run(kind, 1);
-            if (a != b || (kind < 2 && a == 0) || memcmp(ours, theirs, a * sizeof *ours) != 0) {
-                fprintf(stderr, "polynomial: the two sides differ, routine %d, input %d\n", kind, n);
-                exit(1);
-            }
+            if (a != b || memcmp(ours, theirs, a * sizeof *ours) != 0)
+                differ(names[kind], n);
         }
     }
     printf("both sides agree on 3000 random inputs of each routine\n\n");
 }
 
-/* What a call of the proved side takes before its first run: the tests, and the tables that it lends. */
-static double lending(void)
+/* Lends the tables to the proved side; returns how long it takes. */
+static double lend(void)
 {
     double t[ROUNDS];
     for (int round = 0; round < ROUNDS; round++) {
         double start = now();
-        ours_run(0, 0);
+        polynomial_logs(11, lent_logs, SIZE);
+        polynomial_antilogs(11, lent_antilogs, 3 * ORDER);
         t[round] = now() - start;
     }
     return median(t);
@@ -238,10 +250,10 @@ static double lending(void)
 
 int main(void)
 {
-    static const char *names[] = {"remainder of degree 62 by 32", "ten squarings modulo degree 32", "gcd of degree 32 with 31"};
     static const uint32_t times[] = {1000, 100, 500};
     uint64_t seed = 88172645463325252ull;
     make_tables();
+    double lending = lend();
     agree(&seed);
     draw(&seed, p, DEGREE);
     draw(&seed, f, LONG);
@@ -262,7 +274,7 @@ int main(void)
         double x = median(a), y = median(b);
         printf("%-36s %12.0f %10.0f %12.2f\n", names[kind], x, y, x / y);
     }
-    printf("\nA round runs a routine %u, %u and %u times; on the proved side it also lends the tables once, %.0f ns.\n",
-           times[0], times[1], times[2], lending());
+    printf("\nA round runs a routine %u, %u and %u times. The tables are lent to the proved side once, before all rounds: %.0f ns.\n",
+           times[0], times[1], times[2], lending);
     return 0;
 }

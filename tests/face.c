@@ -1,73 +1,9 @@
-/* face elements|tables: drives the C face on the cases of tests/second/elements.py or tables.py from standard input, and prints their lines. Lent memory
-   stands between guards, so that a write outside it is seen; what is lent to be read only is compared with what it was. */
+/* face elements|tables: drives the C face on the cases of tests/second/elements.py or tables.py from standard input, and prints their lines. */
+#define DRIVER "face"
+#include "lent.h"
 #include "locator.h"
-#include <stdio.h>
-#include <stdlib.h>
-#include <string.h>
 
-enum { GUARD = 64, GUARDED = 0xA5A5 };
 enum { BEGIN, STEP, FINISH, WHOLE, SEARCH };
-
-static void fail(const char *what)
-{
-    fflush(stdout);
-    fprintf(stderr, "face: %s\n", what);
-    exit(1);
-}
-
-static void expect(int holds, const char *what)
-{
-    if (!holds)
-        fail(what);
-}
-
-/* a number of two bytes, or the end of the input */
-static int word(void)
-{
-    int low = getchar(), high = getchar();
-    return low == EOF || high == EOF ? EOF : low | high << 8;
-}
-
-static uint16_t number(void)
-{
-    int w = word();
-    expect(w != EOF, "the cases end early");
-    return (uint16_t)w;
-}
-
-/* n numbers from the input between guards, and a copy of them behind */
-typedef struct { uint16_t *at; size_t n; } list;
-
-static list lend(size_t n)
-{
-    uint16_t *room = malloc((2 * n + 2 * GUARD) * sizeof *room);
-    expect(room != NULL, "no memory");
-    list l = {room + GUARD, n};
-    for (size_t i = 0; i < n + 2 * GUARD; i++)
-        room[i] = GUARDED;
-    for (size_t i = 0; i < n; i++)
-        l.at[n + GUARD + i] = l.at[i] = number();
-    return l;
-}
-
-static int unchanged(list l)
-{
-    return memcmp(l.at, l.at + l.n + GUARD, l.n * sizeof *l.at) == 0;
-}
-
-/* the guards are as they were; the list is given back */
-static void end(list l)
-{
-    for (size_t i = 0; i < GUARD; i++)
-        expect(l.at[i - GUARD] == GUARDED && l.at[l.n + i] == GUARDED, "a write outside lent memory");
-    free(l.at - GUARD);
-}
-
-static void end_read(list l)
-{
-    expect(unchanged(l), "a write to memory lent for reading");
-    end(l);
-}
 
 static void print_slots(list l)
 {
@@ -101,7 +37,7 @@ static void print_found(int op, locator_found f, list roots)
 static void run_step(void)
 {
     list table = lend(number());
-    locator_stepped s = locator_step(table.at, table.n);
+    locator_stepped s = locator_step(LENT(table));
     if (s.outcome != 0)
         refused(s.done, table);
     expect(s.done <= 1, "done is neither 0 nor 1");
@@ -117,7 +53,7 @@ static void run_finish(void)
 {
     size_t slots = number(), room = number();
     list table = lend(slots), roots = lend(room);
-    print_found(FINISH, locator_finish(table.at, table.n, roots.at, roots.n), roots);
+    print_found(FINISH, locator_finish(LENT(table), LENT(roots)), roots);
     end_read(table);
     end(roots);
 }
@@ -129,11 +65,11 @@ static void run_polynomial(int op)
     size_t n = number(), room = number();
     list coeffs = lend(n), to = lend(room);
     if (op == WHOLE)
-        print_found(op, locator_solve(m, coeffs.at, coeffs.n, cutoff, to.at, to.n), to);
+        print_found(op, locator_solve(m, LENT(coeffs), cutoff, LENT(to)), to);
     else if (op == SEARCH)
-        print_found(op, locator_search(m, coeffs.at, coeffs.n, to.at, to.n), to);
+        print_found(op, locator_search(m, LENT(coeffs), LENT(to)), to);
     else {
-        uint16_t outcome = locator_begin(m, coeffs.at, coeffs.n, cutoff, to.at, to.n);
+        uint16_t outcome = locator_begin(m, LENT(coeffs), cutoff, LENT(to));
         if (outcome != 0)
             refused(0, to);
         printf("%d %u", op, outcome);
