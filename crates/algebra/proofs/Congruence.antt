@@ -1,11 +1,10 @@
 -- Congruence modulo p: sums, products, repeated squares and traces may be taken of remainders.
 --   Cong         p divides f + g
---   cong-refl, cong-sym, cong-trans   it is an equivalence
+--   cong-refl, cong-trans   it is reflexive and transitive
 --   cong-add     of sums
 --   cong-mul     of products
 --   cong-square  of repeated squares
 --   cong-trace   of f + f^2 + f^4 + ..
---   gcd-cong     congruent polynomials have the same greatest common divisors with p
 -- Assumes nothing.
 use mathlib.Core.Path.{_∙_, _≡_, ap, ap₂, subst, sym}
 use mathlib.Core.List.{List, []}
@@ -44,9 +43,6 @@ module _ {K : Type 0} {F : Ops K} (L : Laws F) where
   pub cong-refl : (p f : List K) → Cong F p f f
   cong-refl p f = subst (λ w. p ∣ w) (times-nought L (coef F p) ∙ sym (plus-self L (coef F f))) (multiple L p [])
 
-  pub cong-sym : {p : List K} (f g : List K) → Cong F p f g → Cong F p g f
-  cong-sym f g h = rw (plus-comm L (coef F f) (coef F g)) at h
-
   pub cong-trans : {p : List K} (f g h : List K) → Cong F p f g → Cong F p g h → Cong F p f h
   cong-trans {p} f g h a b =
       subst (λ w. p ∣ w) (plus-assoc L (coef F f) (coef F g) (coef F g ⊞ coef F h) ∙ ap (λ w. coef F f ⊞ w) (plus-back L (coef F g) (coef F h))) (divides-plus L a b)
@@ -70,6 +66,3 @@ module _ {K : Type 0} {F : Ops K} (L : Laws F) where
   unfolding tracePoly
   cong-trace {p} zero f f′ h = cong-refl p []
   cong-trace (suc j) f f′ h = cong-add f f′ _ _ h (cong-trace j (mul F f f) (mul F f′ f′) (cong-mul f f′ f f′ h h))
-
-  pub gcd-cong : (p t u : List K) {g : Series K} → Cong F p t u → IsGcd F (coef F p) (coef F t) g → IsGcd F (coef F p) (coef F u) g
-  gcd-cong p t u h i = gcd-mod L p h i

@@ -12,7 +12,6 @@
 --   rootsOf-degree      and so any other but 0
 --   monicRoots-root     the roots of a product over roots are those
 --   rootsOf-monicRoots  so `rootsOf` takes the product over an ascending list back to the list
---   monicRoots-equal    and no two ascending lists have the same product
 --   rootsOf-gcd         a greatest common divisor with t keeps the roots at which t is 0
 --   rootsOf-parts       and the cofactor has the others
 --   rootsOf-begin       the part that splits has all the roots
@@ -163,10 +162,6 @@ module _ {G : Ops ℕ} {q : ℕ} (N : OnNumbers G q) where
         λ k. monicRoots-root s h x (k .0) .0 (k .1),
       ))
 
-  -- and no two ascending lists have the same product
-  pub monicRoots-equal : (s t : List ℕ) → Below q s → Below q t → Ascending s → Ascending t → monicRoots G s ≡ monicRoots G t → s ≡ t
-  monicRoots-equal s t hs ht a b e = sym (rootsOf-monicRoots s hs a) ∙ ap (λ p. rootsOf G q (monic G p)) e ∙ rootsOf-monicRoots t ht b
-
   -- ---- greatest common divisors and cofactors
 
   -- a greatest common divisor with t keeps the roots at which t is 0
@@ -250,9 +245,6 @@ module _ {G : Ops ℕ} {q : ℕ} (N : OnNumbers G q) where
   rootsOf-one c h =
       rootsOf-single (monic G (c ∷ [])) (h, (N .one-below, tt)) c h (eval-one c c h h ∙ N .add-self c h)
       (λ z l e. sym (Y.equal-of-sum N c z h l (sym (eval-one c z h l) ∙ e)))
-
-  pub eval-two : (a b x : ℕ) → a < q → b < q → x < q → eval G (monic G (b ∷ a ∷ [])) x ≡ G .add (G .add (G .mul x x) (G .mul a x)) b
-  eval-two a b x ha hb hx = sym (low-eval N ((b, hb) ∷ (a, ha) ∷ K .one ∷ []) (x, hx)) ∙ ap (λ y. y .0) (H.eval-quadratic L (a, ha) (b, hb) (x, hx))
 
   -- where r is a root of z^2 + a z + b, the other is r + a
   pub other-root : (a b r x : ℕ) → a < q → b < q → r < q → x < q → eval G (monic G (b ∷ a ∷ [])) r ≡ G .zero

@@ -71,9 +71,6 @@ module _ {K : Type 0} {F : Ops K} (L : Laws F) where
   unfolding plus
   nought-plus f = fun-ext λ k. zero-add (f k)
 
-  pub plus-nought : (f : Series K) → f ⊞ nought F ≡ f
-  plus-nought f = plus-comm f (nought F) ∙ nought-plus f
-
   pub plus-left-comm : (f g h : Series K) → f ⊞ (g ⊞ h) ≡ g ⊞ (f ⊞ h)
   plus-left-comm f g h = sym (plus-assoc f g h) ∙ ap (λ w. w ⊞ h) (plus-comm f g) ∙ plus-assoc g f h
 

@@ -2,7 +2,7 @@
 --   NAME-below     so it is with NAME, from `add` to `gcd`
 --   eval-below     values
 --   below-at, below-from   by the places, as code reads a slice
---   trace-below, squared-below, power-below   of elements
+--   power-below   of elements
 -- Assumes nothing.
 use mathlib.Core.Path.{_≡_, _∙_, subst}
 use mathlib.Core.Bool.{Bool}
@@ -92,12 +92,6 @@ module _ {G : Ops ℕ} {q : ℕ} (N : OnNumbers G q) where
   pub eval-below : (p : List ℕ) (x : ℕ) → Below q p → x < q → eval G p x < q
   eval-below p x h k = by-elements N (λ p. eval G p x < q) (λ u. subst (λ w. w < q) (low-eval N u (x, k)) (eval (elems N) u (x, k) .1)) p h
 
-  pub trace-below : (j x : ℕ) → x < q → trace G j x < q
-  trace-below j x h = subst (λ w. w < q) (low-trace N j (x, h)) (trace (elems N) j (x, h) .1)
-
-  pub squared-below : (j x : ℕ) → x < q → squared G j x < q
-  squared-below j x h = subst (λ w. w < q) (low-squared N j (x, h)) (squared (elems N) j (x, h) .1)
-
   pub power-below : (x n : ℕ) → x < q → power G x n < q
   power-below x n h = subst (λ w. w < q) (low-power N (x, h) n) (power (elems N) (x, h) n .1)
 
@@ -115,9 +109,6 @@ module _ {G : Ops ℕ} {q : ℕ} (N : OnNumbers G q) where
 
   pub linear-below : (r : ℕ) → r < q → Below q (linear G r)
   linear-below r h = (h, (N .one-below, tt))
-
-  pub fromRoots-below : (s : List ℕ) → Below q s → Below q (fromRoots G s)
-  fromRoots-below = by-elements N (λ s. Below q (fromRoots G s)) (λ u. subst (Below q) (low-fromRoots N u) (below-low N (fromRoots (elems N) u)))
 
   pub frobenius-below : (j : ℕ) (f : List ℕ) → Below q f → Below q (frobenius G j f)
   frobenius-below j = by-elements N (λ f. Below q (frobenius G j f)) (λ u. subst (Below q) (low-frobenius N j u) (below-low N (frobenius (elems N) j u)))

@@ -7,7 +7,6 @@
 --   kept-ascending  the numbers kept ascend
 --   kept-exactly    they are the numbers below n that pass
 --   kept-only       no other ascending list has these members
---   kept-same       tests that agree below n keep the same
 --   all-at, all-map, all-keep        of what holds of all elements
 --   keep-passed, kept-member         what is kept passes, and was there
 --   upFrom-all, upFrom-member, upFrom-ascending, length-upFrom   of numbers in a row
@@ -214,12 +213,6 @@ pub kept-only : (t : ℕ → Bool) (n : ℕ) (l : List ℕ) → Ascending l → 
 kept-only t n l a h =
     ascending-same (keep t (upFrom 0 n)) l (kept-ascending t n) a
     (λ x. (λ m. h x .1 (kept-exactly t n x .0 m), λ m. kept-exactly t n x .1 (h x .0 m)))
-
--- tests that agree below n keep the same
-pub kept-same : (t u : ℕ → Bool) (n : ℕ) → ((x : ℕ) → x < n → T (t x) ↔ T (u x)) → keep t (upFrom 0 n) ≡ keep u (upFrom 0 n)
-kept-same t u n h =
-    kept-only t n (keep u (upFrom 0 n)) (kept-ascending u n)
-    (λ x. (λ m. let k = kept-exactly u n x .0 m in (k .0, h x (k .0) .1 (k .1)), λ k. kept-exactly u n x .1 (k .0, h x (k .0) .0 (k .1))))
 
 -- the same of any list
 pub keep-same : {A : Type 0} (t u : A → Bool) (l : List A) → All (λ x. t x ≡ u x) l → keep t l ≡ keep u l

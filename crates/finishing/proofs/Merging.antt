@@ -32,7 +32,7 @@ use Rattle.groups.specs.Layout.{Factor, degreeSum, blocks, byFactor}
 use Rattle.groups.specs.Table.{Table, encode, decode}
 use Rattle.groups.specs.Splitting.{someZero, slotsDone, slotsRoots}
 use Rattle.groups.proofs.Layouts.{byFactor-lawful}
-use Rattle.groups.proofs.Places.{spare}
+use Rattle.groups.specs.Places.{spare}
 use Rattle.groups.proofs.Soundness.{Fair, Valid, sound-valid, sound-encoded, sound-rules}
 use Rattle.field.specs.Field.{fieldAt}
 use Rattle.field.specs.Tables.{Halves, Logs, Antilogs}

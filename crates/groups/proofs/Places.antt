@@ -1,7 +1,6 @@
 -- Where the first factor above the cutoff stands in the slots of document 01's layout, and a step as a splice: what the code of a step finds and writes.
 --   split-is       a split replaces one entry by its parts and leaves the others untouched;  step-is  so does a step
 --   parts-few      an entry has at most two parts;  parts-some  a factor at least one
---   ahead, beyond  the factors before the first above the cutoff, and those behind it;  place  the slot where it stands
 --   encode-around  the slots around it;  level-at, degree-at, coefficients-at  its own
 --   room           two slots at least are free behind a table that is not done
 --   STEP-SPLICED   the slots after a step: the parts in the factor's place, what is behind moved, and slots 2 and 3
@@ -23,6 +22,7 @@ use Rattle.groups.specs.Entries.{Entry, Halving, unlessEmpty, parts, spl
 use Rattle.groups.specs.Layout.{Factor, blocks, byFactor, degreeSum}
 use Rattle.groups.specs.Table.{Table, slotsFor, encode}
 use Rattle.groups.specs.Splitting.{isDone, firstFactor, stepTable}
+use Rattle.groups.specs.Places.{ahead, beyond, leading, place, slotsOf, spare}
 use Rattle.groups.proofs.Cut.{within, first-above}
 use Rattle.groups.proofs.Steps.{at-above}
 use Rattle.groups.proofs.Layouts.{blocks-append, length-blocks}
@@ -72,30 +72,6 @@ pub parts-some : (H : Halving ℕ) (m : ℕ) → ((i : ℕ) (p : List ℕ) → B
 parts-some H m halves e h = some-degree (parts H e) (omega (arith, parts-sum H m halves e h, h .degree))
 
 -- ---- around the first factor above the cutoff
-
--- those before it
-abbrev pub ahead : Table → List Factor
-ahead t = take (firstAbove (t .cutoff) (t .factors)) (t .factors)
-
--- those behind it
-abbrev pub beyond : Table → List Factor
-beyond t = drop (suc (firstAbove (t .cutoff) (t .factors))) (t .factors)
-
--- the slots in front of it
-abbrev pub leading : Table → List ℕ
-leading t = t .width ∷ t .cutoff ∷ length (t .factors) ∷ t .taken ∷ blocks (ahead t)
-
--- the slot where it stands
-abbrev pub place : Table → ℕ
-place t = length (leading t)
-
--- its own slots
-abbrev pub slotsOf : Factor → List ℕ
-slotsOf e = e .0 ∷ length (e .1) ∷ e .1
-
--- the zeros behind the last factor
-abbrev pub spare : ℕ → Table → ℕ
-spare slots t = slots - length (t .width ∷ t .cutoff ∷ length (t .factors) ∷ t .taken ∷ blocks (t .factors))
 
 one-block : (e : Factor) (l : List Factor) → blocks (e ∷ l) ≡ slotsOf e ++ blocks l
 unfolding blocks

@@ -1,9 +1,7 @@
 -- Which polynomials are accepted, and what is known of them.
 --   polynomial-told             what a polynomial that passed the five tests is
 --   roots-few                   it has no more roots than the limit
---   given-more, out-more        a refusal of the five is given whatever tests follow
 --   passed-more                 where the five pass, the tests that follow decide: by a pass
---   passed-given                or by a refusal
 --   passed-first, passed-rest   and where all pass, the five and those that follow do
 -- Assumes nothing.
 use mathlib.Core.Path.{_≡_, refl, sym, ap, _∙_, subst}
@@ -67,22 +65,9 @@ roots-few {m} {f} t = go (norm (numbers (fieldAt m)) (length f) f) refl
 
 -- ---- further tests behind the five
 
--- a refusal of the five
-pub given-more : (m : ℕ) (cs : List ℕ) (us : List (ℕ × Bool)) {k : ℕ} → Given k (polynomialTests m cs []) → Given k (polynomialTests m cs us)
-given-more m cs us g = given-before us g
-
--- so what turns a polynomial away does so whatever tests follow
-pub out-more : (m : ℕ) (cs : List ℕ) (us : List (ℕ × Bool)) {r : Admission} {k : Refusal} → Admits (polynomialTests m cs []) m r → r ≡ Out k
-    → Admits (polynomialTests m cs us) m r
-out-more m cs us h e = subst (Admits (polynomialTests m cs us) m) (sym e) (given-more m cs us (turned-away m h e))
-
 -- where the five pass, what follows decides: by a pass
 pub passed-more : (m : ℕ) (cs : List ℕ) {us : List (ℕ × Bool)} → Passed (polynomialTests m cs []) → Passed us → Passed (polynomialTests m cs us)
 passed-more m cs p q = passed-both p q
-
--- or by a refusal
-pub passed-given : (m : ℕ) (cs : List ℕ) {us : List (ℕ × Bool)} {k : ℕ} → Passed (polynomialTests m cs []) → Given k us → Given k (polynomialTests m cs us)
-passed-given m cs p g = given-behind p g
 
 -- what the tests of a polynomial with others behind them say: the five pass, and so do the others
 pub passed-first : (m : ℕ) (cs : List ℕ) {us : List (ℕ × Bool)} → Passed (polynomialTests m cs us) → Passed (polynomialTests m cs [])

@@ -4,6 +4,7 @@ pub mod Groups
 pub mod Layout
 pub mod Table
 pub mod Splitting
+pub mod Places
 pub mod Cutoff
 pub mod Demand
 pub mod Limit

@@ -43,7 +43,7 @@ use Rattle.records.specs.Cutoffs.{stated, statedBy, resolved}
 use Rattle.records.specs.declared.Cutoff.{Cutoff}
 use Rattle.records.specs.declared.Cutoff.the-variants.{House, Stated}
 use Rattle.records.specs.Reading.{Outcome, callTests, readAt, Spelled}
-use Rattle.records.specs.Lines.{lineOf, Wrote}
+use Rattle.lines.specs.Lines.{lineOf, Wrote}
 use Rattle.records.proofs.Forward.{accepts}
 use Rattle.jobs.specs.Printing.{cutoffOf, turnedLine, solvedLine, Solvable}
 

@@ -14,7 +14,7 @@ use Rattle.groups.specs.Cutoff.{inForceBy}
 use Rattle.groups.specs.Groups.{groupsAt, groupCount, sumBelow, agrees}
 use Rattle.groups.specs.Groups.{words as bitWords}
 use Rattle.records.specs.Layout.{words}
-use Rattle.records.specs.Lines.{decimalIn, decimal, spaced}
+use Rattle.lines.specs.Lines.{decimalIn, decimal, spaced}
 use Rattle.records.proofs.Example.{sample, sample-reads}
 use Rattle.jobs.specs.Printing.{linesFrom, LinesOf}
 

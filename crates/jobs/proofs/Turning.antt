@@ -16,7 +16,7 @@ use Rattle.slots.proofs.Lists.{pasted-copied}
 use Rattle.records.specs.Layout.{words, part}
 use Rattle.records.specs.Cutoffs.{resolved}
 use Rattle.records.specs.Reading.{Outcome, paper, readAt}
-use Rattle.records.specs.Lines.{Wrote}
+use Rattle.lines.specs.Lines.{Wrote}
 use Rattle.records.specs.declared.Job.{Job}
 use Rattle.records.specs.declared.Read.{Read}
 use Rattle.records.specs.declared.Read.the-variants.{End, Record, Refused, Stopped}

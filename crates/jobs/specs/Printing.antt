@@ -21,7 +21,7 @@ use Rattle.groups.specs.Demand.{stepsAt}
 use Rattle.records.specs.Layout.{words, part}
 use Rattle.records.specs.Reading.{Outcome, callTests, readAt}
 use Rattle.records.specs.Files.{Reads}
-use Rattle.records.specs.Lines.{lineOf}
+use Rattle.lines.specs.Lines.{lineOf}
 use Rattle.jobs.specs.declared.Next.{Next}
 use Rattle.jobs.specs.declared.Next.the-variants.{Over, On}
 use Rattle.jobs.specs.declared.Turn.{Turn}

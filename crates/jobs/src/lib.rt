@@ -4,12 +4,12 @@ ghost use Prim.Native.Nat.{_+_, _≤_, _<_, _^_};
 ghost use lib.ListN.{length};
 ghost use Rattle.refusals.specs.Numbers.{numberOf};
 ghost use Rattle.records.specs.Layout.{words};
-ghost use Rattle.records.specs.Lines.{Wrote};
+ghost use Rattle.lines.specs.Lines.{Wrote};
 ghost use Rattle.jobs.specs.Printing.{turnedLine, solvedLine, Turned, Solvable};
 use finder::Solved;
 use finder::solve;
 use records::Read;
-use records::lines::line;
+use lines::line;
 use refusals::Refusal;
 
 // Where reading goes on, and the number of the record there.

@@ -27,7 +27,8 @@ use Rattle.groups.specs.Splitting.{isDone, firstFactor, slotsDone, slotsStuck, 
 use Rattle.groups.proofs.Layouts.{byFactor-lawful}
 use Rattle.groups.proofs.Soundness.{Valid, sound-valid, sound-encoded}
 use Rattle.groups.proofs.Keeping.{stuck-order}
-use Rattle.groups.proofs.Places.{beyond, leading, place, slotsOf, spare, level-at, encode-around}
+use Rattle.groups.specs.Places.{beyond, leading, place, slotsOf, spare}
+use Rattle.groups.proofs.Places.{level-at, encode-around}
 use Rattle.groups.specs.Limit.{limit, slots, isSound}
 use Rattle.judging.specs.Verdicts.{stepTests}
 use Rattle.judging.specs.Walk.{seek}

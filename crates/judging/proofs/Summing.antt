@@ -19,7 +19,7 @@ use Rattle.groups.specs.Table.{Table, stepLimit, encode, decode}
 use Rattle.groups.proofs.Layouts.{byFactor-lawful}
 use Rattle.groups.proofs.Soundness.{stated-sum, sound-encoded}
 use Rattle.groups.proofs.Scanning.{Passed, scan-exactly, sound-by-pass}
-use Rattle.groups.proofs.Places.{spare}
+use Rattle.groups.specs.Places.{spare}
 use Rattle.groups.specs.Limit.{limit, slots, isSound}
 use Rattle.judging.specs.Walk.{tally}
 use Rattle.judging.specs.Verdicts.{summed}

@@ -16,7 +16,7 @@ use Rattle.refusals.specs.declared.Refusal.{Refusal}
 use Rattle.groups.specs.Layout.{degreeSum, byFactor}
 use Rattle.groups.specs.Table.{decode}
 use Rattle.groups.specs.Splitting.{slotsDone, slotsStuck}
-use Rattle.groups.proofs.Places.{place}
+use Rattle.groups.specs.Places.{place}
 use Rattle.groups.specs.Limit.{slots, isSound}
 use Rattle.judging.specs.declared.Sum.{Sum}
 use Rattle.judging.specs.declared.Sum.the-variants.{Of, Unsound}

@@ -2,14 +2,14 @@
 --   read-back       the answer that an outcome stands for, taken back
 --   read-told       two answers with one outcome are one
 --   read-coincide   so for `read_record`
---   spelled-once, wrote-once   two outcomes of `coefficients`, and of `line`, are one
+--   spelled-once    two outcomes of `coefficients` are one
 -- Assumes nothing.
 use mathlib.Core.Path.{_≡_, refl, sym, ap, _∙_}
 use mathlib.Core.List.{List, [], _∷_}
 use Prim.Native.Nat.{ℕ}
 use Rattle.refusals.proofs.Numbers.{by-number, refused-back}
+use Rattle.refusals.proofs.Told.{told}
 use Rattle.records.specs.Reading.{Outcome, paper, readAt, Spelled}
-use Rattle.records.specs.Lines.{Wrote}
 use Rattle.records.proofs.Cutoffs.{cutoffFrom, cutoff-back}
 use Rattle.records.specs.declared.Read.{Read}
 use Rattle.records.specs.declared.Read.the-variants.{End, Record, Refused, Stopped}
@@ -35,13 +35,10 @@ read-back (Refused k next) = refused-back (λ r. Refused r next) End k
 read-back (Stopped k) = refused-back Stopped End k
 
 pub read-told : (r s : Read) → paper r ≡ paper s → r ≡ s
-read-told r s e = sym (read-back r) ∙ ap answerOf e ∙ read-back s
+read-told = told paper answerOf read-back
 
 pub read-coincide : (file : List ℕ) (at : ℕ) (r s : Read) → paper r ≡ readAt file at → paper s ≡ readAt file at → r ≡ s
 read-coincide file at r s h k = read-told r s (h ∙ sym k)
 
 pub spelled-once : {bytes room : List ℕ} {n m : ℕ} {s t : List ℕ} → Spelled bytes room n s → Spelled bytes room m t → (n ≡ m) × (s ≡ t)
 spelled-once p q = (p .count ∙ sym (q .count), p .slots ∙ sym (q .slots))
-
-pub wrote-once : {text old : List ℕ} {at n m : ℕ} {s t : List ℕ} → Wrote text at old n s → Wrote text at old m t → (n ≡ m) × (s ≡ t)
-wrote-once p q = (p .ended ∙ sym (q .ended), p .bytes ∙ sym (q .bytes))

@@ -1,9 +1,8 @@
--- The three records of document 01, as they are read, and their lines.
+-- The three records of document 01, as they are read.
 --   sample          the file
 --   sample-reads    what reading it gives: a job at 0, a refusal under 1 at 13, and a job at 20 that states no cutoff
---   line-one ..     the lines of its records
 -- Assumes nothing.
-use mathlib.Core.Path.{_≡_, refl}
+use mathlib.Core.Path.{refl}
 use mathlib.Core.List.{List, [], _∷_}
 use Prim.Native.Nat.{ℕ}
 use Rattle.refusals.specs.Order.{decide}
@@ -13,7 +12,6 @@ use Rattle.records.specs.Layout.{words}
 use Rattle.records.specs.Reading.{Outcome, judged, readHere}
 use Rattle.records.specs.Files.{Reads}
 use Rattle.records.specs.Files.Reads.{over, on}
-use Rattle.records.specs.Lines.{decimalIn, decimal, spaced, lineOf}
 
 abbrev pub sample : List ℕ
 sample =
@@ -25,16 +23,3 @@ pub sample-reads : Reads sample 0 (
     Outcome.gives 0 (13 ∷ 4 ∷ 5 ∷ 8 ∷ 1 ∷ []) ∷ Outcome.gives 1 (20 ∷ []) ∷ Outcome.gives 0 (33 ∷ 4 ∷ 25 ∷ 8 ∷ []) ∷ [])
 unfolding readHere judged decide knownIn allBelow words
 sample-reads = on refl (on refl (on refl (over refl)))
-
-pub line-one : lineOf 1 0 4 (1 ∷ 2 ∷ 3 ∷ []) ≡ 49 ∷ 32 ∷ 48 ∷ 32 ∷ 51 ∷ 32 ∷ 52 ∷ 32 ∷ 49 ∷ 32 ∷ 50 ∷ 32 ∷ 51 ∷ 10 ∷ []
-unfolding decimalIn decimal spaced
-line-one = refl
-
-pub line-two : lineOf 2 1 0 [] ≡ 50 ∷ 32 ∷ 49 ∷ 10 ∷ []
-unfolding decimalIn decimal spaced
-line-two = refl
-
--- no roots, and no space behind the steps
-pub line-none : lineOf 120 0 0 [] ≡ 49 ∷ 50 ∷ 48 ∷ 32 ∷ 48 ∷ 32 ∷ 48 ∷ 32 ∷ 48 ∷ 10 ∷ []
-unfolding decimalIn decimal spaced
-line-none = refl

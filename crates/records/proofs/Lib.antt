@@ -7,6 +7,4 @@ pub mod Cutoffs
 pub mod Coincide
 pub mod Whole
 pub mod Exactly
-pub mod Decimal
-pub mod Writing
 pub mod Example

@@ -2,4 +2,3 @@ pub mod Layout
 pub mod Cutoffs
 pub mod Reading
 pub mod Files
-pub mod Lines

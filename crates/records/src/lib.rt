@@ -10,7 +10,6 @@ use refusals::Found;
 use refusals::Refusal;
 
 pub mod held; // a reader that holds the file
-pub mod lines; // the text of a line
 
 // What every record begins with.
 const MARK: [u8; 2] = [0x4C, 0x52];

@@ -6,7 +6,6 @@
 --   pasted-front                    the front of what was pasted upon, to the end of what was pasted
 --   spliced-parts                   splicing, of a list in three parts
 --   take-zeros, drop-zeros          parts of a list of zeros
---   pasted-zeros                    pasting on zeros
 --   spliced-zeros                   splicing a list that ends in zeros: they alone give way
 -- Assumes nothing.
 use mathlib.Core.Path.{_≡_, refl, sym, ap, ap₂, _∙_}
@@ -109,11 +108,6 @@ pub drop-zeros : (k n : ℕ) → drop {A = ℕ} k (replicate n 0) ≡ replicate 
 drop-zeros zero n = rw sub-zero
 drop-zeros (suc k) zero = rw zero-sub
 drop-zeros (suc k) (suc n) = rw suc-sub-suc (drop-zeros k n)
-
--- zeros before, and what is left of them behind
-pub pasted-zeros : (at : ℕ) (w : List ℕ) (n : ℕ) → at ≤ n → pasted at w (replicate n 0) ≡ replicate at 0 ++ (w ++ replicate (n - (at + length w)) 0)
-unfolding pasted
-pasted-zeros at w n h = ap₂ (λ u v. u ++ (w ++ v)) (take-zeros at n h) (drop-zeros (at + length w) n)
 
 -- x before, v old, z behind, and n zeros, which are enough
 pub spliced-zeros : {s : List ℕ} {o old : ℕ} (x v z w : List ℕ) (n : ℕ) → s ≡ x ++ (v ++ (z ++ replicate n 0)) → length x ≡ o → length v ≡ old

@@ -29,7 +29,8 @@ use Rattle.groups.proofs.Layouts.{byFactor-lawful}
 use Rattle.groups.proofs.Soundness.{Valid, sound-valid, sound-encoded, count-within}
 use Rattle.groups.proofs.Fields.{known-field}
 use Rattle.groups.proofs.Keeping.{Free, free, Halves, trace-halves, sound-length, step-slots}
-use Rattle.groups.proofs.Places.{beyond, leading, place, slotsOf, spare, encode-around, level-at, degree-at, coefficients-at, first-fair, room, parts-few, parts-some, length-new, step-spliced}
+use Rattle.groups.specs.Places.{beyond, leading, place, slotsOf, spare}
+use Rattle.groups.proofs.Places.{encode-around, level-at, degree-at, coefficients-at, first-fair, room, parts-few, parts-some, length-new, step-spliced}
 use Rattle.groups.specs.Limit.{limit, slots, isSound}
 use Rattle.judging.specs.Verdicts.{Chosen}
 use Rattle.splitter.specs.Parting.{Splittable, Partable, Parted, Ready, factorAt}

@@ -1,0 +1,2 @@
+-- What is meant: the text of a line.
+pub mod Lines
