@@ -3,17 +3,16 @@
 --   element-given, zero-given   which refusal is given
 --   polynomial-in               all five pass
 -- Assumes nothing.
-use mathlib.Core.Path.{_≡_, sym, ap, _∙_, subst}
+use mathlib.Core.Path.{_≡_, sym, ap, _∙_}
 use mathlib.Core.Bool.{Bool, true, false}
-use mathlib.Core.List.{List, [], _++_}
+use mathlib.Core.List.{List, []}
 use Prim.Native.Nat.{ℕ, suc, _≤_, _<_, _^_}
-use native.Mathlib.Omega.{arith}
 use borrow.Author.Tests.{eq-eqb, ne-eqb, lt-ltb, le-ltb}
 use lib.ListN.{length}
-use Rattle.slots.specs.Bounded.{anyFrom, allBelow, allZero}
+use Rattle.slots.specs.Bounded.{anyFrom, allZero}
 use Rattle.refusals.specs.Order.{Given, Passed}
 use Rattle.refusals.specs.Order.Passed.{none}
-use Rattle.refusals.specs.Rows.{known, IsRow}
+use Rattle.refusals.specs.Rows.{IsRow}
 use Rattle.refusals.specs.declared.Row.{Row}
 use Rattle.refusals.proofs.Order.{holds, fails, passes}
 use Rattle.refusals.proofs.Admitting.{listed-on}

@@ -10,11 +10,10 @@ use mathlib.Core.Path.{_∙_, _≡_, ap, ap₂, subst, sym}
 use mathlib.Core.List.{List, []}
 use Prim.Native.Nat.{suc, zero, ℕ}
 use Rattle.algebra.specs.Field.{Laws, Ops}
-use Rattle.algebra.specs.Polynomial.{Divides, IsGcd, add, coef, frobenius, mul, tracePoly}
-use Rattle.algebra.proofs.Series.{Series, plus, plus-assoc, plus-back, plus-comm, plus-left-comm, plus-self, plus-times, times, times-comm, times-nought}
+use Rattle.algebra.specs.Polynomial.{Divides, add, coef, frobenius, mul, tracePoly}
+use Rattle.algebra.proofs.Series.{Series, plus, plus-assoc, plus-back, plus-left-comm, plus-self, plus-times, times, times-comm, times-nought}
 use Rattle.algebra.proofs.Coefficients.{coef-add, coef-mul}
 use Rattle.algebra.proofs.Divisibility.{divides-plus, divides-times, multiple}
-use Rattle.algebra.proofs.CommonDivisors.{gcd-mod}
 
 abbrev pub Cong : {K : Type 0} (F : Ops K) → List K → List K → List K → Type 0
 Cong F p f g = Divides F p (plus F (coef F f) (coef F g))

@@ -12,39 +12,12 @@ use Prim.Native.Nat.{ℕ, zero, suc, _<_}
 use native.Mathlib.Nat.{not-suc-le-zero, le-of-suc-le-suc}
 use native.Mathlib.Omega.{arith}
 use lib.ListN.{length, getD, take, drop, replicate}
-use Rattle.algebra.specs.Field.{Ops, OnNumbers, power, squared, trace}
+use Rattle.algebra.specs.Field.{Ops, OnNumbers, power}
 use Rattle.algebra.specs.Trial.{upFrom, keep}
-use Rattle.algebra.specs.Polynomial.{eval, isRoot, add, mul, linear, fromRoots, frobenius, tracePoly, fieldPoly, traceOf, Below, rootsOf}
+use Rattle.algebra.specs.Polynomial.{eval, isRoot, add, mul, linear, frobenius, tracePoly, fieldPoly, traceOf, Below, rootsOf}
 use Rattle.algebra.specs.Routines.{monic, rem, quo, square, frobeniusMod, traceMod, norm, cofactor, monicRoots, gcd}
 use Rattle.algebra.proofs.Trial.{all-keep, upFrom-all}
-use Rattle.algebra.proofs.Crossing.{
-  Elem,
-  elems,
-  low,
-  low?,
-  below-low,
-  by-elements,
-  by-two,
-  low-add,
-  low-mul,
-  low-scale,
-  low-eval,
-  low-fromRoots,
-  low-monicRoots,
-  low-rem,
-  low-quo,
-  low-norm,
-  low-gcd,
-  low-cofactor,
-  low-frobenius,
-  low-tracePoly,
-  low-squared,
-  low-trace,
-  low-power,
-  low-square,
-  low-frobeniusMod,
-  low-traceMod,
-}
+use Rattle.algebra.proofs.Crossing.{Elem, elems, low, low?, below-low, by-elements, by-two, low-add, low-mul, low-scale, low-eval, low-fromRoots, low-monicRoots, low-rem, low-quo, low-norm, low-gcd, low-cofactor, low-frobenius, low-tracePoly, low-squared, low-trace, low-power, low-square, low-frobeniusMod, low-traceMod}
 
 -- parts and joins of lists below q
 module _ (q : ℕ) where

@@ -16,8 +16,8 @@ ghost use Rattle.beginning.specs.Calls.{beginOutcome, beginMemory, paper
 ghost use Rattle.beginning.specs.SplitPart.{Residual, Residue, Splittable, SplitOff, Powered, Beginnable, Writable};
 use admitting::admit;
 use admitting::in_force;
-use groups::SLOTS;
 use euclid::gcd;
+use groups::SLOTS;
 use polynomial::monic::make_monic;
 use powers::z_powers;
 use refusals::Admission;

@@ -3,11 +3,11 @@
 --   decides, spares   an outcome and a memory that tests decide
 --   demand-1   it holds of every entry
 -- Assumes nothing.
-use mathlib.Core.Path.{_≡_, sym, ap, subst, _∙_}
+use mathlib.Core.Path.{_≡_, sym, ap, _∙_}
 use mathlib.Core.Bool.{Bool}
-use mathlib.Core.List.{List, [], _∷_}
+use mathlib.Core.List.{List}
 use mathlib.Core.Logic.{_⊎_, inl, inr}
-use Prim.Native.Nat.{ℕ, suc, _<_}
+use Prim.Native.Nat.{ℕ, _<_}
 use native.Mathlib.Omega.{arith}
 use Rattle.refusals.specs.Order.{outcome, memory, Given, Passed}
 use Rattle.refusals.specs.Order.Given.{here, later}

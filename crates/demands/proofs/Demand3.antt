@@ -2,8 +2,8 @@
 --   never-refused  no step on the table of a begun polynomial is refused
 --   demand-3-calls it holds
 -- Assumes nothing.
-use mathlib.Core.Path.{_≡_, refl, sym, ap, subst, _∙_}
-use mathlib.Core.Bool.{Bool, true, false, not, cond, _||_}
+use mathlib.Core.Path.{_≡_, refl, sym, ap, _∙_}
+use mathlib.Core.Bool.{Bool, true, false, not, cond}
 use mathlib.Core.List.{List, [], _∷_}
 use Prim.Native.Nat.{ℕ, zero, suc, _<_, _≤_}
 use native.Mathlib.Decide.{decLe, decLt}
@@ -13,17 +13,17 @@ use lib.Dec.{eqb, ltb}
 use lib.ListN.{length, getD}
 use Rattle.refusals.specs.Order.{Passed}
 use Rattle.refusals.specs.Order.Passed.{none as none-left}
-use Rattle.refusals.proofs.Order.{accepted, written, passes, failed, others}
+use Rattle.refusals.proofs.Order.{accepted, written, passes, failed}
 use Rattle.slots.specs.Lists.{copied}
 use Rattle.groups.specs.Cutoff.{houseDefault, inForce}
 use Rattle.groups.specs.Layout.{byFactor}
 use Rattle.groups.specs.Splitting.{isDone, stuck, rootsAt, slotsDone, slotsStuck, slotsStepped, slotsRoots}
-use Rattle.groups.specs.Demand.{Demand3, stepCount, groupsAfter}
+use Rattle.groups.specs.Demand.{Demand3, groupsAfter}
 use Rattle.groups.proofs.HouseDefault.{inForce-least, inForce-most}
 use Rattle.groups.proofs.Layouts.{byFactor-lawful}
 use Rattle.groups.proofs.Soundness.{done-encode, stuck-encode}
 use Rattle.groups.proofs.Demand.{demand-3, begin-slots}
-use Rattle.groups.specs.Limit.{limit, slots, isSound}
+use Rattle.groups.specs.Limit.{limit, slots}
 use Rattle.judging.specs.Verdicts.{stepTests}
 use Rattle.beginning.specs.Calls.{beginTests, beginMemory}
 use Rattle.splitter.specs.Calls.{stepOutcome, stepMemory}
@@ -32,10 +32,9 @@ use Rattle.groups.specs.Polynomials.{PolynomialIn}
 use Rattle.groups.proofs.Polynomials.{polynomial-told, passed-more, passed-first, passed-rest}
 use Rattle.groups.specs.Demand.{stepsAt}
 use Rattle.finder.specs.Calls.{solveTests}
-use Rattle.groups.specs.RootMemory.{rootMemory}
 use Rattle.finder.specs.Solving.{begunAfter, Stepping}
 use Rattle.finder.proofs.Running.{taken-at, begun-after, long-now, run-on, run-count, out-roots}
-use Rattle.demands.specs.Demand3.{afterSteps, groupsSlots, Followed}
+use Rattle.demands.specs.Demand3.{afterSteps, Followed}
 
 module _ (m c : ℕ) (f table : List ℕ) (p : Passed (beginTests m c f table)) where
   -- the cutoff in force, and the number of steps

@@ -2,11 +2,10 @@
 --   figures-right             the claim
 --   after-three, after-four   the work tables after steps 3 and 4
 -- Assumes nothing.
-use mathlib.Core.Path.{_≡_, refl, sym, ap, ap₂, _∙_, subst}
-use mathlib.Core.Logic.{⊎-elim, _⊎_, inl, inr, _≢_}
+use mathlib.Core.Path.{_≡_, refl, sym, ap, ap₂, _∙_}
 use mathlib.Core.Bool.{Bool, true, false}
 use mathlib.Core.List.{List, [], _∷_}
-use Prim.Native.Nat.{ℕ, zero, suc, _≤_, _<_, _^_}
+use Prim.Native.Nat.{ℕ, _≤_, _<_, _^_}
 use native.Mathlib.Decide.{decLt}
 use native.Mathlib.Omega.{arith}
 use lib.Dec.{lit<, lit≤}
@@ -31,7 +30,7 @@ use Rattle.groups.specs.Table.{encode, decode}
 use Rattle.groups.specs.Splitting.{isDone, rootsAt, slotsBegun, slotsStepped, slotsAfter}
 use Rattle.groups.specs.Demand.{stepCount, groupsAfter}
 use Rattle.groups.proofs.Demand.{demand-3, steps-to-done}
-use Rattle.figures.specs.Figures.{Figure, Right, figures, accepted, refused, wholeField, everyElement, afterSteps, Begins}
+use Rattle.figures.specs.Figures.{Right, figures, accepted, refused, wholeField, everyElement, afterSteps, Begins}
 
 -- ---- field 4: antt computes them
 

@@ -6,12 +6,11 @@
 --   afterSteps   the slots of a begun table after n steps;  Begins  slots begin with a list, and zeros follow
 -- Assumes nothing.
 use mathlib.Core.Path.{_≡_}
-use mathlib.Core.Bool.{Bool, cond}
+use mathlib.Core.Bool.{cond}
 use mathlib.Core.List.{List, [], _∷_, _++_}
 use Prim.Native.Nat.{ℕ, _-_}
 use lib.Dec.{eqb}
 use lib.ListN.{length, replicate}
-use Rattle.groups.specs.Cutoff.{inForce}
 use Rattle.groups.specs.Layout.{byFactor}
 use Rattle.groups.specs.Splitting.{rootsAt, slotsBegun, slotsAfter}
 use Rattle.groups.specs.Limit.{slots}

@@ -1,6 +1,5 @@
 // Finish: the roots of each factor of a done table, merged into the front of the list, ascending and once each.
 ghost use mathlib.Core.Path.{_≡_};
-ghost use lib.ListN.{length};
 ghost use Rattle.finishing.specs.Calls.{finishOutcome, finishMemory, paperFinished};
 ghost use Rattle.finishing.specs.Finishing.{Mergeable, RootsIn, Listable, ListedIn, Lendable, Opens};
 use cubics::small_roots;

@@ -4,7 +4,7 @@
 --   passed-more                 where the five pass, the tests that follow decide: by a pass
 --   passed-first, passed-rest   and where all pass, the five and those that follow do
 -- Assumes nothing.
-use mathlib.Core.Path.{_≡_, refl, sym, ap, _∙_, subst}
+use mathlib.Core.Path.{_≡_, refl, sym, _∙_}
 use mathlib.Core.Bool.{Bool, true, false}
 use mathlib.Core.Option.{Option, none, some}
 use mathlib.Core.List.{List, []}
@@ -19,15 +19,10 @@ use Rattle.algebra.proofs.RootList.{rootsOf-degree}
 use Rattle.algebra.proofs.StaysBelow.{below-from}
 use Rattle.slots.specs.Bounded.{allBelow, allZero}
 use Rattle.slots.proofs.Bounded.{allBelow-exactly}
-use Rattle.refusals.specs.Order.{Given, Passed}
+use Rattle.refusals.specs.Order.{Passed}
 use Rattle.refusals.specs.Order.Passed.{none as none-left}
 use Rattle.refusals.specs.Rows.{known}
-use Rattle.refusals.specs.Admitting.{Admits}
-use Rattle.refusals.specs.declared.Refusal.{Refusal}
-use Rattle.refusals.specs.declared.Admission.{Admission}
-use Rattle.refusals.specs.declared.Admission.the-variants.{Out}
-use Rattle.refusals.proofs.Order.{passes, failed, others, given-before, given-behind, passed-both}
-use Rattle.refusals.proofs.Admitting.{turned-away}
+use Rattle.refusals.proofs.Order.{passes, failed, others, passed-both}
 use Rattle.field.specs.Field.{numbers, fieldAt}
 use Rattle.groups.specs.Limit.{limit}
 use Rattle.groups.specs.Polynomials.{polynomialTests, PolynomialIn}

@@ -8,8 +8,8 @@ ghost use Rattle.lines.specs.Lines.{Wrote};
 ghost use Rattle.jobs.specs.Printing.{turnedLine, solvedLine, Turned, Solvable};
 use finder::Solved;
 use finder::solve;
-use records::Read;
 use lines::line;
+use records::Read;
 use refusals::Refusal;
 
 // Where reading goes on, and the number of the record there.

@@ -2,8 +2,7 @@
 --   line-one, line-two   of the first two;  line-none  of a polynomial with no root
 -- Assumes nothing.
 use mathlib.Core.Path.{_≡_, refl}
-use mathlib.Core.List.{List, [], _∷_}
-use Prim.Native.Nat.{ℕ}
+use mathlib.Core.List.{[], _∷_}
 use Rattle.lines.specs.Lines.{decimalIn, decimal, spaced, lineOf}
 
 pub line-one : lineOf 1 0 4 (1 ∷ 2 ∷ 3 ∷ []) ≡ 49 ∷ 32 ∷ 48 ∷ 32 ∷ 51 ∷ 32 ∷ 52 ∷ 32 ∷ 49 ∷ 32 ∷ 50 ∷ 32 ∷ 51 ∷ 10 ∷ []

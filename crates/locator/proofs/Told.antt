@@ -1,7 +1,7 @@
 -- The C face loses nothing: a struct tells the answer that it was made from.
 --   value-told ..     so for the struct of each answer
 -- Assumes nothing.
-use mathlib.Core.Path.{_≡_, sym, ap, _∙_}
+use mathlib.Core.Path.{_≡_}
 use mathlib.Core.Bool.{cond}
 use Prim.Native.Nat.{ℕ, zero, suc}
 use lib.Dec.{eqb}

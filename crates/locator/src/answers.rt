@@ -15,10 +15,10 @@ use crate::LocatorValue;
 use beginning::Begun;
 use elements::Answer;
 use field::solver::Quadratic;
-use searching::Searched;
 use finder::Solved;
-use refusals::number;
 use finishing::Finished;
+use refusals::number;
+use searching::Searched;
 use splitter::Stepped;
 
 // Of an element call.

@@ -11,7 +11,6 @@ use native.Mathlib.Omega.{arith}
 use lib.Dec.{T, eqb, eqb→eq}
 use Rattle.refusals.specs.Rows.{rows, known, polyOf, knownIn, polyIn, rowIn, Listed, rowAt, IsRow}
 use Rattle.refusals.specs.declared.Row.{Row}
-use Rattle.refusals.specs.declared.Found.{Found}
 use Rattle.refusals.specs.declared.Found.the-variants.{At, Unknown}
 
 module _ (P : ℕ → ℕ → Type 0) (p4 : P 4 19) (p8 : P 8 285) (p11 : P 11 2053) where

@@ -11,10 +11,10 @@ use native.Mathlib.Numerals.{add-one}
 use native.Mathlib.Decide.{ℕ-discrete}
 use native.Mathlib.Omega.{arith}
 use borrow.Author.Tests.{eq-eqb, ne-eqb}
-use lib.Dec.{eqb, lit≤}
+use lib.Dec.{lit≤}
 use lib.ListN.{length, drop, set, length-append, length-set}
 use Rattle.algebra.specs.Trial.{upFrom, keep}
-use Rattle.algebra.specs.Polynomial.{eval, isRoot, rootsOf}
+use Rattle.algebra.specs.Polynomial.{eval, rootsOf}
 use Rattle.refusals.proofs.Rows.{by-row, listed}
 use Rattle.field.specs.Field.{numbers, fieldAt}
 use Rattle.slots.specs.Lists.{copied}

@@ -1,8 +1,6 @@
 -- `elements::quadratic` meets its contract: the tests decide, and the value is that of the shared routine.
 -- Assumes nothing.
-use mathlib.Core.Path.{_≡_, sym, ap, _∙_, subst}
-use mathlib.Core.List.{List, [], _∷_}
-use Prim.Native.Nat.{ℕ}
+use mathlib.Core.Path.{sym, _∙_}
 use borrow.Author.Needs.{needs}
 use Rattle.refusals.proofs.Admitting.{let-in, turned-away}
 use Rattle.elements.proofs.Admitting.{pair-told}

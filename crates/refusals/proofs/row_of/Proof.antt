@@ -1,9 +1,9 @@
 -- `refusals::row_of` meets its contract. The loop's invariant: m is looked for among the rows from i on.
 -- Assumes nothing.
-use mathlib.Core.Path.{_≡_, refl, sym, ap, subst, _∙_}
-use mathlib.Core.Bool.{Bool, true, false, cond}
-use mathlib.Core.List.{List, [], _∷_}
-use Prim.Native.Nat.{ℕ, zero, suc, _+_, _≤_, _<_, _-_, _^_}
+use mathlib.Core.Path.{_≡_, refl, sym, ap, _∙_}
+use mathlib.Core.Bool.{cond}
+use mathlib.Core.List.{[], _∷_}
+use Prim.Native.Nat.{ℕ, zero, suc, _+_, _≤_, _<_, _-_}
 use native.Mathlib.Numerals.{add-one}
 use native.Mathlib.Omega.{arith}
 use borrow.Author.Tests.{eq-eqb, ne-eqb}
@@ -11,7 +11,6 @@ use lib.Dec.{eqb}
 use lib.ListN.{getD, drop}
 use Rattle.refusals.specs.Rows.{rows, rowIn, rowAt}
 use Rattle.refusals.specs.declared.Row.{Row}
-use Rattle.refusals.specs.declared.Found.{Found}
 use Rattle.refusals.specs.declared.Found.the-variants.{At, Unknown}
 use Rattle.refusals.proofs.row_of.Statement.{statement}
 use Rattle.refusals.proofs.row_of.Tie as tie

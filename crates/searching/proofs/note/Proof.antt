@@ -1,7 +1,6 @@
 -- `searching::note` meets its contract.
 -- Assumes nothing.
 use mathlib.Core.Path.{refl}
-use native.Mathlib.Omega.{arith}
 use borrow.Author.Needs.{needs}
 use Rattle.searching.proofs.note.Statement.{statement}
 use Rattle.searching.proofs.note.Tie as tie

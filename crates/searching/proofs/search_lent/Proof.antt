@@ -7,7 +7,7 @@ use native.Mathlib.Omega.{arith}
 use lib.ListN.{length}
 use Rattle.groups.specs.Splitting.{rootsAt}
 use Rattle.searching.specs.Searching.{Tried}
-use Rattle.searching.proofs.Trying.{tried-note, note-room, tried-next, tried-again, tried-end, searched-over, Sizes, sizes}
+use Rattle.searching.proofs.Trying.{tried-note, note-room, tried-next, tried-again, tried-end, searched-over, sizes}
 use Rattle.searching.proofs.search_lent.Statement.{statement}
 use Rattle.searching.proofs.search_lent.Tie as tie
 

@@ -1,10 +1,9 @@
 -- `searching::try_first` meets its contract: the elements below x were tried.
 -- Assumes nothing.
-use mathlib.Core.Path.{_≡_}
-use Prim.Native.Nat.{ℕ, _-_, _≤_}
+use Prim.Native.Nat.{_-_, _≤_}
 use native.Mathlib.Omega.{arith}
 use Rattle.searching.specs.Searching.{Tried}
-use Rattle.searching.proofs.Trying.{tried-from, tried-note, note-room, tried-next, Sizes, sizes}
+use Rattle.searching.proofs.Trying.{tried-from, tried-note, note-room, tried-next, sizes}
 use Rattle.searching.proofs.try_first.Statement.{statement}
 use Rattle.searching.proofs.try_first.Tie as tie
 

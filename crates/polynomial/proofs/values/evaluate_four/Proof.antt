@@ -1,6 +1,6 @@
 -- `polynomial::values::evaluate_four` meets its contract. The loop's invariant: each chain is the value of the coefficients from k on.
 -- Assumes nothing.
-use Prim.Native.Nat.{ℕ, _+_}
+use Prim.Native.Nat.{_+_}
 use native.Mathlib.Omega.{arith}
 use borrow.Author.Needs.{needs}
 use Rattle.polynomial.proofs.Horner.{value-logs, value-fits}
