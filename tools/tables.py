@@ -1,7 +1,7 @@
 #!/usr/bin/env python3
-"""tables DEGREE POLYNOMIAL: the constant tables of a field, as crates/field/src/halves.rt and logtables.rt hold them.
+"""tables DEGREE POLYNOMIAL: the constant tables of a field, as crates/tables/src/halves.rt and logtables.rt hold them.
 
-A new field costs a row in crates/refusals, these tables, and a few lines that name them; the prover tests every entry."""
+A new field costs a row in crates/refusals, these tables, and a few lines that name each (named.rt); the prover tests every entry."""
 import sys
 
 m, poly = int(sys.argv[1]), int(sys.argv[2])
@@ -28,14 +28,13 @@ half = [65535] * size
 for j in range(0, size, 2):
     half[times(j, j) ^ j] = j
 powers = [1]
-while len(powers) < 2 * order:
+while len(powers) < order:
     powers.append(double(powers[-1]))
 log = [2 * order] + [0] * order
 for j in range(order):
     log[powers[j]] = j
-antilog = powers + [0] * order
 
-for name, entries in (("HALF", half), ("LOG", log), ("ANTILOG", antilog)):
+for name, entries in (("HALF", half), ("LOG", log), ("POWER", powers)):
     print(f"pub const {name}{m}: [u16; {len(entries)}] = [")
     for x in entries:
         print(f"    {x},")

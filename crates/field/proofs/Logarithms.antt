@@ -1,27 +1,28 @@
 -- The log and antilog tables, for any field: a test over each table, the law that turns it into the rule at each entry, and the product by logs.
 --   logTest, logs-hold            the log table: along 1, 2, 4, .. the entry at a^j is j
---   antilogTest, antilogs-hold    the antilog table: 1, 2, 4, .. up to twice the order, then zeros
+--   powerTest, powers-hold        the powers: 1, 2, 4, .. ;  antilogs-hold  unrolled they are the antilog table, of length-unrolled
 --   log-lt, log-le                how large a log is
 --   log-product, logs-product     the antilog of the sum of two logs is the product
 -- Assumes nothing.
 use mathlib.Core.Path.{_≡_, refl, sym, ap, ap₂, _∙_, subst}
 use mathlib.Core.Logic.{_⊎_, inl, inr, ⊎-elim, _≢_}
 use mathlib.Core.Bool.{Bool, true, false, cond}
-use mathlib.Core.List.{List, [], _∷_}
+use mathlib.Core.List.{List, [], _∷_, _++_}
 use Prim.Native.Nat.{ℕ, zero, suc, _+_, _-_, _*_, _/_, _%_, _^_, _≤_, _<_}
 use native.Mathlib.Nat.{add-zero, add-suc, suc-add, zero-add, not-suc-le-zero}
 use native.Mathlib.Decide.{decLt}
 use native.Mathlib.Omega.{arith}
 use borrow.Author.Tests.{lt-ltb, le-ltb, eq-eqb, ne-eqb}
 use lib.Dec.{T, eqb, ltb, eqb→eq}
-use lib.ListN.{length, getD}
+use lib.ListN.{length, getD, replicate, length-append, length-replicate, getD-replicate, List·getD-append}
+use lib.Seq.{getD-append-add}
 use Rattle.algebra.specs.Field.{power}
 use Rattle.field.specs.Field.{cut, Field, size, order, mul, numbers, position}
-use Rattle.field.specs.Tables.{logOf, antilogOf, Logs, Antilogs}
+use Rattle.field.specs.Tables.{logOf, antilogOf, Logs, Antilogs, Powers, unrolled}
 use Rattle.field.proofs.Table.{both, both-left, both-right}
 use Rattle.field.proofs.Tree.{Tree, grow, look, look-is}
 use Rattle.field.proofs.Ring.{RingLaws, ring, power-lt, power-add}
-use Rattle.field.proofs.Generator.{Generated, unit, position-is}
+use Rattle.field.proofs.Generator.{Generated, unit, power-order, position-is}
 
 -- the tree holds j, j + 1, .. at y, 2y, .. : n places
 unfoldable pub logsFrom : Field → Tree → ℕ → ℕ → ℕ → Bool
@@ -33,20 +34,20 @@ unfoldable pub logTest : Field → List ℕ → Bool
 unfolding logsFrom grow
 logTest F xs = both (eqb (length xs) (size F)) (both (eqb (getD xs 0 0) (2 * order F)) (logsFrom F (grow (F .degree) xs) (order F) 0 1))
 
-unfoldable pub zeros : List ℕ → Bool
-zeros [] = true
-zeros (x ∷ xs) = both (eqb x 0) (zeros xs)
+-- y, 2y, .. to the end
+unfoldable pub powersFrom : Field → ℕ → List ℕ → Bool
+unfolding cut
+powersFrom F y [] = true
+powersFrom F y (x ∷ xs) = both (eqb x y) (powersFrom F (cut F (y * 2)) xs)
 
--- y, 2y, .. : n entries, and then zeros
-unfoldable pub powersFrom : Field → ℕ → ℕ → List ℕ → Bool
-unfolding cut zeros
-powersFrom F zero y xs = zeros xs
-powersFrom F (suc n) y [] = false
-powersFrom F (suc n) y (x ∷ xs) = both (eqb x y) (powersFrom F n (cut F (y * 2)) xs)
-
-unfoldable pub antilogTest : Field → List ℕ → Bool
+unfoldable pub powerTest : Field → List ℕ → Bool
 unfolding powersFrom
-antilogTest F xs = both (eqb (length xs) (3 * order F)) (powersFrom F (2 * order F) 1 xs)
+powerTest F xs = both (eqb (length xs) (order F)) (powersFrom F 1 xs)
+
+-- the powers twice and as many zeros are three times as many
+pub length-unrolled : (ps : List ℕ) → length (unrolled ps) ≡ 3 * length ps
+unfolding unrolled
+length-unrolled ps = simp (length-append, length-replicate) (omega arith)
 
 -- the log of a nonzero element is its position
 pub log-position : (F : Field) (x : ℕ) → 0 < x → logOf F x ≡ position F x
@@ -54,7 +55,7 @@ unfolding logOf
 log-position F x p = rw (ne-eqb x 0 (λ e. let b : ⊥ = omega arith in b))
 
 module _ (F : Field) (gen : Generated F) where
-  open RingLaws (ring F (gen .monic)) using (mul-zero-l, mul-zero-r, mul-comm, mul-two)
+  open RingLaws (ring F (gen .monic)) using (mul-zero-l, mul-zero-r, mul-one-l, mul-comm, mul-two)
 
   -- twice a power is the next
   power-next : (j : ℕ) → cut F (power (numbers F) 2 j * 2) ≡ power (numbers F) 2 (suc j)
@@ -94,36 +95,54 @@ module _ (F : Field) (gen : Generated F) where
           ∙ zero-add (position F x) ∙ rw (ne-eqb x 0 (λ e. let b : ⊥ = omega arith in b))
 
   -- ---- antilogs
-  zeros-at : (xs : List ℕ) → T (zeros xs) → (k : ℕ) → getD xs k 0 ≡ 0
-  unfolding zeros
-  zeros-at [] h k = refl
-  zeros-at (x ∷ xs) h zero = eqb→eq x 0 (both-left (eqb x 0) (zeros xs) h)
-  zeros-at (x ∷ xs) h (suc k) = zeros-at xs (both-right (eqb x 0) (zeros xs) h) k
-
-  powers-at : (n j : ℕ) (xs : List ℕ) → T (powersFrom F n (power (numbers F) 2 j) xs) → (k : ℕ)
-      → getD xs k 0 ≡ cond (ltb k n) (power (numbers F) 2 (j + k)) 0
+  powers-at : (j : ℕ) (xs : List ℕ) → T (powersFrom F (power (numbers F) 2 j) xs) → (k : ℕ) → k < length xs
+      → getD xs k 0 ≡ power (numbers F) 2 (j + k)
   unfolding powersFrom
-  powers-at zero j xs h k = zeros-at xs h k ∙ rw (le-ltb k 0 (omega arith))
-  powers-at (suc n) j [] h k = absurd h
-  powers-at (suc n) j (x ∷ xs) h zero =
+  powers-at j [] h k l = absurd (not-suc-le-zero l)
+  powers-at j (x ∷ xs) h zero l =
       eqb→eq x (power (numbers F) 2 j) (both-left (eqb x (power (numbers F) 2 j)) _ h) ∙ ap (power (numbers F) 2) (sym (add-zero j))
-      ∙ rw (lt-ltb 0 (suc n) (omega arith))
-  powers-at (suc n) j (x ∷ xs) h (suc k) =
-      powers-at n (suc j) xs
-      (subst (λ (y : ℕ). T (powersFrom F n y xs)) (power-next j) (both-right (eqb x (power (numbers F) 2 j)) _ h)) k
-      ∙ ap₂ (λ (b : Bool) (i : ℕ). cond b (power (numbers F) 2 i) 0) (less (decLt k n)) (suc-add j k ∙ sym (add-suc j k))
-    where
-      less : Dec (k < n) → ltb k n ≡ ltb (suc k) (suc n)
-      less (yes l) = lt-ltb k n l ∙ sym (lt-ltb (suc k) (suc n) (omega arith))
-      less (no l) = le-ltb k n (omega arith) ∙ sym (le-ltb (suc k) (suc n) (omega arith))
+  powers-at j (x ∷ xs) h (suc k) l =
+      powers-at (suc j) xs (subst (λ (y : ℕ). T (powersFrom F y xs)) (power-next j) (both-right (eqb x (power (numbers F) 2 j)) _ h)) k (omega arith)
+      ∙ ap (power (numbers F) 2) (suc-add j k ∙ sym (add-suc j k))
 
-  pub antilogs-hold : (xs : List ℕ) → T (antilogTest F xs) → Antilogs F xs
-  unfolding antilogTest antilogOf power
-  antilogs-hold xs h =
+  pub powers-hold : (xs : List ℕ) → T (powerTest F xs) → Powers F xs
+  unfolding powerTest power
+  powers-hold xs h = record {
+    entries = entries;
+    entry = λ j l. powers-at 0 xs (both-right (eqb (length xs) (order F)) _ h) j (omega (arith, entries)) ∙ ap (power (numbers F) 2) (zero-add j);
+  }
+    where
+      entries : length xs ≡ order F
+      entries = eqb→eq (length xs) (order F) (both-left (eqb (length xs) (order F)) _ h)
+
+  -- the powers come again after the order
+  power-again : (k : ℕ) → power (numbers F) 2 (order F + k) ≡ power (numbers F) 2 k
+  power-again k =
+      power-add F (gen .monic) (unit F gen) 2 (order F) k ∙ ap (λ (x : ℕ). mul F x (power (numbers F) 2 k)) (power-order F gen)
+      ∙ mul-one-l (power (numbers F) 2 k) (power-lt F (gen .monic) (unit F gen) 2 k)
+
+  -- an entry among the first powers, among the second, and among the zeros
+  unrolled-at : (ps : List ℕ) → length ps ≡ order F → ((j : ℕ) → j < order F → getD ps j 0 ≡ power (numbers F) 2 j)
+      → (j : ℕ) → j < 3 * order F → Dec (j < length ps) → Dec (j < length ps + length ps) → getD (unrolled ps) j 0 ≡ antilogOf F j
+  unfolding unrolled antilogOf
+  unrolled-at ps n p j l (yes a) d =
+      List·getD-append ps (ps ++ replicate (length ps) 0) 0 j a ∙ p j (omega arith) ∙ rw (lt-ltb j (2 * order F) (omega arith))
+  unrolled-at ps n p j l (no a) (yes b) =
+      let e : j ≡ length ps + (j - length ps) = omega arith in
+      ap (λ (i : ℕ). getD (ps ++ (ps ++ replicate (length ps) 0)) i 0) e ∙ getD-append-add ps (ps ++ replicate (length ps) 0) (j - length ps) 0
+      ∙ List·getD-append ps (replicate (length ps) 0) 0 (j - length ps) (omega arith) ∙ p (j - length ps) (omega arith) ∙ sym (power-again (j - length ps))
+      ∙ ap (power (numbers F) 2) (let f : order F + (j - length ps) ≡ j = omega arith in f) ∙ rw (lt-ltb j (2 * order F) (omega arith))
+  unrolled-at ps n p j l (no a) (no b) =
+      let k = j - (length ps + length ps) in let e : j ≡ length ps + (length ps + k) = omega arith in
+      ap (λ (i : ℕ). getD (ps ++ (ps ++ replicate (length ps) 0)) i 0) e ∙ getD-append-add ps (ps ++ replicate (length ps) 0) (length ps + k) 0
+      ∙ getD-append-add ps (replicate (length ps) 0) k 0 ∙ getD-replicate (length ps) k 0 0 (omega arith)
+      ∙ rw (le-ltb j (2 * order F) (omega arith))
+
+  pub antilogs-hold : {ps : List ℕ} → Powers F ps → Antilogs F (unrolled ps)
+  antilogs-hold {ps} P =
       record {
-        entries = eqb→eq (length xs) (3 * order F) (both-left (eqb (length xs) (3 * order F)) _ h);
-        entry = λ j l. powers-at (2 * order F) 0 xs (both-right (eqb (length xs) (3 * order F)) _ h) j
-            ∙ ap (λ (i : ℕ). cond (ltb j (2 * order F)) (power (numbers F) 2 i) 0) (zero-add j);
+        entries = length-unrolled ps ∙ ap (λ (n : ℕ). 3 * n) (P .entries);
+        entry = λ j l. unrolled-at ps (P .entries) (P .entry) j l (decLt j (length ps)) (decLt j (length ps + length ps));
       }
 
   -- ---- the product by logs

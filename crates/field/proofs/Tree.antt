@@ -4,7 +4,7 @@
 --   look-is     it is the list's entry
 -- Assumes nothing.
 use mathlib.Core.Path.{_≡_, refl, sym, ap, ap₂, _∙_, subst}
-use mathlib.Core.Bool.{Bool, true, false, cond}
+use mathlib.Core.Bool.{Bool, true, false}
 use mathlib.Core.List.{List, [], _∷_}
 use Prim.Native.Nat.{ℕ, zero, suc, _+_, _*_, _/_, _%_, _^_, _<_}
 use native.Mathlib.Nat.{pow-suc, div-lt-iff-lt-mul, zero-lt-suc, div-add-mod'}
@@ -35,9 +35,10 @@ unfolding evens odds
 grow zero xs = leaf (getD xs 0 0)
 grow (suc n) xs = node (grow n (evens xs)) (grow n (odds xs))
 
+-- `elim`, since its cases wait: the arguments of `cond` would be computed both, so that each look went through the whole tree
 unfoldable pub look : Tree → ℕ → ℕ
 look (leaf v) x = v
-look (node l r) x = cond (eqb (x % 2) 0) (look l (x / 2)) (look r (x / 2))
+look (node l r) x = elim (eqb (x % 2) 0) [ true ↦ look l (x / 2) | false ↦ look r (x / 2) ]
 
 even-at : (xs : List ℕ) (k : ℕ) → getD (evens xs) k 0 ≡ getD xs (k * 2) 0
 unfolding evens
@@ -64,7 +65,7 @@ look-is (suc n) xs x h =
     half = div-lt-iff-lt-mul (zero-lt-suc 1) .1 (subst (λ (t : ℕ). x < t) (pow-suc 2 n) h)
 
     go : look (grow n (evens xs)) (x / 2) ≡ getD (evens xs) (x / 2) 0 → look (grow n (odds xs)) (x / 2) ≡ getD (odds xs) (x / 2) 0
-        → (b : Bool) → eqb (x % 2) 0 ≡ b → cond b (look (grow n (evens xs)) (x / 2)) (look (grow n (odds xs)) (x / 2)) ≡ getD xs x 0
+        → (b : Bool) → eqb (x % 2) 0 ≡ b → elim b [ true ↦ look (grow n (evens xs)) (x / 2) | false ↦ look (grow n (odds xs)) (x / 2) ] ≡ getD xs x 0
     go l r true e =
         l ∙ even-at xs (x / 2) ∙ ap (λ (k : ℕ). getD xs k 0) (let z = eqb-true (x % 2) 0 e in omega (arith, div-add-mod' x 2))
     go l r false e =

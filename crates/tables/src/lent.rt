@@ -1,20 +1,21 @@
-// Tables lent to inner calls: a table is named once, here, and never again (a constant array is built anew wherever it is named).
+// Tables lent to inner calls, which then name none.
 ghost use mathlib.Core.Path.{_≡_};
 ghost use mathlib.Core.Bool.{true};
 ghost use Prim.Native.Nat.{_-_, _*_, _≤_, _^_};
 ghost use lib.ListN.{length, take};
 ghost use Rattle.refusals.specs.Rows.{known};
 ghost use Rattle.field.specs.Field.{fieldAt};
-ghost use Rattle.field.specs.Tables.{Halves, Logs, Antilogs};
-use crate::halves::HALF4;
-use crate::halves::HALF8;
-use crate::halves::HALF11;
-use crate::logtables::ANTILOG4;
-use crate::logtables::ANTILOG8;
-use crate::logtables::ANTILOG11;
-use crate::logtables::LOG4;
-use crate::logtables::LOG8;
-use crate::logtables::LOG11;
+ghost use Rattle.slots.specs.Lists.{copied};
+ghost use Rattle.field.specs.Tables.{Halves, Logs, Antilogs, unrolled};
+use crate::named::halves4;
+use crate::named::halves8;
+use crate::named::halves11;
+use crate::named::logs4;
+use crate::named::logs8;
+use crate::named::logs11;
+use crate::named::powers4;
+use crate::named::powers8;
+use crate::named::powers11;
 
 // Lends the log table of the field of degree m.
 pub fn logs(m: u16, room: &mut [u16])
@@ -22,10 +23,23 @@ pub fn logs(m: u16, room: &mut [u16])
     ensures { λ _. ⌜ Logs (fieldAt m) (take (2 ^ m) (now (room .exit))) × (length (now (room .exit)) ≡ length (now (room .entry))) ⌝ }
 {
     match m {
-        4 => slots::copy(&LOG4, room),
-        8 => slots::copy(&LOG8, room),
-        _ => slots::copy(&LOG11, room),
+        4 => slots::copy(&logs4(), room),
+        8 => slots::copy(&logs8(), room),
+        _ => slots::copy(&logs11(), room),
     }
+}
+
+// Writes the antilog table that the powers make to the front of the room.
+fn unroll(powers: &[u16], room: &mut [u16])
+    requires { ⌜ 3 * length (now powers) ≤ length (now room) ⌝ }
+    ensures { λ _. ⌜ now (room .exit) ≡ copied (unrolled (now (powers .entry))) (now (room .entry)) ⌝ }
+{
+    let n = powers.len();
+    let zeros = n + n;
+    let end = zeros + n;
+    slots::copy(powers, room);
+    slots::paste(room, n, powers);
+    slots::clear(&mut room[zeros..end]);
 }
 
 // Lends the antilog table of the field of degree m.
@@ -34,9 +48,9 @@ pub fn antilogs(m: u16, room: &mut [u16])
     ensures { λ _. ⌜ Antilogs (fieldAt m) (take (3 * (2 ^ m - 1)) (now (room .exit))) × (length (now (room .exit)) ≡ length (now (room .entry))) ⌝ }
 {
     match m {
-        4 => slots::copy(&ANTILOG4, room),
-        8 => slots::copy(&ANTILOG8, room),
-        _ => slots::copy(&ANTILOG11, room),
+        4 => unroll(&powers4(), room),
+        8 => unroll(&powers8(), room),
+        _ => unroll(&powers11(), room),
     }
 }
 
@@ -46,8 +60,8 @@ pub fn halves(m: u16, room: &mut [u16])
     ensures { λ _. ⌜ Halves (fieldAt m) (take (2 ^ m) (now (room .exit))) × (length (now (room .exit)) ≡ length (now (room .entry))) ⌝ }
 {
     match m {
-        4 => slots::copy(&HALF4, room),
-        8 => slots::copy(&HALF8, room),
-        _ => slots::copy(&HALF11, room),
+        4 => slots::copy(&halves4(), room),
+        8 => slots::copy(&halves8(), room),
+        _ => slots::copy(&halves11(), room),
     }
 }

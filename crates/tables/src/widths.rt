@@ -5,12 +5,12 @@ ghost use Prim.Native.Nat.{_<_, _^_};
 ghost use Rattle.refusals.specs.Rows.{known};
 ghost use Rattle.field.specs.Field.{fieldAt, mul, inverse, position};
 ghost use Rattle.field.specs.Quadratics.{paperRoots, rootsOfQuadratic};
-use crate::halves::HALF4;
-use crate::halves::HALF8;
-use crate::halves::HALF11;
-use crate::logtables::LOG4;
-use crate::logtables::LOG8;
-use crate::logtables::LOG11;
+use crate::named::halves4;
+use crate::named::halves8;
+use crate::named::halves11;
+use crate::named::logs4;
+use crate::named::logs8;
+use crate::named::logs11;
 use field::arithmetic::position_of;
 use field::arithmetic::product_of;
 use field::division::inverse_of;
@@ -45,14 +45,14 @@ impl F4 {
         requires { do ⌜ (0 < r) × (r < (← ⟦F4::SIZE⟧)) ⌝ }
         ensures { λ j. ⌜ j ≡ position (fieldAt 4) r ⌝ }
     {
-        position_of(F4::DEGREE, F4::POLY, &LOG4, r)
+        position_of(F4::DEGREE, F4::POLY, &logs4(), r)
     }
 
     pub fn roots(a: u16, b: u16) -> Quadratic
         requires { do ⌜ (a < (← ⟦F4::SIZE⟧)) × (b < (← ⟦F4::SIZE⟧)) ⌝ }
         ensures { λ r. ⌜ paperRoots r ≡ (0, rootsOfQuadratic (fieldAt 4) a b) ⌝ }
     {
-        quadratic_of(F4::DEGREE, F4::POLY, &HALF4, a, b)
+        quadratic_of(F4::DEGREE, F4::POLY, &halves4(), a, b)
     }
 }
 
@@ -84,14 +84,14 @@ impl F8 {
         requires { do ⌜ (0 < r) × (r < (← ⟦F8::SIZE⟧)) ⌝ }
         ensures { λ j. ⌜ j ≡ position (fieldAt 8) r ⌝ }
     {
-        position_of(F8::DEGREE, F8::POLY, &LOG8, r)
+        position_of(F8::DEGREE, F8::POLY, &logs8(), r)
     }
 
     pub fn roots(a: u16, b: u16) -> Quadratic
         requires { do ⌜ (a < (← ⟦F8::SIZE⟧)) × (b < (← ⟦F8::SIZE⟧)) ⌝ }
         ensures { λ r. ⌜ paperRoots r ≡ (0, rootsOfQuadratic (fieldAt 8) a b) ⌝ }
     {
-        quadratic_of(F8::DEGREE, F8::POLY, &HALF8, a, b)
+        quadratic_of(F8::DEGREE, F8::POLY, &halves8(), a, b)
     }
 }
 
@@ -123,14 +123,14 @@ impl F11 {
         requires { do ⌜ (0 < r) × (r < (← ⟦F11::SIZE⟧)) ⌝ }
         ensures { λ j. ⌜ j ≡ position (fieldAt 11) r ⌝ }
     {
-        position_of(F11::DEGREE, F11::POLY, &LOG11, r)
+        position_of(F11::DEGREE, F11::POLY, &logs11(), r)
     }
 
     pub fn roots(a: u16, b: u16) -> Quadratic
         requires { do ⌜ (a < (← ⟦F11::SIZE⟧)) × (b < (← ⟦F11::SIZE⟧)) ⌝ }
         ensures { λ r. ⌜ paperRoots r ≡ (0, rootsOfQuadratic (fieldAt 11) a b) ⌝ }
     {
-        quadratic_of(F11::DEGREE, F11::POLY, &HALF11, a, b)
+        quadratic_of(F11::DEGREE, F11::POLY, &halves11(), a, b)
     }
 }
 

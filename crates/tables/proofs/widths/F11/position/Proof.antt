@@ -1,24 +1,23 @@
--- `tables::widths::F11::position` meets its contract: one test over the whole log table.
+-- `tables::widths::F11::position` meets its contract: the table is the log table.
 -- Assumes nothing.
 use borrow.Author.Needs.{needs}
 use Rattle.refusals.specs.Rows.{polyIn}
-use Rattle.refusals.proofs.Rows.{row11}
-use Rattle.field.specs.Field.{fieldOf}
-use Rattle.field.proofs.Generator.{generated}
-use Rattle.field.proofs.Logarithms.{logTest, logs-hold}
 use Rattle.tables.proofs.widths.F11.position.Statement.{statement}
 use Rattle.tables.proofs.widths.F11.position.Tie as tie
+
+logs11-requires : tie.Need-logs11-requires
+logs11-requires c κs = search needs
 
 slice-aggregate-position-of : tie.Need-slice-aggregate-position-of
 slice-aggregate-position-of c = search needs
 
 position-of-requires : tie.Need-position-of-requires
-unfolding logTest
-position-of-requires c κs = (logs-hold (fieldOf 11 2053) (generated row11) _ tt, c .before .pre .0, c .before .pre .1)
+unfolding polyIn
+position-of-requires c κs = (c .before .logs11 .ensures, c .before .before .pre .0, c .before .before .pre .1)
 
 returns : tie.Need-returns
 unfolding polyIn
 returns c = c .position-of .ensures
 
 pub position-spec : {M : Type 1} → statement M
-position-spec = tie.close (tie.spec slice-aggregate-position-of position-of-requires returns)
+position-spec = tie.close (tie.spec logs11-requires slice-aggregate-position-of position-of-requires returns)

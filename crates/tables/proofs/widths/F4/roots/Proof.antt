@@ -1,24 +1,24 @@
--- `tables::widths::F4::roots` meets its contract: one test over the whole quadratic table.
+-- `tables::widths::F4::roots` meets its contract: the table is the quadratic table.
 -- Assumes nothing.
 use borrow.Author.Needs.{needs}
 use Rattle.refusals.specs.Rows.{polyIn}
 use Rattle.refusals.proofs.Rows.{row4}
-use Rattle.field.specs.Field.{fieldOf}
-use Rattle.field.proofs.Generator.{generated}
-use Rattle.field.proofs.HalfRoots.{halfRoots, halves-hold}
 use Rattle.tables.proofs.widths.F4.roots.Statement.{statement}
 use Rattle.tables.proofs.widths.F4.roots.Tie as tie
+
+halves4-requires : tie.Need-halves4-requires
+halves4-requires c κs = search needs
 
 slice-aggregate-quadratic-of : tie.Need-slice-aggregate-quadratic-of
 slice-aggregate-quadratic-of c = search needs
 
 quadratic-of-requires : tie.Need-quadratic-of-requires
-unfolding halfRoots
-quadratic-of-requires c κs = (row4, halves-hold (fieldOf 4 19) (generated row4) _ tt, c .before .pre .0, c .before .pre .1)
+unfolding polyIn
+quadratic-of-requires c κs = (row4, c .before .halves4 .ensures, c .before .before .pre .0, c .before .before .pre .1)
 
 returns : tie.Need-returns
 unfolding polyIn
 returns c = c .quadratic-of .ensures
 
 pub roots-spec : {M : Type 1} → statement M
-roots-spec = tie.close (tie.spec slice-aggregate-quadratic-of quadratic-of-requires returns)
+roots-spec = tie.close (tie.spec halves4-requires slice-aggregate-quadratic-of quadratic-of-requires returns)
