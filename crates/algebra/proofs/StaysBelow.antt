@@ -17,7 +17,7 @@ use Rattle.algebra.specs.Trial.{upFrom, keep}
 use Rattle.algebra.specs.Polynomial.{eval, isRoot, add, mul, linear, frobenius, tracePoly, fieldPoly, traceOf, Below, rootsOf}
 use Rattle.algebra.specs.Routines.{monic, rem, quo, square, frobeniusMod, traceMod, norm, cofactor, monicRoots, gcd}
 use Rattle.algebra.proofs.Trial.{all-keep, upFrom-all}
-use Rattle.algebra.proofs.Crossing.{Elem, elems, low, low?, below-low, by-elements, by-two, low-add, low-mul, low-scale, low-eval, low-fromRoots, low-monicRoots, low-rem, low-quo, low-norm, low-gcd, low-cofactor, low-frobenius, low-tracePoly, low-squared, low-trace, low-power, low-square, low-frobeniusMod, low-traceMod}
+use Rattle.algebra.proofs.Crossing.{Elem, elems, low, low?, below-low, by-elements, by-two, low-add, low-mul, low-scale, low-eval, low-monicRoots, low-rem, low-quo, low-norm, low-gcd, low-cofactor, low-frobenius, low-tracePoly, low-power, low-square, low-frobeniusMod, low-traceMod}
 
 -- parts and joins of lists below q
 module _ (q : ℕ) where

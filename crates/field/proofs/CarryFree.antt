@@ -1,13 +1,13 @@
 -- The natural numbers are a commutative ring under exclusive or and the carry-free product. No law has a bound.
 -- Assumes nothing.
-use mathlib.Core.Path.{_≡_, refl, sym, ap, ap₂, _∙_, subst}
-use Prim.Native.Nat.{ℕ, zero, suc, _+_, _*_, _/_, _%_, _≤_, _<_}
+use mathlib.Core.Path.{_≡_, refl, sym, ap, ap₂, _∙_}
+use Prim.Native.Nat.{ℕ, _*_, _/_, _%_}
 use native.Mathlib.Nat.{one-mul, mul-one, zero-mul, mul-zero, mul-assoc}
 use lib.Arith.{bin-ind}
-use lib.Bits.{bitXor, xor-comm, xor-zero-r}
+use lib.Bits.{bitXor, xor-zero-r}
 use Rattle.field.specs.Field.{horner, carryFree}
 use Rattle.field.proofs.Digits.{bit-cases, half-double, digit-double, horner-step}
-use Rattle.field.proofs.Xor.{xor-assoc, xor-swap, xor-double, xor-digits}
+use Rattle.field.proofs.Xor.{xor-swap, xor-double, xor-digits}
 
 -- the product by one digit more
 pub carryFree-step : (a b : ℕ) → carryFree a b ≡ bitXor (a % 2 * b) (carryFree (a / 2) b * 2)

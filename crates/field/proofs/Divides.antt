@@ -4,18 +4,18 @@
 --   unit-divisor      what divides 1 is 1
 --   reduce-quotient   reduce F x is x plus a multiple of the polynomial
 -- Assumes nothing.
-use mathlib.Core.Path.{_≡_, refl, sym, ap, ap₂, _∙_, subst}
+use mathlib.Core.Path.{_≡_, sym, ap, ap₂, _∙_, subst}
 use Prim.Native.Nat.{ℕ, zero, suc, _+_, _*_, _/_, _%_, _^_, _≤_, _<_}
-use native.Mathlib.Nat.{mod-lt, zero-lt-suc, div-eq-of-lt, div-add-mod', pow-suc, one-mul, zero-mul, div-div-eq-div-mul, div-lt-iff-lt-mul, zero-add, suc-add, mul-comm}
+use native.Mathlib.Nat.{mod-lt, zero-lt-suc, div-eq-of-lt, pow-suc, div-div-eq-div-mul, div-lt-iff-lt-mul, zero-add, suc-add, mul-comm}
 use native.Mathlib.Decide.{decLt}
 use native.Mathlib.Omega.{arith}
 use lib.Arith.{bin-ind}
-use lib.Bits.{bitXor, xor-comm, xor-shr, xor-shifted, xor-zero-r}
+use lib.Bits.{bitXor, xor-comm, xor-shr, xor-shifted}
 use lib.Pow.{pow-pos, pow-mono}
 use Rattle.field.specs.Field.{carryFree, cut, reduce, Field, size}
-use Rattle.field.proofs.Digits.{bit-cases, digit-mul-le}
+use Rattle.field.proofs.Digits.{digit-mul-le}
 use Rattle.field.proofs.Xor.{xor-assoc, xor-double, xor-digits}
-use Rattle.field.proofs.CarryFree.{carryFree-step, carryFree-zero-l, carryFree-zero-r, carryFree-comm, carryFree-one-l, carryFree-digit, carryFree-double-r, carryFree-xor-r, carryFree-xor-l, carryFree-assoc}
+use Rattle.field.proofs.CarryFree.{carryFree-step, carryFree-zero-l, carryFree-zero-r, carryFree-comm, carryFree-one-l, carryFree-digit, carryFree-double-r, carryFree-xor-r, carryFree-assoc}
 use Rattle.field.proofs.Reduce.{reduce-zero, reduce-step}
 
 pub record Divides (d x : ℕ) : Type 0 where

@@ -1,25 +1,24 @@
 -- The powers of 2 run through every nonzero element, each once in 2^m - 1 steps. So each nonzero element has an inverse, and a product is 0 only
 -- where a factor is. What a field must pass for this is one test that antt computes: 2, 4, 8, .. come to 1 first at the power 2^m - 1.
 -- Assumes nothing.
-use mathlib.Core.Path.{_≡_, refl, sym, ap, ap₂, _∙_, subst}
-use mathlib.Core.Logic.{_⊎_, inl, inr, ⊎-elim, _≢_}
-use mathlib.Core.Bool.{Bool, true, false, not}
+use mathlib.Core.Path.{_≡_, refl, sym, ap, _∙_, subst}
+use mathlib.Core.Logic.{_⊎_, inl, inr, _≢_}
+use mathlib.Core.Bool.{Bool, not}
 use Prim.Native.Nat.{ℕ, zero, suc, _+_, _-_, _*_, _/_, _%_, _^_, _≤_, _<_}
-use native.Mathlib.Nat.{zero-add, add-zero, suc-add, add-suc, mul-comm as times-comm, not-suc-le-zero, mod-lt, mod-eq-of-lt}
-use native.Mathlib.Decide.{decLt, ℕ-discrete}
+use native.Mathlib.Nat.{add-zero, suc-add, add-suc, mul-comm as times-comm, not-suc-le-zero, mod-lt, mod-eq-of-lt}
+use native.Mathlib.Decide.{decLt}
 use native.Mathlib.Omega.{arith}
-use lib.Bits.{bitXor}
 use lib.Dec.{T, T-not, eqb, eqb→eq, eqb-refl, lit<, lit≤}
 use lib.Pow.{pow-pos}
 use Rattle.algebra.specs.Field.{power}
 use Rattle.algebra.specs.Trial.{firstFrom}
-use Rattle.algebra.proofs.Trial.{first-found, first-only}
+use Rattle.algebra.proofs.Trial.{first-only}
 use Rattle.refusals.specs.Rows.{Listed}
 use Rattle.refusals.proofs.Rows.{by-row}
 use Rattle.field.specs.Field.{cut, Field, size, order, mul, numbers, inverse, position, fieldOf}
 use Rattle.field.proofs.Table.{both, both-left, both-right}
 use Rattle.field.proofs.Pigeonhole.{onto}
-use Rattle.field.proofs.Ring.{RingLaws, ring, Monic, mul-lt, power-lt, power-add, power-mul}
+use Rattle.field.proofs.Ring.{RingLaws, ring, Monic, power-lt, power-add, power-mul}
 
 -- x, 2x, 4x, .. are not 1 for n steps, and 1 at the next
 unfoldable pub firstOne : Field → ℕ → ℕ → Bool

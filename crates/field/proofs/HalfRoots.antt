@@ -1,16 +1,16 @@
 -- The quadratic table's rule, for any field: one test over the table, and the law that turns it into the rule at each entry. The test goes by
 -- the values of j^2 + j and of the trace at 1, 2, 4, .. alone.
 -- Assumes nothing.
-use mathlib.Core.Path.{_≡_, refl, sym, ap, ap₂, _∙_, subst}
-use mathlib.Core.Logic.{_⊎_, inl, inr, ⊎-elim, _≢_}
+use mathlib.Core.Path.{_≡_, refl, sym, ap, _∙_, subst}
+use mathlib.Core.Logic.{inl, inr}
 use mathlib.Core.Bool.{Bool, true, false}
-use mathlib.Core.List.{List, [], _∷_}
-use Prim.Native.Nat.{ℕ, zero, suc, _+_, _*_, _/_, _%_, _^_, _≤_, _<_}
-use lib.Bits.{bitXor, xor-self}
+use mathlib.Core.List.{List}
+use Prim.Native.Nat.{ℕ, _%_, _<_}
+use lib.Bits.{bitXor}
 use lib.Dec.{T, eqb, ltb, eqb→eq, ltb→lt}
 use lib.ListN.{length, getD}
 use Rattle.algebra.specs.Field.{trace}
-use Rattle.field.specs.Field.{Field, size, mul, numbers, Tr}
+use Rattle.field.specs.Field.{Field, size, mul, Tr}
 use Rattle.field.specs.Tables.{HalfRoot, Halves}
 use Rattle.field.proofs.Table.{both, both-left, both-right, every, at}
 use Rattle.field.proofs.Xor.{xor-swap}

@@ -3,8 +3,8 @@
 --   squared-size     x^(2^m) = x, by m squarings
 --   power-low        below the degree, a power of 2 in the field is the number 2^i
 -- Assumes nothing.
-use mathlib.Core.Path.{_≡_, refl, sym, ap, _∙_, subst}
-use Prim.Native.Nat.{ℕ, zero, suc, _^_, _<_}
+use mathlib.Core.Path.{_≡_, refl, sym, _∙_, subst}
+use Prim.Native.Nat.{ℕ, _^_, _<_}
 use native.Mathlib.Omega.{arith}
 use lib.Bits.{xor-comm, xor-self, xor-lt}
 use lib.Dec.{T, eqb, eqb→eq}

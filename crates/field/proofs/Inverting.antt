@@ -6,8 +6,8 @@
 use mathlib.Core.Path.{_≡_, refl, sym, ap, ap₂, _∙_, subst}
 use mathlib.Core.Logic.{_≢_, _⊎_, inl, inr}
 use mathlib.Core.Bool.{Bool, true, false}
-use Prim.Native.Nat.{ℕ, zero, suc, _+_, _-_, _*_, _/_, _%_, _^_, _≤_, _<_}
-use native.Mathlib.Nat.{one-mul, zero-mul, mul-comm as times-comm, div-lt-iff-lt-mul, div-eq-of-lt, div-add-mod', pow-suc, mod-lt, zero-lt-suc}
+use Prim.Native.Nat.{ℕ, suc, _+_, _-_, _*_, _/_, _%_, _≤_, _<_}
+use native.Mathlib.Nat.{one-mul, zero-mul, mul-comm as times-comm, div-lt-iff-lt-mul, div-eq-of-lt, div-add-mod', pow-suc, zero-lt-suc}
 use native.Mathlib.Decide.{decLt}
 use native.Mathlib.Omega.{arith}
 use lib.Bits.{bitXor, differ, xor-comm, xor-self, xor-shr, xor-lt, xor-add-and}
@@ -18,9 +18,8 @@ use Rattle.field.specs.Field.{carryFree, cut, reduce, Field, size, mul, 
 use Rattle.field.specs.Division.{halfOf, joinedIf, joinedOf, halvedOf}
 use Rattle.field.specs.declared.division.Euclid.{Euclid}
 use Rattle.field.proofs.Digits.{bit-cases, digit-mul-le}
-use Rattle.field.proofs.Xor.{xor-assoc, xor-cancel, xor-digit, xor-equal}
-use Rattle.field.proofs.CarryFree.{carryFree-comm}
-use Rattle.field.proofs.Reduce.{reduce-xor, reduce-double, reduce-below, reduce-step, reduce-lt, cut-below}
+use Rattle.field.proofs.Xor.{xor-cancel, xor-digit, xor-equal}
+use Rattle.field.proofs.Reduce.{reduce-xor, reduce-double, reduce-below, reduce-step, reduce-lt}
 use Rattle.field.proofs.Ring.{RingLaws, ring, Monic}
 use Rattle.field.proofs.Generator.{Generated, unit, cancel, mul-inverse, inverse-only}
 use Rattle.field.proofs.Divides.{Divides, divides-self, divides-xor, divides-double, divides-times, unit-divisor, reduce-quotient}

@@ -3,11 +3,11 @@
 --   Squaring   square root: y is b^(2^i)
 -- Assumes nothing.
 use mathlib.Core.Path.{_≡_, refl, sym, ap, ap₂, _∙_, subst}
-use Prim.Native.Nat.{ℕ, zero, suc, _+_, _-_, _*_, _/_, _%_, _<_, _≤_}
+use Prim.Native.Nat.{ℕ, zero, suc, _+_, _-_, _*_, _/_, _%_, _<_}
 use native.Mathlib.Numerals.{add-one}
 use native.Mathlib.Omega.{arith}
 use lib.Bits.{bitXor, xor-comm, xor-lt, xor-zero-r}
-use Rattle.algebra.specs.Field.{power, squared}
+use Rattle.algebra.specs.Field.{squared}
 use Rattle.field.specs.Field.{cut, Field, size, mul, numbers}
 use Rattle.field.proofs.Digits.{digit-mul-le}
 use Rattle.field.proofs.Xor.{xor-assoc}

@@ -1,13 +1,13 @@
 -- The product of a field is commutative and associative and distributes over the sum, with no bound on its arguments; 1 is its unit below 2^m.
 -- All that is asked is that the polynomial has the field's degree.
 -- Assumes nothing.
-use mathlib.Core.Path.{_≡_, refl, sym, ap, ap₂, _∙_, subst}
-use Prim.Native.Nat.{ℕ, zero, suc, _+_, _*_, _/_, _%_, _^_, _≤_, _<_}
+use mathlib.Core.Path.{_≡_, sym, ap, ap₂, _∙_}
+use Prim.Native.Nat.{ℕ, zero, suc, _+_, _*_, _/_, _%_, _<_}
 use native.Mathlib.Nat.{zero-mul, one-mul, zero-add, suc-add, mul-zero, mul-suc}
-use lib.Bits.{bitXor, xor-comm, xor-self, xor-zero-r}
+use lib.Bits.{bitXor}
 use Rattle.algebra.specs.Field.{power}
 use Rattle.field.specs.Field.{carryFree, cut, reduce, Field, size, mul, numbers}
-use Rattle.field.proofs.Xor.{xor-assoc, xor-cancel, xor-swap, xor-digits}
+use Rattle.field.proofs.Xor.{xor-assoc, xor-cancel, xor-digits}
 use Rattle.field.proofs.Digits.{bit-cases}
 use Rattle.field.proofs.CarryFree.{carryFree-zero-l, carryFree-comm, carryFree-assoc, carryFree-xor-r, carryFree-one-l, carryFree-double-l, carryFree-double-r}
 use Rattle.field.proofs.Reduce.{reduce-zero, reduce-xor, reduce-double, reduce-below, reduce-lt, reduce-left, reduce-right}

@@ -3,24 +3,23 @@
 --   half-root-unique   the quadratic table's rule leaves one number at each place
 --   answer-none, answer-up, answer-down, one-root   the list of all roots, by the table's entry, as the solver goes by it
 -- Assumes nothing.
-use mathlib.Core.Path.{_≡_, refl, sym, ap, ap₂, _∙_, subst}
+use mathlib.Core.Path.{_≡_, sym, ap, ap₂, _∙_, subst}
 use mathlib.Core.Logic.{_⊎_, inl, inr, ⊎-elim, _≢_}
-use Prim.Native.Nat.{ℕ, zero, suc, _+_, _*_, _/_, _%_, _^_, _≤_, _<_}
+use Prim.Native.Nat.{ℕ, _%_, _≤_, _<_}
 use native.Mathlib.Omega.{arith}
 use lib.Bits.{bitXor, differ, xor-comm, xor-self, xor-lt, xor-zero-r}
 use Rattle.field.specs.Field.{Field, size, mul, Tr}
 use Rattle.field.specs.Tables.{HalfRoot}
 use mathlib.Core.Logic.{_↔_}
-use mathlib.Core.List.{List, [], _∷_, List·Memᴰ, List·Memᴰ·cases-cons, List·Memᴰ·not-nil, List·Memᴰ·head, List·Memᴰ·tail}
-use lib.Dec.{T, eqb, eqb→eq, eqb-refl}
-use Rattle.algebra.specs.Trial.{Ascending}
+use mathlib.Core.List.{[], _∷_, List·Memᴰ·cases-cons, List·Memᴰ·not-nil, List·Memᴰ·head, List·Memᴰ·tail}
+use lib.Dec.{T, eqb, eqb→eq}
 use Rattle.algebra.specs.Polynomial.{eval, isRoot, rootsOf}
 use Rattle.algebra.proofs.Trial.{kept-only}
 use Rattle.field.specs.Field.{numbers}
 use Rattle.field.specs.Quadratics.{rootsOfQuadratic}
-use Rattle.field.proofs.Xor.{xor-assoc, xor-cancel, xor-equal, xor-swap, xor-digit}
+use Rattle.field.proofs.Xor.{xor-cancel, xor-equal, xor-digit}
 use Rattle.field.proofs.Ring.{RingLaws, ring}
-use Rattle.field.proofs.Generator.{Generated, unit, zero-product, mul-inverse}
+use Rattle.field.proofs.Generator.{Generated, unit, zero-product}
 use Rattle.field.proofs.Trace.{trace-xor, trace-of-square}
 use Rattle.field.proofs.HalfRoots.{quad, quad-xor}
 

@@ -1,10 +1,10 @@
 -- The trace is additive, is 0 or 1, and its bits Tr(x), Tr(ax), .. tell any two elements apart.
 -- Assumes nothing.
 use mathlib.Core.Path.{_≡_, refl, sym, ap, ap₂, _∙_, subst}
-use mathlib.Core.Logic.{_⊎_, inl, inr, ⊎-elim, _≢_}
-use Prim.Native.Nat.{ℕ, zero, suc, _+_, _-_, _*_, _/_, _%_, _^_, _≤_, _<_}
+use mathlib.Core.Logic.{_⊎_, inl, inr, ⊎-elim}
+use Prim.Native.Nat.{ℕ, zero, suc, _-_, _*_, _^_, _<_}
 use native.Mathlib.Nat.{pow-suc, mul-comm as times-comm}
-use native.Mathlib.Decide.{decLt, ℕ-discrete}
+use native.Mathlib.Decide.{decLt}
 use native.Mathlib.Omega.{arith}
 use lib.Bits.{bitXor, xor-comm, xor-self, xor-zero-r, xor-lt}
 use lib.Dec.{lit<}
@@ -15,8 +15,8 @@ use Rattle.refusals.proofs.Rows.{by-row}
 use Rattle.field.specs.Field.{cut, Field, size, mul, numbers, inverse, Tr, fieldOf}
 use Rattle.field.proofs.Xor.{xor-assoc, xor-cancel, xor-swap, xor-equal}
 use Rattle.field.proofs.Reduce.{cut-below}
-use Rattle.field.proofs.Additive.{Additive, agree, additive-zero}
-use Rattle.field.proofs.Ring.{RingLaws, ring, Monic, power-lt, power-mul}
+use Rattle.field.proofs.Additive.{Additive, agree}
+use Rattle.field.proofs.Ring.{RingLaws, ring, power-lt, power-mul}
 use Rattle.field.proofs.Generator.{Generated, generated, unit, power-size, mul-inverse, zero-product}
 
 module _ (F : Field) (gen : Generated F) where

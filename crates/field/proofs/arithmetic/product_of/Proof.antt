@@ -1,9 +1,8 @@
 -- `field::arithmetic::product_of` meets its contract. The loop keeps what `Halfway` says, and what is left of the first factor falls.
 -- Assumes nothing.
-use mathlib.Core.Path.{_≡_, refl, sym, subst}
-use Prim.Native.Nat.{ℕ, _<_, _≤_, _^_, _*_, _/_, _%_}
+use mathlib.Core.Path.{refl}
+use Prim.Native.Nat.{ℕ, _<_, _≤_, _^_}
 use native.Mathlib.Omega.{arith}
-use lib.Bits.{bitXor}
 use lib.Pow.{pow-pos, pow-mono}
 use borrow.Author.Needs.{needs}
 use Rattle.field.specs.Field.{mul, fieldOf}

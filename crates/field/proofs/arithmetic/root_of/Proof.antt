@@ -1,6 +1,6 @@
 -- `field::arithmetic::root_of` meets its contract. The loop keeps what `Squaring` says, once for each degree but the first.
 -- Assumes nothing.
-use Prim.Native.Nat.{ℕ, _+_, _-_, _≤_}
+use Prim.Native.Nat.{_+_, _-_, _≤_}
 use native.Mathlib.Omega.{arith}
 use Rattle.field.specs.Field.{fieldOf}
 use Rattle.field.proofs.Generator.{generated, small, known}

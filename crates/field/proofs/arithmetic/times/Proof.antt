@@ -2,11 +2,11 @@
 -- Assumes nothing.
 use mathlib.Core.Path.{_≡_, sym, ap, _∙_, subst}
 use mathlib.Core.List.{List}
-use Prim.Native.Nat.{ℕ, _+_, _<_, _^_}
+use Prim.Native.Nat.{ℕ, _<_}
 use native.Mathlib.Omega.{arith}
 use borrow.Author.Needs.{needs}
-use lib.ListN.{length, getD}
-use Rattle.field.specs.Field.{Field, fieldOf, mul, size}
+use lib.ListN.{length}
+use Rattle.field.specs.Field.{Field, mul, size}
 use Rattle.field.specs.Tables.{Logs}
 use Rattle.field.proofs.Generator.{generated, known, unit}
 use Rattle.field.proofs.Ring.{Monic, mul-lt, mul-zero-l, mul-reduced}

@@ -1,6 +1,6 @@
 -- `tables::widths::position_in` meets its contract: a known field is told by its degree.
 -- Assumes nothing.
-use mathlib.Core.Path.{_≡_, sym, ap, _∙_, subst}
+use mathlib.Core.Path.{_≡_, sym, subst}
 use Prim.Native.Nat.{ℕ, _<_, _^_}
 use Rattle.refusals.proofs.Rows.{last-row}
 use Rattle.field.specs.Field.{fieldAt, position}
