@@ -170,6 +170,20 @@ tried-again {m} {f} {roots} {r} {x} h =
       fewer = h .fewer;
     }
 
+-- what the second did, from the list before the first
+pub tried-over : {m : ℕ} {f roots r r′ : List ℕ} {x y k j : ℕ} → Tried m f roots x j r → Tried m f r y k r′ → x ≤ y → Tried m f roots y k r′
+tried-over {m} {f} {roots} {x = x} {y = y} h s l =
+    let d : ℕ = y - x in
+    let all : x + d ≡ y = omega arith in
+    let more : length (below m f x) ≤ length (below m f y) = subst (λ (n : ℕ). length (below m f x) ≤ length (below m f n)) all (kept-grows (test m f) x d) in
+    record {
+      within = s .within;
+      count = s .count;
+      slots = s .slots ∙ ap (copied (below m f y)) (h .slots) ∙ copied-over (below m f x) (below m f y) roots more;
+      long = s .long ∙ h .long;
+      fewer = s .fewer;
+    }
+
 pub searched-over : {m : ℕ} {f roots r r′ : List ℕ} {x k j : ℕ} → Tried m f roots x j r → SearchedOut m f r k r′ → SearchedOut m f roots k r′
 unfolding rootsOf
 searched-over {m} {f} {roots} {x = x} h s =

@@ -1,10 +1,11 @@
-// The plain search: the polynomial is evaluated at every element, four side by side, so that their chains of table loads overlap.
+// The plain search: the value of the polynomial at every element. In field 11 the values are found on bit planes by an additive transform (poly_values);
+// in the small fields the polynomial is evaluated at four elements side by side, so that their chains of table loads overlap.
 ghost use mathlib.Core.Path.{_≡_};
-ghost use Prim.Native.Nat.{_-_, _*_, _≤_, _<_};
+ghost use Prim.Native.Nat.{_+_, _-_, _*_, _≤_, _<_};
 ghost use lib.ListN.{length};
 ghost use Rattle.searching.specs.Calls.{searchOutcome, searchTests, paperSearched};
 ghost use Rattle.groups.specs.RootMemory.{rootMemory};
-ghost use Rattle.searching.specs.Searching.{Searchable, SearchedOut, Tried, Noted, LetIn};
+ghost use Rattle.searching.specs.Searching.{Searchable, SearchedOut, Tried, Noted, LetIn, Wordable, Planed};
 use admitting::admit_room;
 use groups::LIMIT;
 use polynomial::values::evaluate;
@@ -82,19 +83,59 @@ fn search_over(
     search_lent(m, &logs[..size], &antilogs[..end], f, roots)
 }
 
-// The same, with rooms of the field's size: to zero the largest costs more than a search in a small field.
+// Puts the elements x + l, for the set digits l of free, behind the k roots at the front of the list. Returns how many there are then.
+fn note_word(f: &[u16], free: u64, x: u16, roots: &mut [u16], k: u16) -> u16
+    requires { ⌜ Wordable (now f) free x k (now roots) ⌝ }
+    ensures { λ j. ⌜ Tried 11 (now (f .entry)) (now (roots .entry)) (x + 64) j (now (roots .exit)) ⌝ }
+{
+    let mut rest = free;
+    let mut at = x;
+    let mut n = k;
+    while rest != 0 {
+        let t = u64::trailing_zeros(rest);
+        at = at + t as u16;
+        roots[n as usize] = at;
+        n += 1;
+        at += 1;
+        rest = (rest >> t) / 2;
+    }
+    n
+}
+
+// The roots in field 11, by the values at every element on bit planes: 64 elements a word.
+fn search11(f: &[u16], roots: &mut [u16]) -> u16
+    requires { ⌜ Planed (now f) (now roots) ⌝ }
+    ensures { λ k. ⌜ SearchedOut 11 (now (f .entry)) (now (roots .entry)) k (now (roots .exit)) ⌝ }
+{
+    // any number fills the room: zeros would be a call of memset, which is slower
+    let mut p = [1u64; 352];
+    poly_values::values11(f, &mut p);
+    let mut k: u16 = 0;
+    let mut w: usize = 0;
+    while w < 32 {
+        let z = poly_values::occupied11(&p, w);
+        k = note_word(f, z ^ 18446744073709551615, (w * 64) as u16, roots, k);
+        w += 1;
+    }
+    k
+}
+
+// The same: in the small fields element by element, with rooms of the field's size, and in field 11 by words.
 fn search_in(m: u16, size: usize, f: &[u16], roots: &mut [u16]) -> u16
     requires { ⌜ LetIn m size (now f) (now roots) ⌝ }
     ensures { λ k. ⌜ SearchedOut m (now (f .entry)) (now (roots .entry)) k (now (roots .exit)) ⌝ }
 {
-    if size <= 256 {
-        let mut few = [0u16; 256];
-        let mut powers = [0u16; 765];
+    if size <= 16 {
+        let mut few = [0u16; 16];
+        let mut powers = [0u16; 45];
         return search_over(m, size, &mut few, &mut powers, f, roots);
     }
-    let mut logs = [0u16; 2048];
-    let mut antilogs = [0u16; 6141];
-    search_over(m, size, &mut logs, &mut antilogs, f, roots)
+    if size <= 256 {
+        let mut logs = [0u16; 256];
+        let mut antilogs = [0u16; 765];
+        return search_over(m, size, &mut logs, &mut antilogs, f, roots);
+    }
+    search11(f, roots)
 }
 
 // The plain search: every element is tried, the distinct roots stand ascending at the front of the list, and their number is returned.

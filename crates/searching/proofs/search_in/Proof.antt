@@ -1,10 +1,15 @@
--- `searching::search_in` meets its contract: rooms of the field's size, and the search over them.
+-- `searching::search_in` meets its contract: rooms of a small field's size and the search over them, or the search in field 11.
 -- Assumes nothing.
+use mathlib.Core.Path.{sym, subst}
 use native.Mathlib.Omega.{arith}
-use Rattle.searching.proofs.Admitting.{letIn-fits}
+use Prim.Native.Nat.{ℕ}
+use Rattle.searching.specs.Searching.{SearchedOut}
+use Rattle.searching.proofs.Admitting.{letIn-eleven, planed}
 use borrow.Author.Needs.{needs}
 use Rattle.searching.proofs.search_in.Statement.{statement}
 use Rattle.searching.proofs.search_in.Tie as tie
+use Rattle.searching.proofs.search11.Reads as search11-reads
+use Rattle.searching.proofs.search_over.Reads as search-over-reads
 
 slice-aggregate-search-over : tie.Need-slice-aggregate-search-over
 slice-aggregate-search-over c = search needs
@@ -28,13 +33,23 @@ slice-aggregate-search-over-4 : tie.Need-slice-aggregate-search-over-4
 slice-aggregate-search-over-4 c = search needs
 
 search-over-requires-2 : tie.Need-search-over-requires-2
-search-over-requires-2 c κs = let h = letIn-fits (c .before .before .before .before .before .before .pre) .1 in (c .before .before .before .before .before .before .pre, omega arith, omega arith)
+search-over-requires-2 c κs = search needs
 
 same-length-2 : tie.Need-same-length-2
 same-length-2 c = search needs
 
 returns-2 : tie.Need-returns-2
 returns-2 c = search needs
+
+search11-requires : tie.Need-search11-requires
+search11-requires c κs = planed (c .before .before .before .before .before .pre) (omega arith)
+
+same-length-3 : tie.Need-same-length-3
+same-length-3 c = search needs
+
+returns-3 : tie.Need-returns-3
+returns-3 c = let s = c .before .before .before .before .before .before .before .before in
+    subst (λ (n : ℕ). SearchedOut n (s .args .f .now) (s .args .roots .now) (c .before .before .search11 .result) (c .before .before .search11 .last .1 .0)) (sym (letIn-eleven (s .pre) (omega arith))) (c .before .before .search11 .ensures)
 
 pub search-in-spec : {M : Type 1} → statement M
 search-in-spec =
@@ -49,4 +64,7 @@ search-in-spec =
     slice-aggregate-search-over-4
     search-over-requires-2
     same-length-2
-    returns-2)
+    returns-2
+    search11-requires
+    same-length-3
+    returns-3)

@@ -1,0 +1,380 @@
+-- The levels of a list of steps obey the laws of levels; columns, each z times the one before, bring a polynomial into their basis.
+--   vanishing-additive, vanishing-vanishes   the vanishing map respects sums, and is 0 at every step
+--   levels-hold     the levels obey the laws of levels
+--   raised-value    z times what stands in the basis
+--   mix-value       the mix of the columns has the polynomial's values
+--   coset-values    the transform of the mix gives the polynomial's values at the points of the coset
+-- Assumes nothing.
+use mathlib.Core.Path.{_≡_, refl, sym, ap, ap₂, _∙_}
+use mathlib.Core.List.{List, [], _∷_, _++_, map}
+use Prim.Native.Nat.{ℕ, zero, suc, _+_, _*_, _^_, _≤_}
+use native.Mathlib.Omega.{arith}
+use native.Mathlib.Nat.{pow-suc}
+use lib.Pow.{pow-pos}
+use lib.ListN.{getD, length, take, drop, replicate, length-take, length-drop, length-map, length-append, drop-of-length-le}
+use lib.Seq.{take-all, take-at, drop-at, getD-at, take-nil, drop-nil}
+use Rattle.algebra.specs.Field.{Ops, Laws}
+use Rattle.algebra.specs.Polynomial.{add, eval}
+use Rattle.algebra.proofs.Elements as S
+use Rattle.poly_values.specs.Transform.{Level, Additive, Vanishes, Levels, value, scaled, transform, mults, points}
+use Rattle.poly_values.specs.Basis.{Step, vanishing, Right, levelOn, levels, joinRaised, raised, whole, next, Columns, mix, onCoset}
+use Rattle.algebra.specs.Trial.{All}
+use Rattle.poly_values.proofs.Transform as T
+use Rattle.poly_values.proofs.Image.{all-take, all-drop}
+use Rattle.poly_values.proofs.Lists.{getD-add, getD-scaled}
+
+module _ {K : Type 0} {F : Ops K} (laws : Laws F) where
+  infixl 60 _⊕_
+  infixl 70 _⊗_
+  open Ops F using (zero as 0#, one as 1#, add as _⊕_, mul as _⊗_)
+  open Laws laws using (add-comm, add-assoc, zero-add, add-self, mul-comm, mul-assoc, one-mul, mul-add)
+
+  -- ---- the vanishing map
+
+  -- a term that meets itself
+  twice : (a b w : K) → (a ⊕ w) ⊕ (b ⊕ w) ≡ a ⊕ b
+  twice a b w = add-assoc a w (b ⊕ w) ∙ ap (λ y. a ⊕ y) (ap (λ y. w ⊕ y) (add-comm b w) ∙ S.add-back laws w b)
+
+  -- y (y + t) is additive in y
+  twisted : (t y z : K) → (y ⊕ z) ⊗ ((y ⊕ z) ⊕ t) ≡ y ⊗ (y ⊕ t) ⊕ z ⊗ (z ⊕ t)
+  twisted t y z =
+      S.add-mul laws y z ((y ⊕ z) ⊕ t)
+      ∙ ap₂ _⊕_ (ap (λ w. y ⊗ w) (add-assoc y z t ∙ S.add-left-comm laws y z t ∙ add-comm z (y ⊕ t)) ∙ mul-add y (y ⊕ t) z)
+      (ap (λ w. z ⊗ w) (add-assoc y z t ∙ add-comm y (z ⊕ t)) ∙ mul-add z (z ⊕ t) y ∙ ap (λ w. z ⊗ (z ⊕ t) ⊕ w) (mul-comm z y))
+      ∙ twice (y ⊗ (y ⊕ t)) (z ⊗ (z ⊕ t)) (y ⊗ z)
+
+  pub vanishing-additive : (B : List (Step K)) → Additive F (vanishing F B)
+  unfolding vanishing
+  vanishing-additive [] x y = refl
+  vanishing-additive (b ∷ B) x y =
+      ap (λ w. w ⊗ (w ⊕ b .unit)) (vanishing-additive B x y) ∙ twisted (b .unit) (vanishing F B x) (vanishing F B y)
+
+  -- a map that is 0 where another is
+  vanishes-on : {e g : K → K} (L : List (Level K)) → ((x : K) → e x ≡ 0# → g x ≡ 0#) → Vanishes F e L → Vanishes F g L
+  vanishes-on [] h va = tt
+  vanishes-on (v ∷ L) h va = (h (v .step) (va .0), vanishes-on L h (va .1))
+
+  pub vanishing-vanishes : (B : List (Step K)) → Right F B → Vanishes F (vanishing F B) (levels F B)
+  unfolding levels vanishing
+  vanishing-vanishes [] ok = tt
+  vanishing-vanishes (b ∷ B) ok = (
+    ap (λ w. w ⊗ (w ⊕ b .unit)) (ok .0) ∙ ap (λ w. b .unit ⊗ w) (add-self (b .unit)) ∙ S.mul-zero laws (b .unit),
+    vanishes-on (levels F B) (λ x p. ap (λ w. w ⊗ (w ⊕ b .unit)) p ∙ S.zero-mul laws (0# ⊕ b .unit)) (vanishing-vanishes B (ok .2)),
+  )
+
+  -- the levels obey the laws of levels
+  pub levels-hold : (B : List (Step K)) → Right F B → Levels F (levels F B)
+  unfolding levels
+  levels-hold [] ok = tt
+  levels-hold (b ∷ B) ok = (
+    λ x y. ap (λ w. b .back ⊗ w) (vanishing-additive B x y) ∙ mul-add (b .back) (vanishing F B x) (vanishing F B y),
+    ap (λ w. b .back ⊗ w) (ok .0) ∙ mul-comm (b .back) (b .unit) ∙ ok .1,
+    vanishes-on (levels F B) (λ x p. ap (λ w. b .back ⊗ w) p ∙ S.mul-zero laws (b .back)) (vanishing-vanishes B (ok .2)),
+    levels-hold B (ok .2),
+  )
+
+  -- ---- lengths
+
+  pub length-levels : (B : List (Step K)) → length (levels F B) ≡ length B
+  unfolding levels
+  length-levels [] = refl
+  length-levels (b ∷ B) = ap suc (length-levels B)
+
+  pub size-levels : (B : List (Step K)) → 2 ^ length (levels F B) ≡ 2 ^ length B
+  size-levels B = ap (λ n. 2 ^ n) (length-levels B)
+
+  pub length-add-le : (a b : List K) → length b ≤ length a → length (add F a b) ≡ length a
+  unfolding add
+  length-add-le [] [] h = refl
+  length-add-le [] (y ∷ b) h = absurd (omega arith)
+  length-add-le (x ∷ a) [] h = refl
+  length-add-le (x ∷ a) (y ∷ b) h = ap suc (length-add-le a b (omega arith))
+
+  pub length-raised : (B : List (Step K)) (a : List K) → length (raised F B a .0) ≡ 2 ^ length B
+  unfolding raised
+  length-raised [] a = refl
+  length-raised (b ∷ B) a =
+      let l = length-raised B (take (2 ^ length B) a) in
+      let h = length-raised B (drop (2 ^ length B) a) in
+      length-append (raised F B (take (2 ^ length B) a) .0) (add F (raised F B (drop (2 ^ length B) a) .0) (_ ∷ []))
+      ∙ ap₂ _+_ l (length-add-le (raised F B (drop (2 ^ length B) a) .0) (_ ∷ []) (omega (arith, h, pow-pos (length B))) ∙ h)
+      ∙ omega (arith, pow-suc 2 (length B))
+
+  -- ---- values of few coefficients
+
+  pub value-none : (L : List (Level K)) (x : K) → value F L [] x ≡ 0#
+  unfolding value
+  value-none [] x = refl
+  value-none (v ∷ L) x =
+      ap₂ (λ s t. value F L s x ⊕ v .part x ⊗ value F L t x) (take-nil (2 ^ length L)) (drop-nil (2 ^ length L))
+      ∙ ap (λ y. y ⊕ v .part x ⊗ y) (value-none L x) ∙ zero-add _ ∙ S.mul-zero laws (v .part x)
+
+  pub value-single : (L : List (Level K)) (w x : K) → value F L (w ∷ []) x ≡ w
+  unfolding value
+  value-single [] w x = refl
+  value-single (v ∷ L) w x =
+      let h : 1 ≤ 2 ^ length L = pow-pos (length L) in
+      ap₂ (λ s t. value F L s x ⊕ v .part x ⊗ value F L t x) (take-all (2 ^ length L) (w ∷ []) h) (drop-of-length-le (w ∷ []) h)
+      ∙ ap₂ (λ s t. s ⊕ v .part x ⊗ t) (value-single L w x) (value-none L x) ∙ ap (λ y. w ⊕ y) (S.mul-zero laws (v .part x)) ∙ S.add-zero laws w
+
+  -- ---- z times what stands in the basis
+
+  module _ (s : Step K) (B : List (Step K)) (ok : Right F (s ∷ B)) (x : K) where
+    van : K
+    van = vanishing F B x
+
+    part : K
+    part = s .back ⊗ van
+
+    -- van is unit times part, and van part = back (the vanishing map with s) + unit part
+    van-part : van ≡ s .unit ⊗ part
+    unfolding van part
+    van-part = sym (sym (mul-assoc (s .unit) (s .back) van) ∙ ap (λ y. y ⊗ van) (ok .1) ∙ one-mul van)
+
+    square-part : part ⊗ van ≡ s .back ⊗ vanishing F (s ∷ B) x ⊕ van
+    unfolding van part vanishing
+    square-part =
+        mul-assoc (s .back) van van
+        ∙ sym (ap (λ y. s .back ⊗ y ⊕ van) (mul-add van van (s .unit)) ∙ ap (λ y. y ⊕ van) (mul-add (s .back) (van ⊗ van) (van ⊗ s .unit))
+        ∙ ap (λ y. s .back ⊗ (van ⊗ van) ⊕ y ⊕ van) (ap (λ y. s .back ⊗ y) (mul-comm van (s .unit)) ∙ sym (mul-assoc (s .back) (s .unit) van) ∙ ap (λ y. y ⊗ van) (mul-comm (s .back) (s .unit) ∙ ok .1) ∙ one-mul van)
+        ∙ add-assoc _ van van ∙ ap (λ y. s .back ⊗ (van ⊗ van) ⊕ y) (add-self van) ∙ S.add-zero laws _)
+
+    -- the two halves, each with what falls out of it
+    halves-raised : (l h cl ch : K)
+        → (l ⊕ cl ⊗ van) ⊕ part ⊗ (h ⊕ ch ⊗ van) ≡ (l ⊕ part ⊗ (h ⊕ (cl ⊕ ch) ⊗ s .unit)) ⊕ (ch ⊗ s .back) ⊗ vanishing F (s ∷ B) x
+    halves-raised l h cl ch =
+        ap₂ (λ a b. (l ⊕ a) ⊕ b) (ap (λ y. cl ⊗ y) van-part)
+        (mul-add part h (ch ⊗ van) ∙ ap (λ y. part ⊗ h ⊕ y)
+        (S.mul-left-comm laws part ch van ∙ ap (λ y. ch ⊗ y) square-part ∙ mul-add ch (s .back ⊗ W) van ∙ ap₂ _⊕_ (sym (mul-assoc ch (s .back) W)) (ap (λ y. ch ⊗ y) van-part)))
+        ∙ order l (cl ⊗ (s .unit ⊗ part)) (part ⊗ h) ((ch ⊗ s .back) ⊗ W) (ch ⊗ (s .unit ⊗ part))
+        ∙ sym (ap (λ y. (l ⊕ y) ⊕ (ch ⊗ s .back) ⊗ W) (mul-add part h ((cl ⊕ ch) ⊗ s .unit)
+        ∙ ap (λ y. part ⊗ h ⊕ y) (S.mul-left-comm laws part (cl ⊕ ch) (s .unit) ∙ S.add-mul laws cl ch (part ⊗ s .unit) ∙ ap (λ y. cl ⊗ y ⊕ ch ⊗ y) (mul-comm part (s .unit)))))
+      where
+        W : K
+        W = vanishing F (s ∷ B) x
+
+        order : (l a h w b : K) → (l ⊕ a) ⊕ (h ⊕ (w ⊕ b)) ≡ (l ⊕ (h ⊕ (a ⊕ b))) ⊕ w
+        order l a h w b =
+            add-assoc l a (h ⊕ (w ⊕ b))
+            ∙ ap (λ y. l ⊕ y) (S.add-left-comm laws a h (w ⊕ b) ∙ ap (λ y. h ⊕ y) (S.add-left-comm laws a w b ∙ add-comm w (a ⊕ b)) ∙ sym (add-assoc h (a ⊕ b) w))
+            ∙ sym (add-assoc l (h ⊕ (a ⊕ b)) w)
+
+  pub raised-value : (B : List (Step K)) → Right F B → (a : List K) (x : K)
+      → x ⊗ value F (levels F B) a x ≡ value F (levels F B) (raised F B a .0) x ⊕ raised F B a .1 ⊗ vanishing F B x
+  unfolding raised value levels vanishing part van
+  raised-value [] ok a x = mul-comm x _ ∙ sym (zero-add _)
+  raised-value (s ∷ B) ok a x =
+      mul-add x _ _ ∙ ap (λ y. x ⊗ value F L (take n a) x ⊕ y) (S.mul-left-comm laws x (p) _)
+      ∙ ap₂ (λ i j. x ⊗ value F L (take i a) x ⊕ p ⊗ (x ⊗ value F L (drop j a) x)) (size-levels B) (size-levels B)
+      ∙ ap₂ (λ y z. y ⊕ p ⊗ z) (raised-value B (ok .2) (take h a) x) (raised-value B (ok .2) (drop h a) x)
+      ∙ halves-raised s B ok x (value F L (lo .0) x) (value F L (hi .0) x) (lo .1) (hi .1)
+      ∙ ap (λ y. (value F L (lo .0) x ⊕ p ⊗ y) ⊕ (hi .1 ⊗ s .back) ⊗ vanishing F (s ∷ B) x)
+      (sym (T.value-add laws L (hi .0) (more ∷ []) x ∙ ap (λ y. value F L (hi .0) x ⊕ y) (value-single L more x)))
+      ∙ ap₂ (λ y z. (value F L y x ⊕ p ⊗ value F L z x) ⊕ (hi .1 ⊗ s .back) ⊗ vanishing F (s ∷ B) x)
+      (sym (take-at (lo .0) up n long)) (sym (drop-at (lo .0) up n long))
+    where
+      L : List (Level K)
+      L = levels F B
+
+      h : ℕ
+      h = 2 ^ length B
+
+      n : ℕ
+      n = 2 ^ length L
+
+      p : K
+      p = s .back ⊗ vanishing F B x
+
+      lo : List K × K
+      lo = raised F B (take h a)
+
+      hi : List K × K
+      hi = raised F B (drop h a)
+
+      more : K
+      more = (lo .1 ⊕ hi .1) ⊗ s .unit
+
+      up : List K
+      up = add F (hi .0) (more ∷ [])
+
+      long : length (lo .0) ≡ n
+      long = length-raised B (take h a) ∙ sym (size-levels B)
+
+  -- ---- coefficients with one more behind them
+
+  whole-add : (B : List (Step K)) (a b : List K) (x : K) → whole F B (add F a b) x ≡ whole F B a x ⊕ whole F B b x
+  unfolding whole
+  whole-add B a b x =
+      ap₂ (λ s t. value F L s x ⊕ t ⊗ w) (T.take-add laws n a b) (getD-add F zero-add (S.add-zero laws) a b n)
+      ∙ ap₂ _⊕_ (T.value-add laws L (take n a) (take n b) x) (S.add-mul laws (getD a n 0#) (getD b n 0#) w)
+      ∙ simp (add-assoc, S.add-left-comm laws)
+    where
+      L : List (Level K)
+      L = levels F B
+
+      n : ℕ
+      n = 2 ^ length B
+
+      w : K
+      w = vanishing F B x
+
+  whole-scaled : (B : List (Step K)) (e : K) (a : List K) (x : K) → whole F B (scaled F e a) x ≡ e ⊗ whole F B a x
+  unfolding whole
+  whole-scaled B e a x =
+      ap₂ (λ s t. value F L s x ⊕ t ⊗ w) (T.take-map laws (F .mul e) n a) (getD-scaled F e (S.mul-zero laws e) a n)
+      ∙ ap₂ _⊕_ (T.value-scaled laws L e (take n a) x) (mul-assoc e (getD a n 0#) w) ∙ sym (mul-add e _ _)
+    where
+      L : List (Level K)
+      L = levels F B
+
+      n : ℕ
+      n = 2 ^ length B
+
+      w : K
+      w = vanishing F B x
+
+  whole-none : (B : List (Step K)) (x : K) → whole F B [] x ≡ 0#
+  unfolding whole
+  whole-none B x =
+      ap (λ s. value F (levels F B) s x ⊕ 0# ⊗ vanishing F B x) (take-nil (2 ^ length B)) ∙ ap₂ _⊕_ (value-none (levels F B) x) (S.zero-mul laws _) ∙ zero-add 0#
+
+  -- zeros
+  value-zeros : (L : List (Level K)) (a : List K) (x : K) → All (λ c. c ≡ 0#) a → value F L a x ≡ 0#
+  unfolding value
+  value-zeros [] [] x h = refl
+  value-zeros [] (c ∷ a) x h = h .0
+  value-zeros (v ∷ L) a x h =
+      ap₂ (λ s t. s ⊕ v .part x ⊗ t) (value-zeros L (take n a) x (all-take (λ c. c ≡ 0#) n a h)) (value-zeros L (drop n a) x (all-drop (λ c. c ≡ 0#) n a h))
+      ∙ zero-add _ ∙ S.mul-zero laws (v .part x)
+    where
+      n : ℕ
+      n = 2 ^ length L
+
+  -- 1 and zeros
+  pub value-one : (L : List (Level K)) (z : List K) (x : K) → All (λ c. c ≡ 0#) z → value F L (1# ∷ z) x ≡ 1#
+  unfolding add
+  value-one L z x h =
+      ap (λ c. value F L (c ∷ z) x) (sym (S.add-zero laws 1#)) ∙ T.value-add laws L (1# ∷ []) (0# ∷ z) x
+      ∙ ap₂ _⊕_ (value-single L 1# x) (value-zeros L (0# ∷ z) x (refl, h)) ∙ S.add-zero laws 1#
+
+  getD-all-zero : (a : List K) (k : ℕ) → All (λ c. c ≡ 0#) a → getD a k 0# ≡ 0#
+  getD-all-zero [] k h = refl
+  getD-all-zero (c ∷ a) zero h = h .0
+  getD-all-zero (c ∷ a) (suc k) h = getD-all-zero a k (h .1)
+
+  whole-zeros : (B : List (Step K)) (a : List K) (x : K) → All (λ c. c ≡ 0#) a → whole F B a x ≡ 0#
+  unfolding whole
+  whole-zeros B a x h =
+      ap₂ (λ s t. s ⊕ t ⊗ vanishing F B x) (value-zeros (levels F B) (take (2 ^ length B) a) x (all-take (λ c. c ≡ 0#) (2 ^ length B) a h)) (getD-all-zero a (2 ^ length B) h)
+      ∙ zero-add _ ∙ S.zero-mul laws _
+
+  -- the column of the constant 1
+  pub first-column : (B : List (Step K)) (z : List K) (x : K) → All (λ c. c ≡ 0#) z → whole F B (1# ∷ z) x ≡ 1#
+  unfolding add whole
+  first-column B z x h =
+      ap (λ c. whole F B (c ∷ z) x) (sym (S.add-zero laws 1#)) ∙ whole-add B (1# ∷ []) (0# ∷ z) x
+      ∙ ap₂ _⊕_ (single (2 ^ length B) (pow-pos (length B))) (whole-zeros B (0# ∷ z) x (refl, h)) ∙ S.add-zero laws 1#
+    where
+      single : (n : ℕ) → 1 ≤ n → whole F B (1# ∷ []) x ≡ 1#
+      single n some =
+          let p = pow-pos (length B) in
+          ap₂ (λ s t. value F (levels F B) s x ⊕ t ⊗ vanishing F B x) (take-all (2 ^ length B) (1# ∷ []) p) (beyond (2 ^ length B) p)
+          ∙ ap₂ _⊕_ (value-single (levels F B) 1# x) (S.zero-mul laws _) ∙ S.add-zero laws 1#
+        where
+          beyond : (n : ℕ) → 1 ≤ n → getD (1# ∷ []) n 0# ≡ 0#
+          beyond zero h = absurd (omega arith)
+          beyond (suc n) h = refl
+
+  length-longer : (u v : List K) → length u ≤ length (add F u v)
+  unfolding add
+  length-longer [] v = omega arith
+  length-longer (x ∷ u) [] = omega arith
+  length-longer (x ∷ u) (y ∷ v) = omega (arith, length-longer u v)
+
+  length-mix : (f a : List K) (columns : List (List K)) → 1 ≤ length f → length a ≤ length (mix F f (a ∷ columns))
+  unfolding mix
+  length-mix [] a columns h = absurd (omega arith)
+  length-mix (c ∷ f) a columns h = omega (arith, length-map a (F .mul c), length-longer (scaled F c a) (mix F f columns))
+
+  -- z times a column
+  next-value : (B : List (Step K)) → Right F B → (a : List K) (x : K) → getD a (2 ^ length B) 0# ≡ 0#
+      → whole F B (next F B a) x ≡ x ⊗ whole F B a x
+  unfolding whole next
+  next-value B ok a x e =
+      ap₂ (λ s t. value F L s x ⊕ t ⊗ w) (take-at (up .0) (up .1 ∷ []) n long) (getD-at (up .0) (up .1) [] 0# n long)
+      ∙ sym (raised-value B ok (take n a) x)
+      ∙ ap (λ y. x ⊗ y) (sym (ap (λ y. value F L (take n a) x ⊕ y) (ap (λ y. y ⊗ w) e ∙ S.zero-mul laws w) ∙ S.add-zero laws _))
+    where
+      L : List (Level K)
+      L = levels F B
+
+      n : ℕ
+      n = 2 ^ length B
+
+      w : K
+      w = vanishing F B x
+
+      up : List K × K
+      up = raised F B (take n a)
+
+      long : length (up .0) ≡ n
+      long = length-raised B (take n a)
+
+  -- the mix of the columns has the polynomial's values
+  pub mix-value : (B : List (Step K)) → Right F B → (f : List K) (a : List K) (columns : List (List K)) (x y : K) → Columns F B a columns
+      → whole F B a x ≡ y → length f ≤ suc (length columns) → whole F B (mix F f (a ∷ columns)) x ≡ y ⊗ eval F f x
+  unfolding mix eval
+  mix-value B ok [] a columns x y cs e h = whole-none B x ∙ sym (S.mul-zero laws y)
+  mix-value B ok (c ∷ []) a columns x y cs e h =
+      whole-add B (scaled F c a) [] x ∙ ap₂ _⊕_ (whole-scaled B c a x ∙ ap (λ t. c ⊗ t) e) (whole-none B x) ∙ S.add-zero laws _ ∙ mul-comm c y
+      ∙ ap (λ t. y ⊗ t) (sym (ap (λ t. c ⊕ t) (S.mul-zero laws x) ∙ S.add-zero laws c))
+  mix-value B ok (c ∷ d ∷ f) a [] x y cs e h = absurd (omega arith)
+  mix-value B ok (c ∷ d ∷ f) a (b ∷ columns) x y cs e h =
+      whole-add B (scaled F c a) (mix F (d ∷ f) (b ∷ columns)) x
+      ∙ ap₂ _⊕_ (whole-scaled B c a x ∙ ap (λ t. c ⊗ t) e ∙ mul-comm c y)
+      (mix-value B ok (d ∷ f) b columns x (x ⊗ y) (cs .2) (sym (ap (λ l. whole F B l x) (cs .1)) ∙ next-value B ok a x (cs .0) ∙ ap (λ t. x ⊗ t) e) (omega arith)
+      ∙ ap (λ t. t ⊗ eval F (d ∷ f) x) (mul-comm x y) ∙ mul-assoc y x _)
+      ∙ sym (mul-add y c _)
+
+  -- ---- the law: the transform gives the values at the points of the coset
+
+  length-take-le′ : (n : ℕ) (a : List K) → n ≤ length a → length (take n a) ≡ n
+  length-take-le′ n a h = simp length-take (omega arith)
+
+  pub coset-values : (B : List (Step K)) → Right F B → (a : List K) → 2 ^ length B ≤ length a → (c : K)
+      → transform F (mults F (levels F B) c) (onCoset F B a c) ≡ map (whole F B a) (points F (levels F B) c)
+  unfolding onCoset whole
+  coset-values B ok a h c =
+      T.transform-values laws L (levels-hold B ok) c start (length-add-le (take n a) (top ⊗ w ∷ []) (omega (arith, long, pow-pos (length B))) ∙ long ∙ sym (size-levels B))
+      ∙ T.agree laws L (vanishing-additive B) (vanishing-vanishes B ok) (value F L start) (λ x. value F L (take n a) x ⊕ top ⊗ vanishing F B x) c
+      (λ x e. T.value-add laws L (take n a) (top ⊗ w ∷ []) x ∙ ap (λ y. value F L (take n a) x ⊕ y) (value-single L (top ⊗ w) x ∙ ap (λ y. top ⊗ y) (sym e)))
+    where
+      L : List (Level K)
+      L = levels F B
+
+      n : ℕ
+      n = 2 ^ length B
+
+      w : K
+      w = vanishing F B c
+
+      top : K
+      top = getD a n 0#
+
+      start : List K
+      start = add F (take n a) (top ⊗ w ∷ [])
+
+      long : length (take n a) ≡ n
+      long = length-take-le′ n a h
+
+  -- the values of f
+  pub mixed-values : (B : List (Step K)) → Right F B → (f z : List K) (columns : List (List K)) → All (λ c. c ≡ 0#) z → 2 ^ length B ≤ length z
+      → Columns F B (1# ∷ z) columns → 1 ≤ length f → length f ≤ suc (length columns) → (c : K)
+      → transform F (mults F (levels F B) c) (onCoset F B (mix F f ((1# ∷ z) ∷ columns)) c) ≡ map (eval F f) (points F (levels F B) c)
+  mixed-values B ok f z columns zeros n cs some h c =
+      coset-values B ok (mix F f ((1# ∷ z) ∷ columns)) (omega (arith, length-mix f (1# ∷ z) columns some)) c
+      ∙ map-same (points F (levels F B) c)
+    where
+      map-same : (l : List K) → map (whole F B (mix F f ((1# ∷ z) ∷ columns))) l ≡ map (eval F f) l
+      map-same [] = refl
+      map-same (x ∷ l) = ap₂ _∷_ (mix-value B ok f (1# ∷ z) columns x 1# cs (first-column B z x zeros) h ∙ one-mul (eval F f x)) (map-same l)
