@@ -16,6 +16,7 @@
           is 2^m or more                            has level m, or the steps are at their limit
        5  every coefficient is 0                10  the table is not done
                                                 13  an inverse or a position of 0
+                                                21  the convention is neither 0 nor 1
    Where two apply, the one that stands first in the call's order is given. A refusal writes nothing, and its other fields are 0.
 
    MEMORY. All memory is the caller's, before and after: no call keeps a pointer. A list is a pointer, aligned for uint16_t, and the number of its
@@ -39,6 +40,12 @@ extern "C" {
 #define LOCATOR_ROOTS 32
 #define LOCATOR_COEFFICIENTS 33
 
+/* The conventions of a position, by how a locator is built from the bad bits, X = 2^place for each:
+   Goppa codes: the product of (z + X), whose roots are the X themselves;
+   recorders: the product of (1 + X z), whose roots are the inverses of the X. */
+#define LOCATOR_GOPPA 0
+#define LOCATOR_RECORDERS 1
+
 /* Stack, in bytes, that is enough for any call (tests/stack.c measures it). */
 #define LOCATOR_STACK 40960
 
@@ -60,9 +67,13 @@ locator_value locator_product(uint16_t m, uint16_t a, uint16_t b);
 /* The x with a x = 1. Outcomes 0, 1, 4, 13, in the order 1, 4, 13. Writes nothing. */
 locator_value locator_inverse(uint16_t m, uint16_t a);
 
-/* The position of a root r: the j from 0 to 2^m - 2 with 2^j = r, where the bad bit stands. Outcomes 0, 1, 4, 13, in the order 1, 4, 13.
-   Writes nothing. */
-locator_value locator_position(uint16_t m, uint16_t r);
+/* The position of a root r of a locator: the place, from 0 to 2^m - 2, where the bad bit stands. With r = 2^j it is
+       j                                    under LOCATOR_GOPPA: the locator is a product of (z + X), and X = r = 2^j;
+       (2^m - 1 - j) modulo (2^m - 1)       under LOCATOR_RECORDERS: a product of (1 + X z), and X = 1/r. j = 0 stays 0.
+   Under the wrong convention every place but 0 is the mirror image of the right one, and no call can tell.
+   The places of a polynomial's roots are those of bad bits only where it has as many distinct roots as its degree (see
+   locator_solve). Outcomes 0, 1, 4, 13, 21, in the order 1, 21, 4, 13. Writes nothing. */
+locator_value locator_position(uint16_t m, uint16_t r, uint16_t convention);
 
 /* The distinct roots of z^2 + a z + b, the lower number first. "No root" is outcome 0 with count 0. Outcomes 0, 1, 4, in the order 1, 4.
    Writes nothing. */
@@ -70,6 +81,10 @@ locator_pair locator_quadratic(uint16_t m, uint16_t a, uint16_t b);
 
 /* The whole call: all distinct roots of the polynomial, by splitting it along the trace. The roots fill the front of the list, ascending; the slots
    behind the last root are not written. count is their number, steps that of the splitting steps at this cutoff.
+   A decoder must compare count with the degree of its locator, where zeros at the top do not count. A polynomial is, up
+   to a constant factor, the locator of a set of places exactly if it has as many distinct roots as its degree, none of
+   them 0. Where count is less, the word has more bad bits than its code corrects, and the places of the roots that
+   there are mean nothing: the word is not to be corrected by them (examples/c/recorder.c).
    Outcomes 0 and 1 to 7, in ascending order; 7 where room is under 32. */
 locator_found locator_solve(uint16_t m, const uint16_t *coeffs, size_t n, uint16_t cutoff, uint16_t *roots, size_t room);
 

@@ -118,11 +118,11 @@ static void print_pair(locator_pair p)
 static void elements(void)
 {
     for (int m = word(); m != EOF; m = word()) {
-        uint16_t a = number(), b = number();
-        printf("%d %u %u", m, a, b);
+        uint16_t a = number(), b = number(), convention = number();
+        printf("%d %u %u %u", m, a, b, convention);
         print_value(locator_product((uint16_t)m, a, b));
         print_value(locator_inverse((uint16_t)m, a));
-        print_value(locator_position((uint16_t)m, a));
+        print_value(locator_position((uint16_t)m, a, convention));
         print_pair(locator_quadratic((uint16_t)m, a, b));
     }
 }

@@ -61,29 +61,41 @@ static size_t length(size_t usual)
 
 /* ---- the element calls */
 
+/* one of the two conventions, or a number that is none: some that are near them or have their low byte, or any */
+static uint16_t convention(void)
+{
+    static const uint16_t others[] = {2, 3, 256, 257, 65535, 32768, 4, 255};
+    unsigned b = byte();
+    return (uint16_t)(b % 8 < 6 ? b % 2 : b % 8 == 6 ? others[b / 8 % 8] : word());
+}
+
+/* the position under any convention: the refusals in the order 1, 21, 4, 13 */
+static void positions(uint16_t m, uint16_t r)
+{
+    uint16_t way = convention();
+    locator_value j = locator_position(m, r, way);
+    unsigned out = !known(m) ? 1 : way > 1 ? 21 : r >> m != 0 ? 4 : r == 0 ? 13 : 0;
+    expect(j.outcome == out, "another outcome of the position");
+    expect(j.value == (out != 0 ? 0 : place_of(m, r, way)), "another position");
+    note(POSITION, j.outcome, out == 0 ? m + way * 16u : m);
+}
+
 static void elements(void)
 {
     uint16_t m = degree(), a = element(m, byte() % 8 == 0), b = element(m, byte() % 8 == 0);
     unsigned first = !known(m) ? 1 : a >> m != 0 ? 4 : 0, both = first != 0 ? first : b >> (m & 15) != 0 ? 4 : 0, one = first != 0 ? first : a == 0 ? 13 : 0;
-    locator_value p = locator_product(m, a, b), i = locator_inverse(m, a), j = locator_position(m, a);
+    locator_value p = locator_product(m, a, b), i = locator_inverse(m, a);
     locator_pair q = locator_quadratic(m, a, b);
-    expect(p.outcome == both && q.outcome == both && i.outcome == one && j.outcome == one, "another outcome of an element call");
+    expect(p.outcome == both && q.outcome == both && i.outcome == one, "another outcome of an element call");
     expect(p.value == (both ? 0 : times(m, a, b)), "another product");
-    expect(one ? i.value == 0 && j.value == 0 : times(m, a, i.value) == 1, "another inverse");
-    if (one == 0) {
-        unsigned x = 1;
-        expect(j.value < (1u << m) - 1, "a position outside");
-        for (unsigned k = 0; k < j.value; k++)
-            x = times(m, x, 2);
-        expect(x == a, "another position");
-    }
+    expect(one ? i.value == 0 : times(m, a, i.value) == 1, "another inverse");
+    positions(m, a);
     uint16_t f[3] = {b, a, 1};
     expect(q.count <= 2 && (both == 0 || q.count == 0), "another number of roots");
     expect(q.count > 0 ? value_at(m, f, 3, q.lower) == 0 : q.lower == 0, "no root of the quadratic");
     expect(q.count > 1 ? q.upper > q.lower && value_at(m, f, 3, q.upper) == 0 : q.upper == 0, "no second root of the quadratic");
     note(PRODUCT, p.outcome, m);
     note(INVERSE, i.outcome, m);
-    note(POSITION, j.outcome, m);
     note(QUADRATIC, q.outcome, q.count);
 }
 

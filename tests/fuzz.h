@@ -8,10 +8,11 @@
 #include <sys/mman.h>
 #include <unistd.h>
 
-enum { INPUT = 1024 };
+/* bytes of an input that are looked at; outcomes are below OUTCOMES, each with so many DETAILS for libFuzzer */
+enum { INPUT = 1024, OUTCOMES = 32, DETAILS = 100 };
 
-static unsigned long tally[CALLS][16];
-__attribute__((section("__libfuzzer_extra_counters"))) static uint8_t reached[16384];
+static unsigned long tally[CALLS][OUTCOMES];
+__attribute__((section("__libfuzzer_extra_counters"))) static uint8_t reached[CALLS * OUTCOMES * DETAILS];
 
 static void expect(int holds, const char *what)
 {
@@ -24,16 +25,16 @@ static void expect(int holds, const char *what)
 /* counts the call, and tells libFuzzer what came of it */
 static void note(int call, unsigned outcome, unsigned detail)
 {
-    expect(outcome < 16, "an outcome that is no number of the paper");
+    expect(outcome < OUTCOMES, "an outcome that is no number of the papers");
     tally[call][outcome]++;
-    reached[(unsigned)call * 1600 + outcome * 100 + detail % 100] = 1;
+    reached[((unsigned)call * OUTCOMES + outcome) * DETAILS + detail % DETAILS] = 1;
 }
 
 static void print_tally(void)
 {
     for (int c = 0; c < CALLS; c++) {
         fprintf(stderr, "%s:", name[c]);
-        for (int k = 0; k < 16; k++)
+        for (int k = 0; k < OUTCOMES; k++)
             if (tally[c][k] != 0)
                 fprintf(stderr, " outcome %d: %lu", k, tally[c][k]);
         fprintf(stderr, "\n");

@@ -1,5 +1,6 @@
-/* The rules of document 01 in plain C, for the fuzz targets: the fields by shift and add, refusals 1 to 6, roots by evaluation at every element, steps by
-   counting groups. Nothing here is the product's. */
+/* The rules of document 01, and M-101 of document 02, in plain C, for the fuzz targets: the fields by shift and add,
+   places by trial, refusals 1 to 6, roots by evaluation at every element, steps by counting groups. Nothing here is the
+   product's. */
 #include <stddef.h>
 #include <stdint.h>
 #include <stdlib.h>
@@ -24,6 +25,18 @@ static inline unsigned times(unsigned m, unsigned a, unsigned b)
     for (; b != 0; b >>= 1, a = twice(m, a))
         r ^= (b & 1) * a;
     return r;
+}
+
+/* the j of the place X = 2^j that a root r, not 0, stands for: r = X where the locator has the factor z + X (convention
+   0), r X = 1 where it has 1 + X z (1) */
+static inline unsigned place_of(unsigned m, unsigned r, unsigned convention)
+{
+    unsigned j = 0, x = 1;
+    while (convention == 0 ? x != r : times(m, x, r) != 1) {
+        x = twice(m, x);
+        j++;
+    }
+    return j;
 }
 
 static inline unsigned value_at(unsigned m, const uint16_t *f, size_t n, unsigned x)

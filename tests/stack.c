@@ -20,7 +20,7 @@ static void go(void)
     switch (call) {
     case 0: failed |= locator_product(field, 3, 5).outcome; break;
     case 1: failed |= locator_inverse(field, 7).outcome; break;
-    case 2: failed |= locator_position(field, 9).outcome; break;
+    case 2: failed |= locator_position(field, 9, LOCATOR_RECORDERS).outcome; break;
     case 3: failed |= locator_quadratic(field, 1, 6).outcome; break;
     case 4: failed |= locator_solve(field, f, LOCATOR_COEFFICIENTS, 1, roots, LOCATOR_ROOTS).outcome; break;
     case 5: failed |= locator_search(field, f, LOCATOR_COEFFICIENTS, roots, LOCATOR_ROOTS).outcome; break;

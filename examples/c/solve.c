@@ -1,4 +1,5 @@
-/* The paper's worked examples through the C face: whole calls, one splitting step by step, the search, a quadratic, and refusals.
+/* The paper's worked examples through the C face: whole calls, one splitting step by step, the search, a quadratic,
+   positions, and refusals.
    examples/rust/examples/solve.rs does the same job; both must print examples/solve.expected. */
 #include "locator.h"
 #include <stdio.h>
@@ -61,6 +62,8 @@ int main(void)
     printf("searched: %u %u %u %u %u\n", seen.outcome, seen.count, roots[0], roots[1], roots[2]);
     locator_pair pair = locator_quadratic(4, 1, 6);
     printf("z^2+z+6: %u %u %u %u\n", pair.outcome, pair.count, pair.lower, pair.upper);
+    printf("places of 3: Goppa %u recorders %u\n", locator_position(4, 3, LOCATOR_GOPPA).value,
+           locator_position(4, 3, LOCATOR_RECORDERS).value);
     solve("field 5", 5, cubic, 4, 1);
     solve("no coefficients", 4, NULL, 0, 1);
     solve("zeros", 4, zeros, 2, 1);

@@ -4,7 +4,7 @@
     elements.py lines < cases.bin
     elements.py tally < cases.bin
 
-A case is m, a, b, each 16 bits, low byte first.
+A case is m, a, b and the position's convention, each 16 bits, low byte first.
 """
 
 import argparse
@@ -17,60 +17,81 @@ sys.dont_write_bytecode = True
 import field
 import reference
 
-CASE = struct.Struct("<HHH")
+CASE = struct.Struct("<HHHH")
 UNKNOWN = (0, 1, 5, 13, 255, 260, 65535)
+CONVENTIONS = (0, 1, 2, 3, 256, 65535)  # only 0 and 1 are conventions
 CALLS = ("product", "inverse", "position", "quadratic")
 
 
-def make_cases(seed, pairs):
-    rng = random.Random(seed)
+def pairs_inside(rng, m, count):
+    """Pairs of elements of a field, with edges, zeros and equal ones among them."""
+    top = field.size(m) - 1
+    edges = (0, 1, 2, top - 1, top)
+    fixed = [(a, b) for a in edges for b in edges]
+    for number in range(count):
+        a = rng.randrange(top + 1)
+        b = rng.randrange(top + 1)
+        if number < len(fixed):
+            a, b = fixed[number]
+        elif number % 16 == 0:
+            a = 0
+        elif number % 16 == 1:
+            b = 0
+        elif number % 16 == 2:
+            b = a
+        elif number % 16 == 3:
+            a = rng.choice(edges)
+        elif number % 16 == 4:
+            b = rng.choice(edges)
+        elif number % 16 == 5:
+            # a double choice of z makes sure of two roots or one
+            z, y = a, b
+            a, b = z ^ y, field.product(m, z, y)
+        yield a, b
+
+
+def pairs_outside(rng, m):
+    """Pairs of which one at least is no element."""
+    q = field.size(m)
+    outside = (q, q + 1, 65535)
+    inside = (0, 1, q - 1, rng.randrange(q))
+    for bad in outside:
+        for good in inside:
+            yield bad, good
+            yield good, bad
+        for other in outside:
+            yield bad, other
+    for _ in range(16):
+        yield rng.randrange(q, 65536), rng.randrange(q)
+        yield rng.randrange(q), rng.randrange(q, 65536)
+
+
+def few_cases(rng):
+    """m, a, b of the cases that are tried under every convention: all of field 4, and those that are refused."""
     for a in range(16):
         for b in range(16):
             yield 4, a, b
-    for m in (8, 11):
-        top = field.size(m) - 1
-        edges = (0, 1, 2, top - 1, top)
-        fixed = [(a, b) for a in edges for b in edges]
-        for number in range(pairs):
-            a = rng.randrange(top + 1)
-            b = rng.randrange(top + 1)
-            if number < len(fixed):
-                a, b = fixed[number]
-            elif number % 16 == 0:
-                a = 0
-            elif number % 16 == 1:
-                b = 0
-            elif number % 16 == 2:
-                b = a
-            elif number % 16 == 3:
-                a = rng.choice(edges)
-            elif number % 16 == 4:
-                b = rng.choice(edges)
-            elif number % 16 == 5:
-                # a double choice of z makes sure of two roots or one
-                z, y = a, b
-                a, b = z ^ y, field.product(m, z, y)
-            yield m, a, b
     for m in field.DEGREES:
-        q = field.size(m)
-        outside = (q, q + 1, 65535)
-        inside = (0, 1, q - 1, rng.randrange(q))
-        for bad in outside:
-            for good in inside:
-                yield m, bad, good
-                yield m, good, bad
-            for other in outside:
-                yield m, bad, other
-        for _ in range(16):
-            yield m, rng.randrange(q, 65536), rng.randrange(q)
-            yield m, rng.randrange(q), rng.randrange(q, 65536)
+        for a, b in pairs_outside(rng, m):
+            yield m, a, b
     for m in UNKNOWN:
         for a in (0, 1, 15, 16, 2047, 65535):
             for b in (0, 1, 15, 16, 2047, 65535):
                 yield m, a, b
+
+
+def make_cases(seed, pairs):
+    rng = random.Random(seed)
+    for m, a, b in few_cases(rng):
+        for convention in CONVENTIONS:
+            yield m, a, b, convention
+    for m in (8, 11):
+        for a, b in pairs_inside(rng, m, pairs):
+            convention = rng.choice(CONVENTIONS) if rng.randrange(4) == 0 else rng.randrange(2)
+            yield m, a, b, convention
     for _ in range(64):
-        m = rng.randrange(65536)
-        yield m, rng.randrange(65536), rng.randrange(65536)
+        m = rng.choice((4, 8, 11, rng.randrange(65536)))
+        yield m, rng.randrange(65536), rng.randrange(65536), rng.randrange(65536)
 
 
 def read_cases(data):
@@ -79,11 +100,11 @@ def read_cases(data):
     return CASE.iter_unpack(data)
 
 
-def answers(m, a, b):
+def answers(m, a, b, convention):
     return (
         reference.product(m, a, b),
         reference.inverse(m, a),
-        reference.position(m, a),
+        reference.position(m, a, convention),
         reference.quadratic(m, a, b),
     )
 
@@ -99,19 +120,21 @@ def numbers(call, answer):
     return (outcome,)
 
 
-def line(m, a, b):
-    parts = ["%d %d %d" % (m, a, b)]
-    for call, answer in zip(CALLS, answers(m, a, b)):
+def line(*case):
+    parts = [" ".join(str(x) for x in case)]
+    for call, answer in zip(CALLS, answers(*case)):
         parts.append(" ".join(str(x) for x in numbers(call, answer)))
     return " | ".join(parts)
 
 
 def tally(data):
     counts = {}
-    for m, a, b in read_cases(data):
-        for call, answer in zip(CALLS, answers(m, a, b)):
+    for m, a, b, convention in read_cases(data):
+        for call, answer in zip(CALLS, answers(m, a, b, convention)):
             outcome, values, _ = answer
             word = "outcome %s" % outcome
+            if call == "position" and outcome == 0:
+                word = "outcome 0, convention %d" % convention
             if call == "quadratic" and outcome in (0, reference.NONE):
                 word = "outcome 0, roots %d" % len(values)
             place = "field %d" % m if m in field.DEGREES else "unknown field"

@@ -88,10 +88,12 @@ def inverse(m, a):
     return None
 
 
-def position(m, r):
-    """The j from 0 to 2^m - 2 with a^j = r, by trial; None if there is none."""
-    for j, value in enumerate(powers(m)):
-        if value == r:
+def position(m, r, convention):
+    """The j from 0 to 2^m - 2 of the place X = a^j that the root r stands for,
+    by trial; None if there is none. Under convention 0 the locator has the
+    factor z + X, and r = X. Under 1 it has 1 + X z, and X r = 1."""
+    for j, place in enumerate(powers(m)):
+        if (place == r) if convention == 0 else (row(m, r)[place] == 1):
             return j
     return None
 

@@ -1,4 +1,4 @@
-"""Document 01 by plain methods.
+"""Document 01 by plain methods, with M-101 of document 02.
 
 Every call returns (outcome, values, memory): the outcome is 0 or the paper's
 number, or one of the words DONE, NONE, END, which have no number; the values
@@ -15,6 +15,7 @@ NONE = "none"  # quadratic: no root
 END = "end"  # reader: no byte remains
 HOUSE = "house"  # a record's cutoff 0
 
+CONVENTIONS = (0, 1)  # of a position: Goppa, recorders
 HOUSE_CUTOFF = 2
 MOST_COEFFICIENTS = 33
 MOST_ROOTS = 32
@@ -23,7 +24,7 @@ MARK = b"\x4c\x52"
 MOST_BYTES = 65536
 
 
-# Element calls: 1, 4, 13.
+# Element calls: 1, 4, 13; position: 1, 21, 4, 13.
 
 
 def refused_elements(m, elements):
@@ -50,13 +51,16 @@ def inverse(m, a):
     return 0, (field.inverse(m, a),), ()
 
 
-def position(m, r):
-    refusal = refused_elements(m, (r,))
-    if refusal:
-        return refusal, (), ()
+def position(m, r, convention):
+    if m not in field.DEGREES:
+        return 1, (), ()
+    if convention not in CONVENTIONS:
+        return 21, (), ()
+    if r >= field.size(m):
+        return 4, (), ()
     if r == 0:
         return 13, (), ()
-    return 0, (field.position(m, r),), ()
+    return 0, (field.position(m, r, convention),), ()
 
 
 def quadratic(m, a, b):

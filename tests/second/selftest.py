@@ -6,6 +6,7 @@ Exits with 1 at a failure; prints how often each check was made.
 """
 
 import argparse
+import itertools
 import random
 import sys
 
@@ -66,7 +67,9 @@ def check_fields(rng):
             if a:
                 check("inverses", tables_of_logs.inverse(a) == field.inverse(m, a), m, a)
                 check("positions", field.power(m, 2, tables_of_logs.log[a]) == a if m < 11 or a % 64 == 1 else
-                      field.position(m, a) == tables_of_logs.log[a], m, a)
+                      field.position(m, a, 0) == tables_of_logs.log[a], m, a)
+                mirrored = (q - 1 - field.position(m, a, 0)) % (q - 1)
+                check("mirrored positions", field.position(m, a, 1) == mirrored, m, a)
         check("powers of a run through every nonzero element", sorted(field.powers(m)) == list(range(1, q)), m)
         bits = [field.trace_bits(m, x) for x in range(q)]
         check("no two elements share their trace bits", len(set(bits)) == q, m)
@@ -105,18 +108,40 @@ def check_elements():
     check("element refusals", R.product(260, 1, 1)[0] == 1)
     check("element refusals", R.product(4, 16, 0)[0] == 4 and R.product(4, 0, 16)[0] == 4)
     check("element refusals", R.inverse(5, 0)[0] == 1 and R.inverse(4, 16)[0] == 4)
-    check("element refusals", R.inverse(4, 0)[0] == 13 and R.position(8, 0)[0] == 13)
+    check("element refusals", R.inverse(4, 0)[0] == 13)
     check("element refusals", R.quadratic(11, 0, 2048)[0] == 4 and R.quadratic(12, 0, 0)[0] == 1)
     check("element answers", R.quadratic(4, 1, 8) == (R.NONE, (), ()))
     check("element answers", R.quadratic(4, 1, 6) == (0, (2, 3), ()))
     check("element answers", R.quadratic(4, 0, 2) == (0, (5,), ()))
     check("element answers", R.quadratic(4, 1, 0) == (0, (0, 1), ()))
-    check("element answers", R.position(4, 3) == (0, (4,), ()) and R.position(4, 1) == (0, (0,), ()))
-    check("element lines", elements.line(4, 3, 2) == "4 3 2 | 0 6 | 0 14 | 0 4 | 0 2 1 2")
-    check("element lines", elements.line(4, 1, 8) == "4 1 8 | 0 8 | 0 1 | 0 0 | 0 0")
-    check("element lines", elements.line(4, 0, 2) == "4 0 2 | 0 0 | 13 | 13 | 0 1 5")
-    check("element lines", elements.line(4, 1, 16) == "4 1 16 | 4 | 0 1 | 0 0 | 4")
-    check("element lines", elements.line(260, 1, 1) == "260 1 1 | 1 | 1 | 1 | 1")
+    for convention, place in ((0, 4), (1, 11)):
+        check("element answers", R.position(4, 3, convention) == (0, (place,), ()))
+        check("element answers", R.position(4, 1, convention) == (0, (0,), ()))
+    check("element lines", elements.line(4, 3, 2, 0) == "4 3 2 0 | 0 6 | 0 14 | 0 4 | 0 2 1 2")
+    check("element lines", elements.line(4, 3, 2, 1) == "4 3 2 1 | 0 6 | 0 14 | 0 11 | 0 2 1 2")
+    check("element lines", elements.line(4, 1, 8, 1) == "4 1 8 1 | 0 8 | 0 1 | 0 0 | 0 0")
+    check("element lines", elements.line(4, 0, 2, 1) == "4 0 2 1 | 0 0 | 13 | 13 | 0 1 5")
+    check("element lines", elements.line(4, 1, 16, 0) == "4 1 16 0 | 4 | 0 1 | 0 0 | 4")
+    check("element lines", elements.line(4, 16, 1, 256) == "4 16 1 256 | 4 | 4 | 21 | 4")
+    check("element lines", elements.line(260, 1, 1, 2) == "260 1 1 2 | 1 | 1 | 1 | 1")
+
+
+def check_positions(rng):
+    """The order of the position's refusals, and that a locator's roots give back its places under its convention."""
+    for m, convention, r in itertools.product((4, 8, 11, 5, 260), (0, 1, 2, 3, 256, 65535), (0, 1, 65535)):
+        applies = ((1, m not in (4, 8, 11)), (21, convention > 1), (4, r == 65535), (13, r == 0))
+        first = next((number for number, holds in applies if holds), 0)
+        check("order of a position's refusals", R.position(m, r, convention)[0] == first, m, r, convention)
+    for m in field.DEGREES:
+        for _ in range(20):
+            places = sorted(rng.sample(range(field.size(m) - 1), 8))
+            for convention in R.CONVENTIONS:
+                locator = [1]
+                for j in places:
+                    x = field.power(m, 2, j)
+                    locator = R.multiply(m, locator, [x, 1] if convention == 0 else [1, x])
+                found = sorted(R.position(m, r, convention)[1][0] for r in R.zeros(m, locator))
+                check("the roots of a locator give back its places", found == places, m, convention, places)
 
 
 # The paper's figures.
@@ -469,6 +494,7 @@ def main():
     rng = random.Random(options.seed)
     check_fields(rng)
     check_elements()
+    check_positions(rng)
     check_figures()
     check_orders(rng, 3 * options.count)
     check_polynomials(rng, options.count)

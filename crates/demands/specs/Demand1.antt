@@ -13,9 +13,10 @@ use Prim.Native.Nat.{ℕ, suc, _+_, _≤_, _<_}
 use lib.ListN.{length, drop}
 use Rattle.refusals.specs.Order.{Given, Passed}
 use Rattle.slots.specs.Lists.{copied}
-use Rattle.field.specs.Field.{fieldAt, mul, inverse, position}
+use Rattle.field.specs.Field.{fieldAt, mul, inverse}
 use Rattle.field.specs.Quadratics.{paperRoots, rootsOfQuadratic}
-use Rattle.elements.specs.Calls.{paper, pairTests, nonzeroTests, productOutcome, inverseOutcome, positionOutcome, quadraticOutcome}
+use Rattle.elements.specs.Calls.{paper, pairTests, nonzeroTests, positionTests, positionUnder}
+use Rattle.elements.specs.Calls.{productOutcome, inverseOutcome, positionOutcome, quadraticOutcome}
 use Rattle.groups.specs.Cutoff.{inForce}
 use Rattle.groups.specs.Layout.{byFactor}
 use Rattle.groups.specs.Splitting.{rootsAt, slotsDone, slotsStepped, slotsBegun, slotsRoots}
@@ -47,11 +48,13 @@ abbrev pub Told : {A B : Type 0} → (A → B) → Type 0
 Told {A} tell = (r s : A) → tell r ≡ tell s → r ≡ s
 
 pub record Demand1 : Type 0 where
-  -- element calls: 1, 4, 13
+  -- element calls: 1, 4, 13;  position: 1, 21, 4, 13
   pub product : (m a b : ℕ) → Decides (pairTests m a b) (mul (fieldAt m) a b ∷ []) (productOutcome m a b)
   pub quadratic : (m a b : ℕ) → Decides (pairTests m a b) (rootsOfQuadratic (fieldAt m) a b) (quadraticOutcome m a b)
   pub inverse : (m a : ℕ) → Decides (nonzeroTests m a) (inverse (fieldAt m) a ∷ []) (inverseOutcome m a)
-  pub position : (m r : ℕ) → Decides (nonzeroTests m r) (position (fieldAt m) r ∷ []) (positionOutcome m r)
+  pub position : (m r convention : ℕ)
+      → Decides (positionTests m r convention) (positionUnder convention (fieldAt m) r ∷ [])
+      (positionOutcome m r convention)
   -- begin: 1 to 7;  step: 7, 8, 9;  finish: 7, 8, 10
   pub begin : (m c : ℕ) (cs table : List ℕ)
       → Decides (beginTests m c cs table) [] (beginOutcome m c cs table)

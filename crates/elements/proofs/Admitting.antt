@@ -2,21 +2,28 @@
 --   pair-outside, pair-in, pair-told   the tests on two elements
 --   row-field                          the field of a row
 --   one-outside, one-zero, one-in, one-told   the tests on one element that must not be 0
+--   place-tests, place-told            the tests of a position
 -- Assumes nothing.
-use mathlib.Core.Path.{_≡_, refl, sym, ap, subst}
-use mathlib.Core.Bool.{Bool, true, false, _||_}
+use mathlib.Core.Path.{_≡_, refl, sym, ap, subst, _∙_}
+use mathlib.Core.Bool.{Bool, true, false, not, _||_}
+use mathlib.Core.List.{List, [], _∷_}
 use mathlib.Core.Logic.{_⊎_, inl, inr}
 use Prim.Native.Nat.{ℕ, _≤_, _<_, _^_}
 use native.Mathlib.Omega.{arith}
 use borrow.Author.Tests.{le-leb, lt-leb, leb-false, eq-eqb, ne-eqb, eqb-false, not-false}
+use lib.Dec.{eqb, leb, ltb}
 use Rattle.refusals.specs.Order.{Given, Passed}
 use Rattle.refusals.specs.Order.Passed.{none}
 use Rattle.refusals.specs.Rows.{known, IsRow}
+use Rattle.refusals.specs.Admitting.{Admits, behind}
 use Rattle.refusals.specs.declared.Row.{Row}
+use Rattle.refusals.specs.declared.Refusal.the-variants.{Element, OfZero, Convention}
+use Rattle.refusals.specs.declared.Admission.{Admission}
+use Rattle.refusals.specs.declared.Admission.the-variants.{In}
 use Rattle.refusals.proofs.Order.{holds, fails, passes, failed, others}
-use Rattle.refusals.proofs.Admitting.{listed-on}
+use Rattle.refusals.proofs.Admitting.{listed-on, admits-also}
 use Rattle.field.specs.Field.{fieldOf, fieldAt}
-use Rattle.elements.specs.Calls.{outside, pairTests, nonzeroTests}
+use Rattle.elements.specs.Calls.{outside, pairTests, nonzeroTests, positionTests}
 
 outside-on : {m a : ℕ} {row : Row} → IsRow m row → row .size ≤ a → outside m a ≡ true
 outside-on {m} {a} i h = le-leb (2 ^ m) a (subst (λ (n : ℕ). n ≤ a) (i .size) h)
@@ -76,6 +83,32 @@ one-told {m} {a} p =
       field = not-false (known m) (failed p);
       positive = let n = eqb-false a 0 (failed (others (others p))) in omega arith;
       below = leb-false (2 ^ m) a (failed (others p));
+    }
+
+-- ---- a position
+-- the tests behind that of the field, as the code makes them
+pub place-tests : {m : ℕ} (r v : ℕ) {row : Row} {told within all : Admission} → IsRow m row
+    → told ≡ behind (In row) (ltb 1 v) Convention
+    → within ≡ behind told (leb (row .size) r) Element
+    → all ≡ behind within (eqb r 0) OfZero
+    → Admits (positionTests m r v) m all
+place-tests {m} r v {row} {told} {within} i f g h =
+    let one : List (ℕ × Bool) = (1, not (known m)) ∷ [] in
+    let two : List (ℕ × Bool) = (1, not (known m)) ∷ (21, ltb 1 v) ∷ [] in
+    let three : List (ℕ × Bool) = (1, not (known m)) ∷ (21, ltb 1 v) ∷ (4, outside m r) ∷ [] in
+    let size = ap (λ (n : ℕ). behind told (leb n r) Element) (i .size) in
+    let first : Admits one m (In row) = (passes (listed-on i) none, i) in
+    let second = admits-also one m (In row) (ltb 1 v) Convention f first in
+    let third = admits-also two m told (outside m r) Element (g ∙ size) second in
+    admits-also three m within (eqb r 0) OfZero h third
+
+-- what is known of an element and a convention that were let in
+pub place-told : {m a : ℕ} (v : ℕ) → Passed (positionTests m a v) → OneIn m a
+place-told {m} {a} v p =
+    record {
+      field = not-false (known m) (failed p);
+      positive = let n = eqb-false a 0 (failed (others (others (others p)))) in omega arith;
+      below = leb-false (2 ^ m) a (failed (others (others p)));
     }
 
 -- the field of a row is that of its degree

@@ -51,8 +51,9 @@ product-coincide m a b r s h k = answer-told r s (h ∙ sym k)
 pub inverse-coincide : (m a : ℕ) (r s : Answer) → paper r ≡ inverseOutcome m a → paper s ≡ inverseOutcome m a → r ≡ s
 inverse-coincide m a r s h k = answer-told r s (h ∙ sym k)
 
-pub position-coincide : (m x : ℕ) (r s : Answer) → paper r ≡ positionOutcome m x → paper s ≡ positionOutcome m x → r ≡ s
-position-coincide m x r s h k = answer-told r s (h ∙ sym k)
+pub position-coincide : (m x convention : ℕ) (r s : Answer)
+    → paper r ≡ positionOutcome m x convention → paper s ≡ positionOutcome m x convention → r ≡ s
+position-coincide m x convention r s h k = answer-told r s (h ∙ sym k)
 
 pub quadratic-coincide : (m a b : ℕ) (r s : Quadratic) → paperRoots r ≡ quadraticOutcome m a b → paperRoots s ≡ quadraticOutcome m a b → r ≡ s
 quadratic-coincide m a b r s h k = roots-told r s (h ∙ sym k)

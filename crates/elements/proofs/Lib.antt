@@ -1,2 +1,4 @@
 pub mod Admitting
+pub mod Mirror
+pub mod Placing
 pub mod Coincide

@@ -1,7 +1,8 @@
 // The public element calls: product, inverse, position, quadratic. Each answers every input.
 ghost use mathlib.Core.Path.{_≡_};
 ghost use Rattle.field.specs.Quadratics.{paperRoots};
-ghost use Rattle.elements.specs.Calls.{paper, productOutcome, inverseOutcome, positionOutcome, quadraticOutcome, pairTests, nonzeroTests};
+ghost use Rattle.elements.specs.Calls.{paper, productOutcome, inverseOutcome, positionOutcome, quadraticOutcome};
+ghost use Rattle.elements.specs.Calls.{pairTests, nonzeroTests, positionTests};
 ghost use Rattle.refusals.specs.Admitting.{Admits};
 use field::arithmetic::product_of;
 use field::division::inverse_of;
@@ -9,6 +10,7 @@ use field::solver::Quadratic;
 use refusals::Admission;
 use refusals::Found;
 use refusals::Refusal;
+use refusals::also;
 use tables::widths::position_in;
 use tables::widths::roots_in;
 
@@ -72,13 +74,37 @@ pub fn inverse(m: u16, a: u16) -> Answer
     }
 }
 
-// The position of a root r in the field of degree m: where the bad bit stands.
-pub fn position(m: u16, r: u16) -> Answer
-    ensures { λ j. ⌜ paper j ≡ positionOutcome m r ⌝ }
+// The tests of the position call, each behind those before it.
+fn admit_position(m: u16, r: u16, convention: u16) -> Admission
+    ensures { λ a. ⌜ Admits (positionTests m r convention) m a ⌝ }
 {
-    match admit_nonzero(m, r) {
+    let found = refusals::row_of(m);
+    let Found::At(row) = found else {
+        return Admission::Out(Refusal::Field);
+    };
+    let size = row.size;
+    let told = also(Admission::In(row), 1 < convention, Refusal::Convention);
+    let within = also(told, size <= r, Refusal::Element);
+    also(within, r == 0, Refusal::OfZero)
+}
+
+// The position of a root r in the field of degree m: where the bad bit stands. Under convention 0 (Goppa locators,
+// products of z + X) the root 2^j stands for place j; under 1 (recorders, products of 1 + X z) for its mirror image
+// among the 2^m - 1 places, and place 0 stays 0.
+pub fn position(m: u16, r: u16, convention: u16) -> Answer
+    ensures { λ j. ⌜ paper j ≡ positionOutcome m r convention ⌝ }
+{
+    match admit_position(m, r, convention) {
         Admission::Out(k) => Answer::Refused(k),
-        Admission::In(_) => Answer::Value(position_in(m, r)),
+        Admission::In(row) => {
+            let j = position_in(m, r);
+            if convention == 0 {
+                return Answer::Value(j);
+            }
+            let size = row.size;
+            let order = size - 1;
+            Answer::Value((order - j) % order)
+        }
     }
 }
 

@@ -10,7 +10,7 @@
 --   inverse    the y with x y = 1, by trial; 0 where there is none
 --   numbers    the operations as the theory of polynomials takes them: sum, product, inverse
 --   Tr         the trace: the sum of x^(2^i) for i from 0 to m-1
---   position   the j with a^j = r, by trial, where a is 2
+--   position   the exponent of r: the j with a^j = r, by trial, where a is 2
 -- Assumes nothing.
 use Prim.Native.Nat.{ℕ, zero, suc, _+_, _-_, _*_, _/_, _%_, _^_}
 use lib.Bits.{bitXor}

@@ -59,12 +59,12 @@ pub extern "C" fn locator_inverse(m: u16, a: u16) -> LocatorValue
     answers::value_of(elements::inverse(m, a))
 }
 
-// The position of a root r in the field of degree m: where the bad bit stands.
+// The position of a root r in the field of degree m: where the bad bit stands, under a convention.
 #[no_mangle]
-pub extern "C" fn locator_position(m: u16, r: u16) -> LocatorValue
-    ensures { λ j. ⌜ j ≡ asValue (positionOutcome m r) ⌝ }
+pub extern "C" fn locator_position(m: u16, r: u16, convention: u16) -> LocatorValue
+    ensures { λ j. ⌜ j ≡ asValue (positionOutcome m r convention) ⌝ }
 {
-    answers::value_of(elements::position(m, r))
+    answers::value_of(elements::position(m, r, convention))
 }
 
 // The roots of z^2 + az + b in the field of degree m.

@@ -19,6 +19,10 @@ pub enum Refusal {
     Mark,
     Short,
     OfZero,
+    Convention,
+    Block,
+    Strength,
+    Far,
 }
 
 // The paper's number of a refusal.
@@ -39,6 +43,10 @@ pub fn number(r: Refusal) -> u16
         Refusal::Mark => 11,
         Refusal::Short => 12,
         Refusal::OfZero => 13,
+        Refusal::Convention => 21,
+        Refusal::Block => 22,
+        Refusal::Strength => 23,
+        Refusal::Far => 24,
     }
 }
 

@@ -1,5 +1,5 @@
 //! The job of examples/c/solve.c through the safe crate: the same output, examples/solve.expected.
-use locator::{Pair, Refusal, Step, ROOTS, SLOTS};
+use locator::{Convention, Pair, Refusal, Step, ROOTS, SLOTS};
 
 /// Numbers with a space before each.
 fn listed(numbers: &[u16]) -> String {
@@ -56,6 +56,11 @@ fn main() -> Result<(), Refusal> {
     if let Pair::Two(lower, upper) = locator::quadratic(4, 1, 6)? {
         println!("z^2+z+6: 0 2 {lower} {upper}");
     }
+    println!(
+        "places of 3: Goppa {} recorders {}",
+        locator::position(4, 3, Convention::Goppa)?,
+        locator::position(4, 3, Convention::Recorders)?
+    );
     solve("field 5", 5, &cubic, 1);
     solve("no coefficients", 4, &[], 1);
     solve("zeros", 4, &[0, 0], 1);

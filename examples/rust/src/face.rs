@@ -31,7 +31,7 @@ pub struct Stepped {
 extern "C" {
     fn locator_product(m: u16, a: u16, b: u16) -> Value;
     fn locator_inverse(m: u16, a: u16) -> Value;
-    fn locator_position(m: u16, r: u16) -> Value;
+    fn locator_position(m: u16, r: u16, convention: u16) -> Value;
     fn locator_quadratic(m: u16, a: u16, b: u16) -> Pair;
     fn locator_solve(
         m: u16,
@@ -62,8 +62,8 @@ pub fn inverse(m: u16, a: u16) -> Value {
     unsafe { locator_inverse(m, a) }
 }
 
-pub fn position(m: u16, r: u16) -> Value {
-    unsafe { locator_position(m, r) }
+pub fn position(m: u16, r: u16, convention: u16) -> Value {
+    unsafe { locator_position(m, r, convention) }
 }
 
 pub fn quadratic(m: u16, a: u16, b: u16) -> Pair {

@@ -9,7 +9,8 @@ pub const SLOTS: usize = 100;
 /// The fewest slots of a root list.
 pub const ROOTS: usize = 32;
 
-/// Why an input is turned away, under the paper's number.
+/// Why an input is turned away, under the paper's number. Numbers that no call of this crate can give are not here: 11
+/// and 12 are of job records, and 21 is of a convention that there is not, which a [`Convention`] cannot be.
 #[derive(Clone, Copy, Debug, PartialEq, Eq)]
 #[repr(u16)]
 pub enum Refusal {
@@ -62,6 +63,19 @@ fn accepted(outcome: u16) -> Result<(), Refusal> {
     }
 }
 
+/// How a locator is built from the bad bits, with X = 2^place for each: this says which place a root stands for. The C
+/// face takes it as a number and refuses any but 0 and 1 under 21. A value of this type is one of the two, so refusal
+/// 21 cannot be met through this crate.
+#[derive(Clone, Copy, Debug, PartialEq, Eq)]
+#[repr(u16)]
+pub enum Convention {
+    /// Goppa codes: the product of (z + X), whose roots are the X. The root 2^j stands for place j.
+    Goppa = 0,
+    /// Recorders: the product of (1 + X z), whose roots are the inverses of the X. The root 2^j stands for place
+    /// (2^m - 1 - j) modulo (2^m - 1), so that j = 0 stays 0.
+    Recorders = 1,
+}
+
 /// The distinct roots of a quadratic, the lower first.
 #[derive(Clone, Copy, Debug, PartialEq, Eq)]
 pub enum Pair {
@@ -101,9 +115,10 @@ pub fn inverse(m: u16, a: u16) -> Result<u16, Refusal> {
     value(face::inverse(m, a))
 }
 
-/// The position of a root r: the j with 2^j = r, where the bad bit stands.
-pub fn position(m: u16, r: u16) -> Result<u16, Refusal> {
-    value(face::position(m, r))
+/// The position of a root r of a locator: the place, from 0 to 2^m - 2, where the bad bit stands. The places of a
+/// polynomial's roots are those of bad bits only where it has as many distinct roots as its degree: see [`solve`].
+pub fn position(m: u16, r: u16, convention: Convention) -> Result<u16, Refusal> {
+    value(face::position(m, r, convention as u16))
 }
 
 /// The roots of z^2 + az + b.
@@ -116,7 +131,10 @@ pub fn quadratic(m: u16, a: u16, b: u16) -> Result<Pair, Refusal> {
     })
 }
 
-/// All distinct roots, by splitting along the trace.
+/// All distinct roots, by splitting along the trace. A decoder must compare their number with the degree of its
+/// locator: a polynomial is, up to a constant factor, the locator of a set of places exactly if it has as many distinct
+/// roots as its degree, none of them 0. With fewer the word has more bad bits than its code corrects, and the places
+/// mean nothing.
 pub fn solve<'a>(
     m: u16,
     coeffs: &[u16],

@@ -13,14 +13,54 @@ fn products_and_inverses_agree() {
 }
 
 #[test]
-fn positions_are_exponents_of_two() {
+fn positions_are_exponents_of_two_and_mirrored_for_recorders() {
     for (m, size) in [(4, 16), (8, 256), (11, 2048)] {
         let mut power = 1;
         for j in 0..size - 1 {
-            assert_eq!(position(m, power), Ok(j));
+            let mirrored = if j == 0 { 0 } else { size - 1 - j };
+            assert_eq!(position(m, power, Convention::Goppa), Ok(j));
+            assert_eq!(position(m, power, Convention::Recorders), Ok(mirrored));
             power = product(m, power, 2).unwrap();
         }
         assert_eq!(power, 1);
+    }
+}
+
+/// The product of the factors c + dz, constant first.
+fn multiplied(m: u16, factors: &[(u16, u16)]) -> Vec<u16> {
+    let mut f = vec![1];
+    for &(c, d) in factors {
+        f.push(0);
+        for i in (0..f.len()).rev() {
+            let below = if i == 0 { 0 } else { f[i - 1] };
+            f[i] = product(m, f[i], c).unwrap() ^ product(m, below, d).unwrap();
+        }
+    }
+    f
+}
+
+#[test]
+fn a_locator_gives_back_its_places_under_its_convention() {
+    let places = [0, 17, 300, 1024, 2046];
+    let bits: Vec<u16> = places
+        .iter()
+        .map(|&j| (0..j).fold(1, |x, _| product(11, x, 2).unwrap()))
+        .collect();
+    let goppa: Vec<_> = bits.iter().map(|&x| (x, 1)).collect();
+    let recorders: Vec<_> = bits.iter().map(|&x| (1, x)).collect();
+    for (factors, convention) in [
+        (goppa, Convention::Goppa),
+        (recorders, Convention::Recorders),
+    ] {
+        let mut list = [0; ROOTS];
+        let found = solve(11, &multiplied(11, &factors), 0, &mut list).unwrap();
+        let mut given: Vec<u16> = found
+            .roots
+            .iter()
+            .map(|&r| position(11, r, convention).unwrap())
+            .collect();
+        given.sort();
+        assert_eq!(given, places);
     }
 }
 
@@ -91,7 +131,11 @@ fn every_refusal_has_its_number_and_writes_nothing() {
     stuck[..8].copy_from_slice(&[4, 1, 1, 0, 4, 2, 1, 1]);
     assert_eq!(step(&mut stuck), Err(Refusal::Stuck));
     assert_eq!(finish(&stuck, &mut list), Err(Refusal::NotDone));
-    assert_eq!(position(4, 0), Err(Refusal::OfZero));
+    for convention in [Convention::Goppa, Convention::Recorders] {
+        assert_eq!(position(5, 16, convention), Err(Refusal::Field));
+        assert_eq!(position(4, 16, convention), Err(Refusal::Element));
+        assert_eq!(position(4, 0, convention), Err(Refusal::OfZero));
+    }
     assert_eq!(list, [999; ROOTS]);
 }
 
