@@ -1,7 +1,10 @@
 #!/usr/bin/env python3
-"""report.py DIR [PAGE]: prints the tables of the run of bench/roots whose files stand in DIR, and writes them as PAGE where it is given.
-Fails where a list of ours is wrong; a peer's wrong lists are only named."""
+"""report.py DIR [PAGE]: prints the tables of the run of bench/roots whose files stand in DIR, and writes them as PAGE where it is given; the section that
+bench/corrector writes stays there. Fails where a list of ours is wrong; a peer's wrong lists are only named."""
+import os
 import sys
+
+CORRECTOR = "## The block corrector beside lib/bch.c"  # the last section of the page
 
 FINDERS = [("solve", "whole call"), ("search", "plain search"), ("bch", "lib/bch.c"), ("flint", "FLINT"), ("chien", "Chien in C")]
 MEASURES = ("count", "vector", "time")
@@ -28,6 +31,20 @@ def read(directory):
         "count": {(s, f): int(n) / 1000 for s, f, n in rows(directory, "counts")},
         "vector": {(s, f): int(n) / 1000 for s, f, n in rows(directory, "counts-vector")},
     }
+
+
+def parts(path):
+    """What stands before the block corrector's section of a page, and the section."""
+    text = open(path).read() if os.path.exists(path) else ""
+    before, found, section = text.partition(CORRECTOR + "\n")
+    return before, found + section
+
+
+def put_section(path, section):
+    """Writes the section in place of that which the page has."""
+    before, _ = parts(path)
+    with open(path, "w") as file:
+        file.write(before.rstrip("\n") + "\n\n" + section)
 
 
 def words(name):
@@ -160,8 +177,9 @@ store by vectors instead. The emulator does rep stos byte by byte, and its times
 def main():
     run = read(sys.argv[1])
     if len(sys.argv) > 2:
+        _, section = parts(sys.argv[2])
         with open(sys.argv[2], "w") as file:
-            file.write(page(run))
+            file.write(page(run) + ("\n" + section if section else ""))
     about = run["about"]
     print(f"{about['where']}\n{about['date']}, commit {about['commit']}, C: {about['compiler']}, FLINT: {about['flint'] or 'not to be had'}, lib/bch.c: {about['bch']}\n")
     print(checks(run) + "\n")

@@ -1,4 +1,5 @@
-/* locator.h: the roots of locator polynomials over GF(2^m), m = 4, 8 or 11. Link with liblocator.a (tools/library builds it, for x86-64 Linux).
+/* locator.h: the roots of locator polynomials over GF(2^m), m = 4, 8 or 11, and a corrector of blocks over m = 11. Link with liblocator.a (tools/library
+   builds it, for x86-64 Linux).
 
    Every call is proved to do what stands over it, for every input (crates/locator/src/lib.rt has the contracts).
 
@@ -17,10 +18,13 @@
        5  every coefficient is 0                10  the table is not done
                                                 13  an inverse or a position of 0
                                                 21  the convention is neither 0 nor 1
+                                                22  the word has not 256 bytes, or its last bit is set
+                                                23  the strength is not 1 to 8
+                                                24  no codeword is within the strength
    Where two apply, the one that stands first in the call's order is given. A refusal writes nothing, and its other fields are 0.
 
    MEMORY. All memory is the caller's, before and after: no call keeps a pointer. A list is a pointer, aligned for uint16_t, and the number of its
-   elements. A count of 0 is an empty list, and its pointer is not looked at: it may be null. With any other count the pointer must point to so many
+   elements; a word is a pointer, which need not be aligned, and the number of its bytes. A count of 0 is an empty list, and its pointer is not looked at: it may be null. With any other count the pointer must point to so many
    elements. Memory that a call may write must not overlap other memory lent to the same call. A list that is const is only read.
 
    WHERE IT MAY RUN. No call allocates, waits, calls out or keeps state; each ends. So any of them may run in an interrupt or in several threads at
@@ -35,10 +39,11 @@
 extern "C" {
 #endif
 
-/* The slots of a work table; the fewest slots of a root list; the most coefficients. */
+/* The slots of a work table; the fewest slots of a root list; the most coefficients; the bytes of a block corrector's word. */
 #define LOCATOR_SLOTS 100
 #define LOCATOR_ROOTS 32
 #define LOCATOR_COEFFICIENTS 33
+#define LOCATOR_WORD 256
 
 /* The conventions of a position, by how a locator is built from the bad bits, X = 2^place for each:
    Goppa codes: the product of (z + X), whose roots are the X themselves;
@@ -106,6 +111,26 @@ locator_stepped locator_step(uint16_t *table, size_t slots);
    written, nor is the table. count is their number; steps is 0. Any table may be lent, begun or not.
    Outcomes 0, 7, 8, 10, in the order 7, 8, 10; 7 where slots is not 100 or room is under 32. */
 locator_found locator_finish(const uint16_t *table, size_t slots, uint16_t *roots, size_t room);
+
+/* What the corrector gives: how many bits of the word it flipped, 0 where it was a codeword, and 0 where refused. */
+typedef struct { uint16_t outcome, flips; } locator_corrected;
+
+/* The block corrector. A word is 2047 bits in 256 bytes, bit j in byte j / 8 at weight 2^(j % 8); the last bit, at weight
+   128 of byte 255, is no bit of the word and must be 0. As a polynomial the word has bit j at x^j. It is a codeword of
+   strength t, t from 1 to 8, if it is zero at a^1, a^2, .., a^(2t) in field 11. Two different codewords of strength t
+   differ in more than 2t bits, so that at most one is within t bits of a word.
+
+   If a codeword differs from the word in at most t bits, the word becomes that codeword, and flips is the number of
+   bits in which it differed, 0 to t; no other bit of the lent memory changes. The word is turned away under 24 exactly
+   if there is no such codeword: an accepted word is a codeword afterwards, always. What it was before the damage the
+   call cannot know: where more than t bits are wrong, another codeword may be within t, and the word becomes that one.
+   At strength 1 every word is within one bit of a codeword, and 24 is never given.
+
+   Outcomes 0, 22, 23, 24, in this order: 22 where bytes is not 256 or the last bit is set, whatever the strength; 23
+   where strength is not 1 to 8; then 24. A refusal writes nothing.
+
+   examples/c/encode.h makes codewords; examples/c/blocks.c records and corrects them. */
+locator_corrected locator_correct(uint16_t strength, uint8_t *word, size_t bytes);
 
 #ifdef __cplusplus
 }

@@ -1,19 +1,31 @@
 /* Runs every call of the C face on a painted stack, in every field, on a polynomial of the highest degree that splits, and prints the most that was used.
-   Fails where it is more than LOCATOR_STACK. */
+   The block corrector has eight wrong bits at strength 8, and then nine, which it turns away. Fails where it is more than LOCATOR_STACK. */
 #define _GNU_SOURCE
 #include "locator.h"
 #include <stdio.h>
 #include <string.h>
 #include <ucontext.h>
 
-enum { CALLS = 9, PAINT = 0xA5 };
+enum { CALLS = 10, PAINT = 0xA5 };
 
-static const char *const name[CALLS] = {"product", "inverse", "position", "quadratic", "solve", "search", "begin", "step", "finish"};
+static const char *const name[CALLS] = {"product", "inverse", "position", "quadratic", "solve", "search", "begin", "step", "finish", "correct"};
 static unsigned char stack[1 << 20];
 static ucontext_t home, there;
 static uint16_t field, f[LOCATOR_COEFFICIENTS], roots[LOCATOR_ROOTS], table[LOCATOR_SLOTS];
+static uint8_t word[LOCATOR_WORD];
 static int call;
 static unsigned failed;
+
+/* Zeros are a codeword: eight bits of it flipped are corrected, nine turned away. */
+static void correct(void)
+{
+    for (unsigned k = 0; k < 9; k++)
+        word[k * 28] ^= 16;
+    failed |= locator_correct(8, word, LOCATOR_WORD).outcome != 24;
+    word[0] ^= 16;
+    locator_corrected c = locator_correct(8, word, LOCATOR_WORD);
+    failed |= c.outcome != 0 || c.flips != 8;
+}
 
 static void go(void)
 {
@@ -27,6 +39,7 @@ static void go(void)
     case 6: failed |= locator_begin(field, f, LOCATOR_COEFFICIENTS, 3, table, LOCATOR_SLOTS); break;
     case 7: while (locator_step(table, LOCATOR_SLOTS).done == 0 && failed == 0) ; break;
     case 8: failed |= locator_finish(table, LOCATOR_SLOTS, roots, LOCATOR_ROOTS).outcome; break;
+    case 9: correct(); break;
     }
 }
 

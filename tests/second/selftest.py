@@ -12,7 +12,9 @@ import sys
 
 sys.dont_write_bytecode = True
 
+import blocks
 import calls
+import corrector
 import elements
 import field
 import polynomials
@@ -465,6 +467,53 @@ def check_records(rng, count):
     check("sizes about the limit", {65535, 65536, 65537} <= sizes)
 
 
+# The block corrector.
+
+
+def check_codewords(rng):
+    """Generators by their degree, and codewords by the definition."""
+    check("the generator of strength 8", corrector.generator(8) == 317645624157077156049808851)
+    everywhere = bytes([255] * 255 + [127])
+    for t in blocks.STRENGTHS:
+        check("a generator's degree", corrector.generator(t).bit_length() == 11 * t + 1, t)
+        check("all ones", corrector.is_codeword(everywhere, t) and corrector.is_codeword(bytes(256), t), t)
+        word = blocks.any_codeword(rng, t)
+        for weaker in range(1, t + 1):
+            check("codewords of a strength are codewords of those below", corrector.is_codeword(word, weaker), t)
+        for bit in rng.sample(range(corrector.BITS), 16):
+            check("one bit makes no codeword", not corrector.is_codeword(corrector.flipped(word, [bit]), t), t, bit)
+
+
+def check_corrector(rng, count):
+    """What is planted comes back; at most one set of places is met; trial of places says the same."""
+    for t in blocks.STRENGTHS:
+        for number in range(count):
+            word = blocks.any_codeword(rng, t)
+            places = sorted(rng.sample(range(corrector.BITS), number % (t + 5)))
+            received = corrector.flipped(word, places)
+            met = list(corrector.candidates(received, t))
+            check("no two codewords qualify", len(met) < 2, t, places)
+            answer = corrector.correct(t, received)
+            if len(places) <= t:
+                check("planted errors come back", answer == (0, len(places), word) and met == [places], t, places)
+            check("only codewords are given", answer[0] == 24 or corrector.is_codeword(answer[2], t), t, places)
+            check("at strength 1 every word is within a bit of a codeword", t > 1 or answer[0] == 0, places)
+            if t < 3 or (t == 3 and number < 4):
+                check("corrections by trial of places", corrector.by_trial(t, received) == answer, t, places)
+
+
+def check_block_refusals():
+    """22 before 23 before 24; nothing is written."""
+    zeros, last = bytes(256), bytes(255) + b"\x80"
+    for strength, word, number in ((8, last, 22), (0, last, 22), (9, b"", 22), (1, bytes(257), 22), (1, bytes(255), 22),
+                                   (0, zeros, 23), (9, zeros, 23), (65535, zeros, 23), (256, zeros, 23),
+                                   (2, corrector.flipped(zeros, (0, 1, 2, 3)), 24)):
+        check("block refusals", corrector.correct(strength, word) == (number, 0, word), strength, len(word))
+    check("block lines", blocks.line(1, b"\x01", (22, 0, b"\x01")) == "1 1 | 22 | 01")
+    check("block lines", blocks.line(1, b"", (22, 0, b"")) == "1 0 | 22 |")
+    check("block lines", blocks.line(8, zeros, (0, 0, zeros)) == "8 256 | 0 0 | " + "00" * 256)
+
+
 # The case formats.
 
 
@@ -484,6 +533,8 @@ def check_formats(rng):
         data = calls.pack(0, 4, 1, [6, 7, 0, 1], lent) + calls.pack(1, 4, 0, [6, 7, 0, 1], lent)
         direct = [(0, R.whole(4, [6, 7, 0, 1], 1, lent)), (1, R.search(4, [6, 7, 0, 1], lent))]
         check("call cases survive packing", list(calls.answers(data)) == direct)
+    every = list(blocks.make_cases(rng.randrange(1000), 1))
+    check("block cases survive packing", list(blocks.unpack(b"".join(blocks.pack(*case) for case in every))) == every)
 
 
 def main():
@@ -501,6 +552,9 @@ def main():
     check_whole(rng, options.count)
     check_tables(rng, options.count // 4)
     check_records(rng, 60)
+    check_codewords(rng)
+    check_corrector(rng, options.count // 8)
+    check_block_refusals()
     check_formats(rng)
     for name, count in counts.items():
         print("%s: %d" % (name, count))

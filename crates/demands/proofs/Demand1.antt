@@ -1,13 +1,14 @@
 -- DEMAND 1 holds: `Demand1` of specs/Demand1.antt is the one record to read.
 --   Numbered   each test stands behind a number from 1 on
 --   decides, spares   an outcome and a memory that tests decide
+--   settles    the corrector's
 --   demand-1   it holds of every entry
 -- Assumes nothing.
-use mathlib.Core.Path.{_≡_, sym, ap, _∙_}
+use mathlib.Core.Path.{_≡_, refl, sym, ap, _∙_}
 use mathlib.Core.Bool.{Bool}
 use mathlib.Core.List.{List}
 use mathlib.Core.Logic.{_⊎_, inl, inr}
-use Prim.Native.Nat.{ℕ, _<_}
+use Prim.Native.Nat.{ℕ, suc, _<_}
 use native.Mathlib.Omega.{arith}
 use Rattle.refusals.specs.Order.{outcome, memory, Given, Passed}
 use Rattle.refusals.specs.Order.Given.{here, later}
@@ -19,9 +20,12 @@ use Rattle.splitter.proofs.Coincide.{stepped-told}
 use Rattle.finishing.proofs.Coincide.{finished-told}
 use Rattle.finder.proofs.Coincide.{solved-told}
 use Rattle.searching.proofs.Coincide.{searched-told}
+use Rattle.corrector.specs.Correcting.{distance, Corrects}
+use Rattle.corrector.specs.Correcting.Corrects.{no-block, no-strength, none-near, mended}
+use Rattle.corrector.proofs.Coincide.{corrected-told}
 use Rattle.records.proofs.Coincide as records
 use Rattle.records.proofs.Exactly.{ends-exactly, stops-exactly, refuses-exactly}
-use Rattle.demands.specs.Demand1.{Decides, Spares, Demand1}
+use Rattle.demands.specs.Demand1.{Decides, Spares, Settles, Demand1}
 
 -- each test stands behind a number from 1 on
 abbrev Numbered : List (ℕ × Bool) → Type 0
@@ -54,6 +58,41 @@ decides ts values n = record {
 spares : (ts : List (ℕ × Bool)) (new old : List ℕ) → Spares ts new old (memory ts new old)
 spares ts new old = record { refused = λ k g. order.unwritten new old g; accepted = λ p. order.written new old p }
 
+-- two outcomes with different numbers are not one
+clash : {A : Type 0} {o p : ℕ × List ℕ} → o ≡ p → (o .0 ≡ p .0 → ⊥) → A
+clash e n = absurd (n (ap (λ (q : ℕ × List ℕ). q .0) e))
+
+-- whatever the corrector's contract admits is settled by 22, 23 and 24 in this order
+settles : {t : ℕ} {word after : List ℕ} {o : ℕ × List ℕ} → Corrects t word o after → Settles t word o after
+settles (no-block x) = record {
+  block = (λ e. x, λ h. refl);
+  strength = (λ e. clash e (λ (z : 22 ≡ 23). omega arith), λ h. absurd (x (h .0)));
+  far = (λ e. clash e (λ (z : 22 ≡ 24). omega arith), λ h. absurd (x (h .0)));
+  accepted = (λ e. clash e (λ (z : 22 ≡ 0). omega arith), λ h. absurd (x (h .0)));
+  unwritten = λ k e. refl;
+}
+settles (no-strength b x) = record {
+  block = (λ e. clash e (λ (z : 23 ≡ 22). omega arith), λ h. absurd (h b));
+  strength = (λ e. (b, x), λ h. refl);
+  far = (λ e. clash e (λ (z : 23 ≡ 24). omega arith), λ h. absurd (x (h .1)));
+  accepted = (λ e. clash e (λ (z : 23 ≡ 0). omega arith), λ h. absurd (x (h .1)));
+  unwritten = λ k e. refl;
+}
+settles (none-near b s x) = record {
+  block = (λ e. clash e (λ (z : 24 ≡ 22). omega arith), λ h. absurd (h b));
+  strength = (λ e. clash e (λ (z : 24 ≡ 23). omega arith), λ h. absurd (h .1 s));
+  far = (λ e. (b, s, x), λ h. refl);
+  accepted = (λ e. clash e (λ (z : 24 ≡ 0). omega arith), λ h. absurd (x _ (h .2)));
+  unwritten = λ k e. refl;
+}
+settles (mended b s x) = record {
+  block = (λ e. clash e (λ (z : 0 ≡ 22). omega arith), λ h. absurd (h b));
+  strength = (λ e. clash e (λ (z : 0 ≡ 23). omega arith), λ h. absurd (h .1 s));
+  far = (λ e. clash e (λ (z : 0 ≡ 24). omega arith), λ h. absurd (h .2 _ x));
+  accepted = (λ e. (b, s, x), λ h. refl);
+  unwritten = λ k e. clash e (λ (z : 0 ≡ suc k). omega arith);
+}
+
 pub demand-1 : Demand1
 demand-1 = record {
   product = λ m a b. decides _ _ (omega arith, (omega arith, tt));
@@ -65,6 +104,7 @@ demand-1 = record {
   finish = λ table list. (decides _ _ (omega arith, (omega arith, (omega arith, tt))), spares _ _ list);
   solve = λ m c cs list. (decides _ _ (omega arith, (omega arith, (omega arith, (omega arith, (omega arith, (omega arith, (omega arith, tt))))))), spares _ _ list);
   search = λ m cs list. (decides _ _ (omega arith, (omega arith, (omega arith, (omega arith, (omega arith, (omega arith, tt)))))), spares _ _ list);
+  correct = λ t word o after h. settles h;
   ends = ends-exactly;
   stops = stops-exactly;
   refuses = refuses-exactly;
@@ -75,5 +115,6 @@ demand-1 = record {
   finish-told = finished-told;
   solve-told = solved-told;
   search-told = searched-told;
+  correct-told = corrected-told;
   read-told = records.read-told;
 }

@@ -1,5 +1,6 @@
--- The three demands, and that the two ways agree.
+-- The three demands, that the two ways agree, and what is promised of the block corrector.
 pub mod Agreement
 pub mod Demand1
 pub mod Demand2
 pub mod Demand3
+pub mod Corrector

@@ -2,6 +2,7 @@
 -- writes nothing in lent memory.
 --   Decides   an outcome by tests in their order: a refusal's number alone exactly when its test is the first to hold, 0 with the values exactly when none holds
 --   Spares    lent memory afterwards: as it was where a test holds, and else what the entry writes
+--   Settles   the corrector's outcome and word, by its tests in their order; the last of them asks for a codeword
 --   Told      an answer is told by the paper's number and values: two answers that a contract admits coincide
 --   Demand1   each entry, for every input: its tests in their order, its values, its memory; the record reader likewise; and that its answer is told
 -- Assumes nothing.
@@ -32,6 +33,7 @@ use Rattle.groups.specs.Demand.{stepsAt}
 use Rattle.finder.specs.Calls.{solveTests, solveOutcome, paperSolved}
 use Rattle.searching.specs.Calls.{searchTests, searchOutcome, paperSearched}
 use Rattle.groups.specs.RootMemory.{rootMemory}
+use Rattle.corrector.specs.Correcting.{distance, IsBlock, IsStrength, Within, Corrects, paperCorrected}
 use Rattle.records.specs.Layout.{recordLength}
 use Rattle.records.specs.Reading.{Outcome, startTests, recordTests, readAt}
 use Rattle.records.specs.Reading.{paper as paperRead}
@@ -43,6 +45,15 @@ pub record Decides (tests : List (ℕ × Bool)) (values : List ℕ) (outcome : �
 pub record Spares (tests : List (ℕ × Bool)) (new old after : List ℕ) : Type 0 where
   pub refused : (k : ℕ) → Given k tests → after ≡ old
   pub accepted : Passed tests → after ≡ new
+
+-- what refuses the corrector's word, in the order 22, 23, 24, and that a refusal writes nothing; 0 with the flips exactly
+-- when the word that is left is a codeword near
+pub record Settles (t : ℕ) (word : List ℕ) (outcome : ℕ × List ℕ) (after : List ℕ) : Type 0 where
+  pub block : (outcome ≡ (22, [])) ↔ (IsBlock word → ⊥)
+  pub strength : (outcome ≡ (23, [])) ↔ (IsBlock word × (IsStrength t → ⊥))
+  pub far : (outcome ≡ (24, [])) ↔ (IsBlock word × IsStrength t × ((v : List ℕ) → Within t word v → ⊥))
+  pub accepted : (outcome ≡ (0, distance word after ∷ [])) ↔ (IsBlock word × IsStrength t × Within t word after)
+  pub unwritten : (k : ℕ) → outcome ≡ (suc k, []) → after ≡ word
 
 abbrev pub Told : {A B : Type 0} → (A → B) → Type 0
 Told {A} tell = (r s : A) → tell r ≡ tell s → r ≡ s
@@ -72,6 +83,9 @@ pub record Demand1 : Type 0 where
   pub search : (m : ℕ) (cs list : List ℕ)
       → Decides (searchTests m cs list) (length (rootsAt m cs) ∷ []) (searchOutcome m cs list)
       × Spares (searchTests m cs list) (copied (rootsAt m cs) list) list (rootMemory (searchTests m cs list) m cs list)
+  -- correct: 22, 23, 24, of whatever its contract admits
+  pub correct : (t : ℕ) (word : List ℕ) (outcome : ℕ × List ℕ) (after : List ℕ)
+      → Corrects t word outcome after → Settles t word outcome after
   -- the reader at a place of a file: it ends where no byte remains, stops under 12 or 11, and refuses a complete record under 1 to 6 with the place behind it
   pub ends : (file : List ℕ) (at : ℕ) → (readAt file at ≡ Outcome.ends) ↔ (length file ≤ at)
   pub stops : (file : List ℕ) (at k : ℕ) → (readAt file at ≡ Outcome.gives k []) ↔ ((at < length file) × Given k (startTests (drop at file)))
@@ -86,4 +100,5 @@ pub record Demand1 : Type 0 where
   pub finish-told : Told paperFinished
   pub solve-told : Told paperSolved
   pub search-told : Told paperSearched
+  pub correct-told : Told paperCorrected
   pub read-told : Told paperRead

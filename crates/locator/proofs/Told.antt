@@ -1,8 +1,10 @@
 -- The C face loses nothing: a struct tells the answer that it was made from.
---   value-told ..     so for the struct of each answer
+--   value-told ..       so for the struct of each answer
+--   corrected-coincide  two structs that the corrector's export admits are one, and so is what the lent word holds
 -- Assumes nothing.
-use mathlib.Core.Path.{_≡_}
+use mathlib.Core.Path.{_≡_, sym, ap, _∙_}
 use mathlib.Core.Bool.{cond}
+use mathlib.Core.List.{List}
 use Prim.Native.Nat.{ℕ, zero, suc}
 use lib.Dec.{eqb}
 use Rattle.refusals.proofs.Numbers.{by-number, refused-back, accepted-back}
@@ -28,11 +30,16 @@ use Rattle.splitter.specs.declared.Stepped.{Stepped}
 use Rattle.splitter.specs.declared.Stepped.the-variants.{Taken, Done, NotStepped}
 use Rattle.finishing.specs.declared.Finished.{Finished}
 use Rattle.finishing.specs.declared.Finished.the-variants.{Listed, NotFinished}
-use Rattle.locator.specs.Calls.{asValue, asPair, asFound, asStepped}
+use Rattle.corrector.specs.Correcting.{paperCorrected}
+use Rattle.corrector.specs.declared.Corrected.{Corrected}
+use Rattle.corrector.specs.declared.Corrected.the-variants.{Flips, NotCorrected}
+use Rattle.corrector.proofs.Coincide.{coincide}
+use Rattle.locator.specs.Calls.{asValue, asPair, asFound, asStepped, asCorrected, CorrectsAs}
 use Rattle.locator.specs.declared.LocatorValue.{LocatorValue}
 use Rattle.locator.specs.declared.LocatorPair.{LocatorPair}
 use Rattle.locator.specs.declared.LocatorFound.{LocatorFound}
 use Rattle.locator.specs.declared.LocatorStepped.{LocatorStepped}
+use Rattle.locator.specs.declared.LocatorCorrected.{LocatorCorrected}
 
 -- ---- element calls
 
@@ -122,3 +129,26 @@ stepped-back (NotStepped k) = refused-back NotStepped Taken k
 
 pub stepped-told : (a b : Stepped) → asStepped (paperStepped a) ≡ asStepped (paperStepped b) → a ≡ b
 stepped-told = told (λ (a : Stepped). asStepped (paperStepped a)) steppedBack stepped-back
+
+-- ---- the block corrector
+
+-- the answer that a struct tells
+correctedBack : LocatorCorrected → Corrected
+correctedBack c = by-number NotCorrected (Flips (c .flips)) (c .outcome)
+
+-- it takes the struct back
+corrected-back : (a : Corrected) → correctedBack (asCorrected (paperCorrected a)) ≡ a
+unfolding correctedBack
+corrected-back (Flips n) = accepted-back NotCorrected (Flips n)
+corrected-back (NotCorrected k) = refused-back NotCorrected (Flips 0) k
+
+-- two answers with one struct are one
+pub corrected-told : (a b : Corrected) → asCorrected (paperCorrected a) ≡ asCorrected (paperCorrected b) → a ≡ b
+corrected-told = told (λ (a : Corrected). asCorrected (paperCorrected a)) correctedBack corrected-back
+
+-- two structs that the export admits are one, and so is what they leave
+pub corrected-coincide : {t : ℕ} {word x y : List ℕ} {r s : LocatorCorrected}
+    → CorrectsAs t word r x → CorrectsAs t word s y → (r ≡ s) × (x ≡ y)
+corrected-coincide h k =
+    let e = coincide (h .admitted) (k .admitted) in
+    (h .told ∙ ap asCorrected (e .0) ∙ sym (k .told), e .1)

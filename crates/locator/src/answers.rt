@@ -7,12 +7,15 @@ ghost use Rattle.searching.specs.Calls.{paperSearched};
 ghost use Rattle.beginning.specs.Calls.{paperBegun};
 ghost use Rattle.splitter.specs.Calls.{paperStepped};
 ghost use Rattle.finishing.specs.Calls.{paperFinished};
-ghost use Rattle.locator.specs.Calls.{asValue, asPair, asFound, asStepped};
+ghost use Rattle.corrector.specs.Correcting.{paperCorrected};
+ghost use Rattle.locator.specs.Calls.{asValue, asPair, asFound, asStepped, asCorrected};
+use crate::LocatorCorrected;
 use crate::LocatorFound;
 use crate::LocatorPair;
 use crate::LocatorStepped;
 use crate::LocatorValue;
 use beginning::Begun;
+use corrector::Corrected;
 use elements::Answer;
 use field::solver::Quadratic;
 use finder::Solved;
@@ -149,6 +152,22 @@ pub fn finished_of(a: Finished) -> LocatorFound
             outcome: number(k),
             count: 0,
             steps: 0,
+        },
+    }
+}
+
+// Of the block corrector.
+pub fn corrected_of(a: Corrected) -> LocatorCorrected
+    ensures { λ r. ⌜ r ≡ asCorrected (paperCorrected a) ⌝ }
+{
+    match a {
+        Corrected::Flips(n) => LocatorCorrected {
+            outcome: 0,
+            flips: n,
+        },
+        Corrected::NotCorrected(k) => LocatorCorrected {
+            outcome: number(k),
+            flips: 0,
         },
     }
 }

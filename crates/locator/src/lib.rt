@@ -1,5 +1,6 @@
-// The C face: the element calls, the whole call, the plain search, and begin, step and finish, as include/locator.h declares them. A slice is a
-// pointer, then a count. Each call answers every input; it neither allocates nor calls out, and keeps no state.
+// The C face: the element calls, the whole call, the plain search, begin, step and finish, and the block corrector, as
+// include/locator.h declares them. A slice is a pointer, then a count. Each call answers every input; it neither
+// allocates nor calls out, and keeps no state.
 ghost use mathlib.Core.Path.{_≡_};
 ghost use Rattle.elements.specs.Calls.{productOutcome, inverseOutcome, positionOutcome, quadraticOutcome};
 ghost use Rattle.finder.specs.Calls.{solveOutcome, solveTests};
@@ -8,7 +9,7 @@ ghost use Rattle.groups.specs.RootMemory.{rootMemory};
 ghost use Rattle.beginning.specs.Calls.{beginOutcome, beginMemory};
 ghost use Rattle.splitter.specs.Calls.{stepOutcome, stepMemory};
 ghost use Rattle.finishing.specs.Calls.{finishOutcome, finishMemory};
-ghost use Rattle.locator.specs.Calls.{asValue, asPair, asFound, asStepped};
+ghost use Rattle.locator.specs.Calls.{asValue, asPair, asFound, asStepped, CorrectsAs};
 
 mod answers; // what the calls answer, as these structs
 
@@ -41,6 +42,13 @@ pub struct LocatorFound {
 pub struct LocatorStepped {
     pub outcome: u16,
     pub done: u16,
+}
+
+// The corrector's answer: how many bits were flipped.
+#[repr(C)]
+pub struct LocatorCorrected {
+    pub outcome: u16,
+    pub flips: u16,
 }
 
 // The product of a and b in the field of degree m.
@@ -118,4 +126,12 @@ pub extern "C" fn locator_finish(table: &[u16], roots: &mut [u16]) -> LocatorFou
     ensures { λ r. ⌜ (r ≡ asFound (finishOutcome (now (table .entry)) (now (roots .entry)))) × (now (roots .exit) ≡ finishMemory (now (table .entry)) (now (roots .entry))) ⌝ }
 {
     answers::finished_of(finishing::finish(table, roots))
+}
+
+// The block corrector.
+#[no_mangle]
+pub extern "C" fn locator_correct(strength: u16, word: &mut [u8]) -> LocatorCorrected
+    ensures { λ r. ⌜ CorrectsAs strength (now (word .entry)) r (now (word .exit)) ⌝ }
+{
+    answers::corrected_of(corrector::correct(strength, word))
 }

@@ -3,6 +3,6 @@
 
 mod halves; // the quadratic tables
 mod logtables; // the logs and the powers
-mod named; // each of these, with what it holds
+pub mod named; // each of these, with what it holds
 pub mod widths; // the field types
 pub mod lent; // tables lent to inner calls

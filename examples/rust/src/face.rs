@@ -28,6 +28,12 @@ pub struct Stepped {
     pub done: u16,
 }
 
+#[repr(C)]
+pub struct Corrected {
+    pub outcome: u16,
+    pub flips: u16,
+}
+
 extern "C" {
     fn locator_product(m: u16, a: u16, b: u16) -> Value;
     fn locator_inverse(m: u16, a: u16) -> Value;
@@ -52,6 +58,7 @@ extern "C" {
     ) -> u16;
     fn locator_step(table: *mut u16, slots: usize) -> Stepped;
     fn locator_finish(table: *const u16, slots: usize, roots: *mut u16, room: usize) -> Found;
+    fn locator_correct(strength: u16, word: *mut u8, bytes: usize) -> Corrected;
 }
 
 pub fn product(m: u16, a: u16, b: u16) -> Value {
@@ -114,4 +121,8 @@ pub fn step(table: &mut [u16]) -> Stepped {
 
 pub fn finish(table: &[u16], roots: &mut [u16]) -> Found {
     unsafe { locator_finish(table.as_ptr(), table.len(), roots.as_mut_ptr(), roots.len()) }
+}
+
+pub fn correct(strength: u16, word: &mut [u8]) -> Corrected {
+    unsafe { locator_correct(strength, word.as_mut_ptr(), word.len()) }
 }

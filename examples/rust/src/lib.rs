@@ -1,13 +1,18 @@
-//! Safe calls of the proved root finder: the roots of polynomials over GF(2^m), m = 4, 8 or 11. include/locator.h says what each call does; here a
-//! refusal is an error, a list is a slice, and what is given back is typed. No call allocates, calls out or keeps state.
+//! Safe calls of the proved root finder: the roots of polynomials over GF(2^m), m = 4, 8 or 11, and the block corrector.
+//! include/locator.h says what each call does; here a refusal is an error, a list is a slice, and what is given back is
+//! typed. No call allocates, calls out or keeps state. The module `encode` makes codewords for the corrector; it is
+//! tested and not proved.
 #![no_std]
 
+pub mod encode;
 mod face;
 
 /// The slots of a work table.
 pub const SLOTS: usize = 100;
 /// The fewest slots of a root list.
 pub const ROOTS: usize = 32;
+/// The bytes of a block corrector's word.
+pub const WORD: usize = 256;
 
 /// Why an input is turned away, under the paper's number. Numbers that no call of this crate can give are not here: 11
 /// and 12 are of job records, and 21 is of a convention that there is not, which a [`Convention`] cannot be.
@@ -36,6 +41,12 @@ pub enum Refusal {
     NotDone = 10,
     /// An inverse or a position of 0.
     OfZero = 13,
+    /// The word has not 256 bytes, or its last bit is set.
+    Block = 22,
+    /// The strength is not 1 to 8.
+    Strength = 23,
+    /// No codeword is within the strength.
+    Far = 24,
 }
 
 impl Refusal {
@@ -49,6 +60,7 @@ impl Refusal {
         use Refusal::*;
         [
             Field, Empty, Long, Element, AllZero, Cutoff, Room, Unsound, Stuck, NotDone, OfZero,
+            Block, Strength, Far,
         ]
         .into_iter()
         .find(|r| r.number() == number)
@@ -178,4 +190,11 @@ pub fn finish<'a>(table: &[u16], roots: &'a mut [u16]) -> Result<&'a [u16], Refu
     let found = face::finish(table, roots);
     accepted(found.outcome)?;
     Ok(&roots[..found.count.into()])
+}
+
+/// The block corrector: makes the word the codeword of this strength, 1 to 8, that differs from it in at most so many
+/// bits, and tells how many it flipped. `Refusal::Far` is given exactly if there is none; a refusal writes nothing.
+pub fn correct(strength: u16, word: &mut [u8]) -> Result<u16, Refusal> {
+    let corrected = face::correct(strength, word);
+    accepted(corrected.outcome).map(|()| corrected.flips)
 }

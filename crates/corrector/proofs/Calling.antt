@@ -1,0 +1,219 @@
+-- What the called functions answer here: neither the position call nor the plain search refuses.
+--   not-zero                          the number of a refusal is not 0
+--   place-value, place-never          what the position call answers
+--   search-never, search-count, search-places   what the plain search answers
+--   placing, holds                    the roots whose places are asked for; the struct that holds the places
+--   spotted-many, spotted-few, spotted-no, spotted-yes   the places of a locator polynomial, told and read
+--   Keyed, keyed                      the register that was found
+--   located-many, located-few, located-other, fits   the places to flip
+-- Assumes nothing.
+use mathlib.Core.Path.{_≡_, refl, sym, ap, ap₂, _∙_, subst}
+use mathlib.Core.Bool.{Bool, true, false, cond, not, _&&_}
+use mathlib.Core.List.{List, [], _∷_, map}
+use Prim.Native.Nat.{ℕ, zero, suc, _^_, _≤_, _<_}
+use native.Mathlib.Omega.{arith}
+use borrow.Author.Tests.{le-ltb, lt-ltb, lt-leb, ne-eqb}
+use lib.Dec.{eqb, ltb}
+use lib.ListN.{length, getD, take, length-map, length-take}
+use lib.Seq.{getD-take, ext-getD}
+use Rattle.refusals.specs.Order.{Passed}
+use Rattle.refusals.specs.Order.Passed.{none, more}
+use Rattle.refusals.specs.Numbers.{numberOf}
+use Rattle.refusals.specs.Rows.{known}
+use Rattle.refusals.specs.declared.Refusal.{Refusal}
+use Rattle.refusals.proofs.Order.{passes, accepted, written}
+use Rattle.refusals.proofs.Numbers.{by-number, refused-back, accepted-back}
+use Rattle.refusals.proofs.Rows.{row11}
+use Rattle.field.specs.Field.{fieldAt}
+use Rattle.algebra.specs.Trial.{All}
+use Rattle.slots.specs.Bounded.{allBelow}
+use Rattle.slots.proofs.Lists.{copied-front}
+use Rattle.groups.specs.Splitting.{rootsAt}
+use Rattle.groups.specs.RootMemory.{rootMemory}
+use Rattle.searching.specs.Calls.{searchTests, searchOutcome, paperSearched}
+use Rattle.searching.specs.declared.Searched.{Searched}
+use Rattle.searching.specs.declared.Searched.the-variants.{Seen, NotSearched}
+use Rattle.locating.specs.Under.{Under, PowerSums, registerOf}
+use Rattle.locating.specs.declared.State.{State}
+use Rattle.locating.proofs.Fine.{Fine, register-fine}
+use Rattle.codes.specs.Eleven.{F11}
+use Rattle.codes.specs.Key.{register}
+use Rattle.corrector.specs.Places.{placesOf, placesIn, named, Placing, Placed, Holds, Few8, Either, Spotted, Located, Acceptable, Agrees}
+use Rattle.corrector.specs.declared.Places.{Places}
+use Rattle.corrector.proofs.Marking.{roots-nonzero, places-below}
+use Rattle.elements.specs.Calls.{paper, positionTests, positionUnder, positionOutcome}
+use Rattle.elements.specs.declared.Answer.{Answer}
+use Rattle.elements.specs.declared.Answer.the-variants.{Value, Refused}
+
+-- the number of a refusal is not 0
+pub not-zero : (k : Refusal) → numberOf k ≡ 0 → ⊥
+not-zero k e =
+    let z : _≡_ {A = ℕ} 0 1 = sym (accepted-back (λ _. 1) 0) ∙ ap (by-number (λ _. 1) 0) (sym e) ∙ refused-back (λ _. 1) 0 k in
+    omega arith
+
+place-passes : (r : ℕ) → (0 < r) × (r < 2048) → Passed (positionTests 11 r 1)
+place-passes r h =
+    passes (ap not (row11 .degree)) (passes (le-ltb 1 1 (omega arith)) (passes (lt-leb 2048 r (h .1)) (passes (ne-eqb r 0 (let p = h .0 in omega arith)) none)))
+
+module _ (r : ℕ) (h : (0 < r) × (r < 2048)) (a : Answer) (e : paper a ≡ positionOutcome 11 r 1) where
+  accepts : paper a ≡ (0, positionUnder 1 (fieldAt 11) r ∷ [])
+  accepts = e ∙ accepted _ (place-passes r h)
+
+  pub place-value : {j : ℕ} → a ≡ Value j → j ≡ positionUnder 1 (fieldAt 11) r
+  place-value f = ap (λ o. getD (o .1) 0 0) (sym (ap paper f) ∙ accepts)
+
+  pub place-never : {k : Refusal} → a ≡ Refused k → ⊥
+  place-never {k} f = not-zero k (ap (λ o. o .0) (sym (ap paper f) ∙ accepts))
+
+-- ---- the plain search on a locator polynomial
+
+all-getD : (l : List ℕ) (i : ℕ) → i < length l → All (λ x. (0 < x) × (x < 2048)) l → (0 < getD l i 0) × (getD l i 0 < 2048)
+all-getD [] i h a = absurd (omega arith)
+all-getD (x ∷ l) zero h a = a .0
+all-getD (x ∷ l) (suc i) h a = all-getD l i (omega arith) (a .1)
+
+all-getD₂ : (l : List ℕ) (i : ℕ) → i < length l → All (λ x. x < 2047) l → getD l i 0 < 2047
+all-getD₂ [] i h a = absurd (omega arith)
+all-getD₂ (x ∷ l) zero h a = a .0
+all-getD₂ (x ∷ l) (suc i) h a = all-getD₂ l i (omega arith) (a .1)
+
+map-at : (f : ℕ → ℕ) (l : List ℕ) (i : ℕ) → i < length l → f (getD l i 0) ≡ getD (map f l) i 0
+map-at f [] i h = absurd (omega arith)
+map-at f (x ∷ l) zero h = refl
+map-at f (x ∷ l) (suc i) h = map-at f l i (omega arith)
+
+below-all : (q : ℕ) (l : List ℕ) → ((k : ℕ) → getD l k 0 < q) → allBelow q l ≡ true
+unfolding allBelow
+below-all q [] u = refl
+below-all q (x ∷ l) u = ap₂ (λ (a b : Bool). a && b) (lt-ltb x q (u 0)) (below-all q l (λ k. u (suc k)))
+
+not-zeros : (l : List ℕ) → getD l 0 0 ≡ 1 → allBelow 1 l ≡ false
+unfolding allBelow
+not-zeros [] e = absurd (omega arith)
+not-zeros (x ∷ l) e = ap (λ (a : Bool). a && allBelow 1 l) (le-ltb x 1 (omega arith))
+
+module _ (p list : List ℕ) (u : Under p) (first : getD p 0 0 ≡ 1) (long : length p ≡ 9) (room : length list ≡ 32) where
+  search-passes : Passed (searchTests 11 p list)
+  search-passes =
+      passes (ap not (row11 .degree)) (passes (ne-eqb (length p) 0 (omega arith)) (passes (le-ltb 33 (length p) (omega arith)) (passes (ap not (below-all 2048 p u))
+      (passes (not-zeros p first) (passes (le-ltb (length list) 32 (omega arith)) none)))))
+
+  module _ (r : Searched) (e : paperSearched r ≡ searchOutcome 11 p list) where
+    search-accepts : paperSearched r ≡ (0, length (rootsAt 11 p) ∷ [])
+    search-accepts = e ∙ accepted _ search-passes
+
+    pub search-never : {k : Refusal} → r ≡ NotSearched k → ⊥
+    search-never {k} f = not-zero k (ap (λ o. o .0) (sym (ap paperSearched f) ∙ search-accepts))
+
+    pub search-count : {s : ℕ} → r ≡ Seen s → s ≡ length (rootsAt 11 p)
+    search-count f = ap (λ o. getD (o .1) 0 0) (sym (ap paperSearched f) ∙ search-accepts)
+
+    pub search-places : {s : ℕ} → r ≡ Seen s → s ≡ length (placesOf p)
+    unfolding placesOf
+    search-places f = search-count f ∙ sym (length-map (rootsAt 11 p) (positionUnder 1 (fieldAt 11)))
+
+    module _ {s : ℕ} (f : r ≡ Seen s) (list′ : List ℕ) (w : list′ ≡ rootMemory (searchTests 11 p list) 11 p list) where
+      roots-are : take s list′ ≡ rootsAt 11 p
+      roots-are = ap (take s) (w ∙ written _ _ search-passes) ∙ copied-front (rootsAt 11 p) list (sym (search-count f))
+
+      root-at : (i : ℕ) → i < s → getD list′ i 0 ≡ getD (rootsAt 11 p) i 0
+      root-at i h = sym (getD-take s list′ i 0 h) ∙ ap (λ (l : List ℕ). getD l i 0) roots-are
+
+      pub placing : s ≤ 8 → s ≤ length list′ → Placing list′ s
+      placing h l = record {
+        few = h;
+        room = l;
+        nonzero = λ i q. subst (λ (x : ℕ). (0 < x) × (x < 2048)) (sym (root-at i q)) (all-getD (rootsAt 11 p) i (let n = search-count f in omega arith) (roots-nonzero p first));
+      }
+
+      place-map : (i : ℕ) → i < length (rootsAt 11 p) → positionUnder 1 (fieldAt 11) (getD (rootsAt 11 p) i 0) ≡ getD (placesOf p) i 0
+      unfolding placesOf
+      place-map i h = map-at (positionUnder 1 (fieldAt 11)) (rootsAt 11 p) i h
+
+      -- the struct holds the places
+      pub holds : (q : Places) → s ≤ 8 → Placed list′ s q → Holds (placesOf p) q
+      holds q h d = record {
+        count = d .count ∙ search-places f;
+        places = places-are;
+        fits = record {
+          few = (let c = d .count in omega arith);
+          long = d .long;
+          below = λ i l. subst (λ (x : ℕ). x < 2047) (sym (place-at i (let c = d .count in omega arith))) (all-getD₂ (placesOf p) i (let n = search-places f in let c = d .count in omega arith) (places-below p first));
+        };
+      }
+        where
+          place-at : (i : ℕ) → i < s → getD (q .at) i 0 ≡ getD (placesOf p) i 0
+          place-at i l = d .places i l ∙ ap (positionUnder 1 (fieldAt 11)) (root-at i l) ∙ place-map i (let n = search-count f in omega arith)
+
+          places-are : take (q .n) (q .at) ≡ placesOf p
+          places-are =
+              ext-getD 0 (take (q .n) (q .at)) (placesOf p) same-long
+              (λ i l. getD-take (q .n) (q .at) i 0 (short i l) ∙ place-at i (let c = d .count in let g = short i l in omega arith))
+            where
+              same-long : length (take (q .n) (q .at)) ≡ length (placesOf p)
+              same-long = length-take (q .n) (q .at) ∙ (let c = d .count in let n = search-places f in let g = d .long in omega arith)
+
+              short : (i : ℕ) → i < length (take (q .n) (q .at)) → i < q .n
+              short i l = let c = d .count in let n = search-places f in let m = same-long in omega arith
+
+-- ---- what is returned
+
+pub spotted-many : (js : List ℕ) (t : ℕ) (q : Places) → q .good ≡ false → t < length js → Spotted js t q
+spotted-many js t q e h = subst (λ b. Either b (Holds js q × (length js ≤ t)) (t < length js)) (sym e) h
+
+pub spotted-few : (js : List ℕ) (t : ℕ) (q : Places) → q .good ≡ true → Holds js q → length js ≤ t → Spotted js t q
+spotted-few js t q e h l = subst (λ b. Either b (Holds js q × (length js ≤ t)) (t < length js)) (sym e) (h, l)
+
+pub spotted-no : (js : List ℕ) (t : ℕ) (q : Places) → Spotted js t q → q .good ≡ false → t < length js
+spotted-no js t q h e = subst (λ b. Either b (Holds js q × (length js ≤ t)) (t < length js)) e h
+
+pub spotted-yes : (js : List ℕ) (t : ℕ) (q : Places) → Spotted js t q → q .good ≡ true → Holds js q × (length js ≤ t)
+spotted-yes js t q h e = subst (λ b. Either b (Holds js q × (length js ≤ t)) (t < length js)) e h
+
+-- the register that the code found
+pub record Keyed (s : List ℕ) (t : ℕ) (l : List ℕ) : Type 0 where
+  pub below : Under l
+  pub first : getD l 0 0 ≡ 1
+  pub places : placesOf l ≡ named s t
+
+pub keyed : (s : List ℕ) (t : ℕ) (r : State) → registerOf r ≡ register F11 8 (λ j. getD s j 0) t → Keyed s t (r .locator)
+unfolding named
+keyed s t r e =
+    let f : Fine t (registerOf r) = subst (Fine t) (sym e) (register-fine (λ j. getD s j 0) t) in
+    record { below = f .below; first = f .first; places = ap (λ g. placesOf (g .locator)) e }
+
+module _ (odd s : List ℕ) (t : ℕ) (ps : PowerSums odd s) (l : List ℕ) (k : Keyed s t l) (p : Places) (h : Spotted (placesOf l) t p) where
+  not-few : p .good ≡ false → Acceptable odd t (named s t) → ⊥
+  not-few e a =
+      let n : t < length (placesOf l) = spotted-no (placesOf l) t p h e in
+      let m : length (placesOf l) ≡ length (named s t) = ap length (k .places) in
+      let f = a .few in
+      omega arith
+
+  pub located-many : (q : Places) → q .good ≡ false → p .good ≡ false → Located odd t q
+  located-many q e g = (s, ps, subst (λ b. Either b (Holds (named s t) q × Acceptable odd t (named s t)) (Acceptable odd t (named s t) → ⊥)) (sym e) (not-few g))
+
+  holds-named : p .good ≡ true → Holds (named s t) p × (length (named s t) ≤ t)
+  holds-named e = subst (λ (js : List ℕ). Holds js p × (length js ≤ t)) (k .places) (spotted-yes (placesOf l) t p h e)
+
+  pub fits : p .good ≡ true → Few8 p
+  fits e = holds-named e .0 .fits
+
+  same : p .good ≡ true → placesIn p ≡ named s t
+  same e = holds-named e .0 .places
+
+  pub located-few : p .good ≡ true → Agrees odd t (placesIn p) → Located odd t p
+  located-few e a = (
+    s,
+    ps,
+    subst (λ b. Either b (Holds (named s t) p × Acceptable odd t (named s t)) (Acceptable odd t (named s t) → ⊥)) (sym e)
+        (holds-named e .0, record { few = holds-named e .1; sums = subst (λ (js : List ℕ). Agrees odd t js) (same e) a }),
+  )
+
+  pub located-other : (q : Places) → q .good ≡ false → p .good ≡ true → (Agrees odd t (placesIn p) → ⊥) → Located odd t q
+  located-other q e g n = (
+    s,
+    ps,
+    subst (λ b. Either b (Holds (named s t) q × Acceptable odd t (named s t)) (Acceptable odd t (named s t) → ⊥)) (sym e)
+        (λ a. n (subst (λ (js : List ℕ). Agrees odd t js) (sym (same g)) (a .sums))),
+  )

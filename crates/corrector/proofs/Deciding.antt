@@ -1,0 +1,252 @@
+-- What the code finds decides: where its places are acceptable, flipping them makes the codeword; where they are not,
+-- there is none.
+--   none-within        no codeword is near where the places are not acceptable
+--   flipped-within     where they are, flipping them makes the codeword near;  flipped-distance  by so many flips
+--   clean-within       a word whose syndromes are 0 is a codeword
+-- Assumes nothing.
+use mathlib.Core.Path.{_≡_, refl, sym, ap, ap₂, _∙_, subst}
+use mathlib.Core.Logic.{_↔_, ⊎-elim}
+use mathlib.Core.Bool.{Bool, true, false}
+use mathlib.Core.List.{List, [], _∷_, map}
+use Prim.Native.Nat.{ℕ, zero, suc, _+_, _-_, _*_, _/_, _%_, _^_, _≤_, _<_}
+use native.Mathlib.Nat.{pow-suc, mul-assoc as times-assoc, mul-le-mul-right}
+use native.Mathlib.Decide.{decLt}
+use native.Mathlib.Omega.{arith}
+use lib.Bits.{bitXor, xor-lt, xor-zero-r}
+use lib.ListN.{length, getD, length-map}
+use lib.Pow.{pow-lt, pow-pos}
+use Rattle.algebra.specs.Field.{power}
+use Rattle.algebra.specs.Polynomial.{coef, isRoot}
+use Rattle.algebra.specs.Trial.{All, upFrom}
+use Rattle.field.specs.Field.{fieldAt, mul, inverse, numbers, reduce}
+use Rattle.codes.specs.Word.{both, places, distance, total, value, locators, differs}
+use Rattle.codes.specs.Key.{register}
+use Rattle.codes.specs.Correct.{syndromes, locatorOf, marked, flips, Passes}
+use Rattle.codes.specs.Digits.{numberOf, digits}
+use Rattle.codes.specs.Eleven.{F11}
+use Rattle.codes.proofs.Eleven.{gen11}
+use Rattle.codes.proofs.Odd.{half}
+use Rattle.codes.proofs.Same.{register-same}
+use Rattle.codes.proofs.Complete.{row-at, both-both}
+use Rattle.codes.proofs.Flips.{digits-xor}
+use Rattle.codes.proofs.Numbers.{syndrome-square, accepted, exactly}
+use Rattle.generator.specs.Rows.{generator}
+use Rattle.syndromes.specs.Remainder.{OddValues}
+use Rattle.syndromes.proofs.Zeros.{odd-syndromes}
+use Rattle.locating.specs.Under.{PowerSums}
+use Rattle.locating.proofs.Fine.{register-fine}
+use Rattle.corrector.specs.Places.{xorOver, placesOf, sumAt, Acceptable, named, flipAll}
+use Rattle.corrector.specs.Correcting.{IsBlock, IsStrength, Within}
+use Rattle.corrector.specs.Correcting as blocks
+use Rattle.corrector.proofs.Bits.{bitsOf, bits-digits, block-below, length-digits, word-back, Flipped, flipped}
+use Rattle.corrector.proofs.Blocks.{Near, make-block, last-small, within-bits, within-block, distance-bits}
+use Rattle.corrector.proofs.Marking.{places-distinct, places-member, places-below}
+use Rattle.corrector.proofs.Reordering.{same-length, same-xor}
+
+total-over : (g h : ℕ → ℕ) (l : List ℕ) → total F11 g (map h l) ≡ xorOver (λ j. g (h j)) l
+unfolding total xorOver
+total-over g h [] = refl
+total-over g h (j ∷ l) = ap (bitXor (g (h j))) (total-over g h l)
+
+length-row : (k n : ℕ) → length (upFrom k n) ≡ n
+unfolding upFrom
+length-row k zero = refl
+length-row k (suc n) = ap suc (length-row (suc k) n)
+
+-- the highest byte of a number that is small
+top-byte : (bytes : List ℕ) (n : ℕ) → length bytes ≡ suc n → getD bytes n 0 * 256 ^ n ≤ numberOf bytes
+unfolding numberOf
+top-byte [] n e = absurd (omega arith)
+top-byte (b ∷ bs) zero e = omega arith
+top-byte (b ∷ bs) (suc n) e =
+    let i = top-byte bs n (omega arith) in
+    let p : getD bs n 0 * 256 ^ suc n ≡ getD bs n 0 * 256 ^ n * 256 = ap (λ (x : ℕ). getD bs n 0 * x) (pow-suc 256 n) ∙ sym (times-assoc (getD bs n 0) (256 ^ n) 256) in
+    omega arith
+
+factor : (x p N : ℕ) → x * p ≤ N → N < 128 * p → x < 128
+factor x p N a b = go (decLt x 128)
+  where
+    go : Dec (x < 128) → x < 128
+    go (yes h) = h
+    go (no h) = let m : 128 * p ≤ x * p = mul-le-mul-right p (let l : 128 ≤ x = omega arith in l) in absurd (let z : ⊥ = omega arith in z)
+
+last-below : (bytes : List ℕ) → length bytes ≡ 256 → numberOf bytes < 2 ^ 2047 → getD bytes 255 0 < 128
+last-below bytes e h = factor (getD bytes 255 0) (256 ^ 255) (numberOf bytes) (top-byte bytes 255 e) h
+
+xor-below : (js : List ℕ) → All (λ j. j < 2047) js → xorOver (λ j. 2 ^ j) js < 2 ^ 2047
+unfolding xorOver
+xor-below [] a = pow-pos 2047
+xor-below (j ∷ js) a = xor-lt 2047 (2 ^ j) (xorOver (λ j. 2 ^ j) js) (pow-lt (a .0)) (xor-below js (a .1))
+
+-- the word with no places
+none : List Bool → List Bool
+none [] = []
+none (x ∷ w) = false ∷ none w
+
+length-none : (w : List Bool) → length (none w) ≡ length w
+unfolding none
+length-none [] = refl
+length-none (x ∷ w) = ap suc (length-none w)
+
+places-none : (k : ℕ) (w : List Bool) → places k (none w) ≡ []
+unfolding none places
+places-none k [] = refl
+places-none k (x ∷ w) = places-none (suc k) w
+
+none-both : (w : List Bool) → both w (none w) ≡ w
+unfolding none both
+none-both [] = refl
+none-both (true ∷ w) = ap (λ l. true ∷ l) (none-both w)
+none-both (false ∷ w) = ap (λ l. false ∷ l) (none-both w)
+
+module _ (word : List ℕ) (t : ℕ) (b : IsBlock word) (st : IsStrength t) where
+  w : List Bool
+  w = bitsOf word
+
+  abbrev W : ℕ
+  W = numberOf word
+
+  small : W < 2 ^ 2047
+  small = block-below word (b .long) (last-small b) (b .bytes)
+
+  w-digits : w ≡ digits 2047 W
+  unfolding w
+  w-digits = bits-digits word (b .bytes)
+
+  long-w : length w ≡ 2047
+  long-w = ap length w-digits ∙ length-digits 2047 W
+
+  module _ {n : ℕ} {odd : List ℕ} (e : n ≡ reduce generator W) (v : OddValues n odd) where
+    odd-at : (k : ℕ) → k < 8 → getD odd k 0 ≡ value F11 w (power F11 2 (suc (2 * k)))
+    odd-at k h = odd-syndromes W small e v k h ∙ ap (λ (x : List Bool). value F11 x (power F11 2 (suc (2 * k)))) (sym w-digits)
+
+    module _ (s : List ℕ) (ps : PowerSums odd s) where
+      sum-at : (f k : ℕ) → k ≤ f → 0 < k → k ≤ 16 → getD s k 0 ≡ value F11 w (power F11 2 k)
+      sum-at zero k l p q = absurd (omega arith)
+      sum-at (suc f) k l p q =
+          ⊎-elim (λ h. even (h .0) (h .1) (sum-at f (h .0) (omega (arith, h .1)) (omega (arith, h .1)) (omega (arith, h .1))))
+          (λ h. ap (λ (m : ℕ). getD s m 0) (h .1) ∙ ps .odd-is (h .0) (omega (arith, h .1)) ∙ odd-at (h .0) (omega (arith, h .1)) ∙ ap (λ (m : ℕ). value F11 w (power F11 2 m)) (sym (h .1))) (half k)
+        where
+          even : (i : ℕ) → k ≡ 2 * i → getD s i 0 ≡ value F11 w (power F11 2 i) → getD s k 0 ≡ value F11 w (power F11 2 k)
+          even i h ih =
+              let m : k ≡ suc (suc (2 * (i - 1))) = omega arith in
+              let c : suc (i - 1) ≡ i = omega arith in
+              ap (λ (m : ℕ). getD s m 0) m ∙ ps .even-is (i - 1) (omega arith) ∙ ap (λ (m : ℕ). mul (fieldAt 11) (getD s m 0) (getD s m 0)) c
+              ∙ ap (λ (x : ℕ). mul (fieldAt 11) x x) ih ∙ sym (syndrome-square (fieldAt 11) gen11 w i) ∙ ap (λ (m : ℕ). value F11 w (power F11 2 m)) (sym h)
+
+      coef-at : (k : ℕ) → k ≤ 2 * t → getD s k 0 ≡ coef F11 (syndromes F11 2 t w) k
+      unfolding syndromes
+      coef-at zero h = ps .first
+      coef-at (suc k) h =
+          sum-at 16 (suc k) (let m = st .most in omega arith) (omega arith) (let m = st .most in omega arith)
+          ∙ sym (row-at 0 (λ i. value F11 w (power F11 2 i)) 1 (2 * t) k h ∙ ap (λ (m : ℕ). value F11 w (power F11 2 m)) (let z : 1 + k ≡ suc k = omega arith in z))
+
+      p : List ℕ
+      p = register F11 8 (λ j. getD s j 0) t .locator
+
+      p-is : p ≡ locatorOf F11 2 t w
+      unfolding p locatorOf
+      p-is = ap (λ r. r .locator) (register-same F11 8 (λ j. getD s j 0) (coef F11 (syndromes F11 2 t w)) t coef-at)
+
+      first : getD p 0 0 ≡ 1
+      unfolding p
+      first = register-fine (λ j. getD s j 0) t .first
+
+      js : List ℕ
+      js = named s t
+
+      js-is : js ≡ placesOf p
+      unfolding js p named
+      js-is = refl
+
+      test : ℕ → Bool
+      test j = isRoot F11 p (inverse (fieldAt 11) (power F11 2 j))
+
+      f : List Bool
+      f = map test (upFrom 0 2047)
+
+      f-is : f ≡ flips F11 2 t w
+      unfolding f test flips marked
+      f-is = ap₂ (λ (q : List ℕ) (m : ℕ). map (λ j. isRoot F11 q (inverse (fieldAt 11) (power F11 2 j))) (upFrom 0 m)) p-is (sym long-w)
+
+      long-f : length f ≡ 2047
+      unfolding f
+      long-f = length-map (upFrom 0 2047) test ∙ length-row 0 2047
+
+      count : length (places 0 f) ≡ length js
+      unfolding f test
+      count = same-length test 2047 (placesOf p) (places-distinct p first) (places-member p first) ∙ ap length (sym js-is)
+
+      sums : (g : ℕ → ℕ) → xorOver g (places 0 f) ≡ xorOver g js
+      unfolding f test
+      sums g = same-xor test 2047 (placesOf p) (places-distinct p first) (places-member p first) g ∙ ap (xorOver g) (sym js-is)
+
+      power-sum : (i : ℕ) → total F11 (λ x. power F11 x i) (locators F11 2 f) ≡ sumAt js i
+      power-sum i = total-over (λ x. power F11 x i) (power F11 2) (places 0 f) ∙ sums (λ j. power F11 (power F11 2 j) i)
+
+      passes : Acceptable odd t js → Passes F11 2 t w f
+      passes a = (
+        (let c = count in let h = a .few in omega arith),
+        λ i l. power-sum (suc (2 * i)) ∙ a .sums i l ∙ odd-at i (let m = st .most in omega arith),
+      )
+
+      acceptable : Passes F11 2 t w f → Acceptable odd t js
+      acceptable h = record {
+        few = (let c = count in let l = h .0 in omega arith);
+        sums = λ i l. sym (power-sum (suc (2 * i))) ∙ h .1 i l ∙ sym (odd-at i (let m = st .most in omega arith));
+      }
+
+      -- THERE IS NONE WHERE THE PLACES ARE NOT ACCEPTABLE
+      pub none-within : (Acceptable odd t (named s t) → ⊥) → (v : List ℕ) → Within t word v → ⊥
+      unfolding js w
+      none-within never v h =
+          let some : (x : List Bool) × Near t w x = (bitsOf v, within-bits h) in
+          let p = exactly (fieldAt 11) gen11 t w (st .most) (let l = long-w in omega arith) .1 some in
+          never (acceptable (subst (Passes F11 2 t w) (sym f-is) p))
+
+      after : List ℕ
+      after = flipAll js word
+
+      below : All (λ j. j < 2047) js
+      below = subst (All (λ j. j < 2047)) (sym js-is) (places-below p first)
+
+      fl : Flipped js word after
+      unfolding after
+      fl = flipped js word below (b .long) (b .bytes)
+
+      after-small : numberOf after < 2 ^ 2047
+      after-small =
+          subst (λ (m : ℕ). m < 2 ^ 2047) (sym (fl .number))
+          (xor-lt 2047 W (xorOver (λ j. 2 ^ j) js) small (xor-below js below))
+
+      bits-after : bitsOf after ≡ both w f
+      bits-after =
+          bits-digits after (fl .bytes-fit) ∙ ap (digits 2047) (fl .number) ∙ digits-xor 2047 W (xorOver (λ j. 2 ^ j) js)
+          ∙ ap₂ both (sym w-digits) (ap (digits 2047) (sym (sums (λ j. 2 ^ j))) ∙ word-back f long-f)
+
+      -- WHERE THEY ARE, FLIPPING THEM MAKES THE CODEWORD
+      pub flipped-within : Acceptable odd t (named s t) → Within t word (flipAll (named s t) word)
+      unfolding js w after
+      flipped-within a =
+          within-block (make-block (fl .long) (fl .bytes-fit) (last-below after (fl .long) after-small))
+          (subst (Near t w) (sym bits-after) (accepted (fieldAt 11) gen11 t w f (long-f ∙ sym long-w) (passes a)))
+
+      -- by so many flips
+      pub flipped-distance : length (named s t) ≡ blocks.distance word (flipAll (named s t) word)
+      unfolding js w after
+      flipped-distance = sym
+          (distance-bits word after ∙ ap (distance w) bits-after
+          ∙ ap (λ (x : List Bool). length (places 0 x)) (both-both w f (long-f ∙ sym long-w)) ∙ count)
+
+    -- A WORD WHOSE SYNDROMES ARE 0 IS A CODEWORD
+    pub clean-within : ((k : ℕ) → k < t → getD odd k 0 ≡ 0) → Within t word word
+    unfolding w total
+    clean-within z = within-block b (subst (Near t w) (none-both w) (accepted (fieldAt 11) gen11 t w (none w) (length-none w) (few, sum)))
+      where
+        few : length (places 0 (none w)) ≤ t
+        few = subst (λ (l : List ℕ). length l ≤ t) (sym (places-none 0 w)) (omega arith)
+
+        sum : (i : ℕ) → i < t → total F11 (λ x. power F11 x (suc (2 * i))) (locators F11 2 (none w)) ≡ value F11 w (power F11 2 (suc (2 * i)))
+        sum i l =
+            ap (λ (m : List ℕ). total F11 (λ x. power F11 x (suc (2 * i))) (map (power F11 2) m)) (places-none 0 w)
+            ∙ sym (sym (odd-at i (let m = st .most in omega arith)) ∙ z i l)

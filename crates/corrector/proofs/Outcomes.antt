@@ -1,0 +1,105 @@
+-- The last steps of the call: from what its parts found to what it answers.
+--   tells-yes, tells-no      what a test's answer says
+--   odd-under                the odd syndromes are elements
+--   located-yes, located-no  good places, and none
+--   clean, spotless          nothing to flip: by the remainder, and by the syndromes
+--   flipped, refused         the places flipped;  no codeword near
+-- Assumes nothing.
+use mathlib.Core.Path.{_≡_, refl, sym, ap, ap₂, _∙_, subst}
+use mathlib.Core.Bool.{Bool, true, false}
+use mathlib.Core.List.{List, [], _∷_}
+use Prim.Native.Nat.{ℕ, zero, suc, _+_, _*_, _^_, _≤_, _<_}
+use native.Mathlib.Decide.{decLt}
+use native.Mathlib.Omega.{arith}
+use lib.ListN.{length, getD, replicate}
+use Rattle.field.specs.Field.{fieldAt, reduce}
+use Rattle.field.proofs.Generator.{unit}
+use Rattle.codes.specs.Digits.{numberOf, at}
+use Rattle.codes.proofs.Eleven.{gen11}
+use Rattle.codes.proofs.Values.{at-lt, at-zero}
+use Rattle.generator.specs.Rows.{generator}
+use Rattle.syndromes.specs.Remainder.{restOf, oddPower, OddValues}
+use Rattle.syndromes.specs.declared.Rest.{Rest}
+use Rattle.locating.specs.Under.{Under, PowerSums}
+use Rattle.corrector.specs.Places.{named, placesIn, flipAll, Holds, Few8, Acceptable, Either, Located, Tells}
+use Rattle.corrector.specs.Correcting.{distance, IsBlock, IsStrength, Within, Corrects}
+use Rattle.corrector.specs.Correcting.Corrects.{none-near, mended}
+use Rattle.corrector.specs.declared.Places.{Places}
+use Rattle.corrector.proofs.Blocks.{distance-self}
+use Rattle.corrector.proofs.Deciding.{none-within, flipped-within, flipped-distance, clean-within}
+
+pub tells-yes : (A : Type 0) (b : Bool) → Tells A b → b ≡ true → A
+tells-yes A b h e = subst (Tells A) e h
+
+pub tells-no : (A : Type 0) (b : Bool) → Tells A b → b ≡ false → A → ⊥
+tells-no A b h e = subst (Tells A) e h
+
+past-end : (l : List ℕ) (k : ℕ) → length l ≤ k → getD l k 0 ≡ 0
+past-end [] k h = refl
+past-end (x ∷ l) zero h = absurd (omega arith)
+past-end (x ∷ l) (suc k) h = past-end l k (omega arith)
+
+pub odd-under : {n : ℕ} {odd : List ℕ} → OddValues n odd → Under odd
+odd-under {n} {odd} v k = go (decLt k 8)
+  where
+    go : Dec (k < 8) → getD odd k 0 < 2048
+    go (yes h) = subst (λ (x : ℕ). x < 2048) (sym (v .value k h)) (at-lt (fieldAt 11) (gen11 .monic) (unit (fieldAt 11) gen11) (oddPower k) n)
+    go (no h) = subst (λ (x : ℕ). x < 2048) (sym (past-end odd k (let l = v .long in omega arith))) (omega arith)
+
+-- good places
+pub located-yes : (odd : List ℕ) (t : ℕ) (p : Places) → Located odd t p → p .good ≡ true → (s : List ℕ) × PowerSums odd s × Holds (named s t) p × Acceptable odd t (named s t)
+located-yes odd t p l e =
+    let h = subst (λ b. Either b (Holds (named (l .0) t) p × Acceptable odd t (named (l .0) t)) (Acceptable odd t (named (l .0) t) → ⊥)) e (l .2) in
+    (l .0, l .1, h .0, h .1)
+
+pub located-no : (odd : List ℕ) (t : ℕ) (p : Places) → Located odd t p → p .good ≡ false → (s : List ℕ) × PowerSums odd s × (Acceptable odd t (named s t) → ⊥)
+located-no odd t p l e = (l .0, l .1, subst (λ b. Either b (Holds (named (l .0) t) p × Acceptable odd t (named (l .0) t)) (Acceptable odd t (named (l .0) t) → ⊥)) e (l .2))
+
+module _ (word : List ℕ) (t : ℕ) (b : IsBlock word) (st : IsStrength t) where
+  -- a codeword near, at so many flips
+  mended-by : (n : ℕ) (after : List ℕ) → Within t word after → n ≡ distance word after → Corrects t word (0, n ∷ []) after
+  mended-by n after h e = subst (λ (m : ℕ). Corrects t word (0, m ∷ []) after) (sym e) (mended b st h)
+
+  -- the first t syndromes are 0
+  pub spotless : {n : ℕ} {odd : List ℕ} → n ≡ reduce generator (numberOf word) → OddValues n odd
+      → ((k : ℕ) → k < t → getD odd k 0 ≡ 0) → Corrects t word (0, 0 ∷ []) word
+  spotless e v z = mended-by 0 word (clean-within word t b st e v z) (sym (distance-self word))
+
+  -- the remainder is 0
+  pub clean : (r : Rest) → restOf r ≡ reduce generator (numberOf word) → r .lo ≡ 0 → r .hi ≡ 0 → Corrects t word (0, 0 ∷ []) word
+  clean r e x y =
+      let z : 0 ≡ reduce generator (numberOf word) = sym (ap₂ (λ (h l : ℕ). h * 2 ^ 64 + l) y x) ∙ e in
+      spotless {n = 0} {odd = zeros} z (record { long = refl; value = λ k h. zero-at k ∙ sym (none-at k) }) (λ k h. zero-at k)
+    where
+      zeros : List ℕ
+      zeros = replicate 8 0
+
+      zero-at : (k : ℕ) → getD zeros k 0 ≡ 0
+      zero-at zero = refl
+      zero-at (suc zero) = refl
+      zero-at (suc (suc zero)) = refl
+      zero-at (suc (suc (suc zero))) = refl
+      zero-at (suc (suc (suc (suc zero)))) = refl
+      zero-at (suc (suc (suc (suc (suc zero))))) = refl
+      zero-at (suc (suc (suc (suc (suc (suc zero)))))) = refl
+      zero-at (suc (suc (suc (suc (suc (suc (suc zero))))))) = refl
+      zero-at (suc (suc (suc (suc (suc (suc (suc (suc k)))))))) = refl
+
+      none-at : (k : ℕ) → at (fieldAt 11) (oddPower k) 0 ≡ 0
+      none-at k = at-zero (fieldAt 11) (gen11 .monic) (unit (fieldAt 11) gen11) (oddPower k)
+
+  module _ {n : ℕ} {odd : List ℕ} (e : n ≡ reduce generator (numberOf word)) (v : OddValues n odd) (p : Places) (l : Located odd t p) where
+    -- good places, flipped
+    pub flipped : (after : List ℕ) → p .good ≡ true → after ≡ flipAll (placesIn p) word → Corrects t word (0, p .n ∷ []) after
+    flipped after g f =
+        let h = located-yes odd t p l g in
+        let js : List ℕ = named (h .0) t in
+        let a : after ≡ flipAll js word = f ∙ ap (λ (x : List ℕ). flipAll x word) (h .2 .places) in
+        let near : Within t word after = subst (Within t word) (sym a) (flipped-within word t b st e v (h .0) (h .1) (h .3)) in
+        mended-by (p .n) after near (h .2 .count ∙ flipped-distance word t b st e v (h .0) (h .1) ∙ ap (distance word) (sym a))
+
+    -- none near
+    pub refused : p .good ≡ false → Corrects t word (24, []) word
+    refused g =
+        let h = located-no odd t p l g in
+        none-near b st (none-within word t b st e v (h .0) (h .1) (h .2))

@@ -1,0 +1,94 @@
+-- `corrector::mend` meets its contract.
+-- Assumes nothing.
+use denote.Ref.{now}
+use borrow.Author.Tests.{eqb-true}
+use Rattle.syndromes.proofs.Dividing.{rest-small}
+use Rattle.corrector.proofs.Outcomes.{odd-under, located-yes, clean, spotless, flipped, refused}
+use borrow.Author.Needs.{needs}
+use Rattle.corrector.proofs.mend.Statement.{statement}
+use Rattle.corrector.proofs.mend.Tie as tie
+use Rattle.corrector.proofs.flip.Reads as flip-reads
+use Rattle.corrector.proofs.locate.Reads as locate-reads
+use Rattle.corrector.proofs.none.Reads as none-reads
+use Rattle.syndromes.proofs.odd_values.Reads as odd-values-reads
+use Rattle.syndromes.proofs.word_rest.Reads as word-rest-reads
+
+word-rest-requires : tie.Need-word-rest-requires
+word-rest-requires c κs = search needs
+
+same-length : tie.Need-same-length
+same-length c = search needs
+
+returns : tie.Need-returns
+returns c =
+    let a = c .before .before .before .before .before .before .before in
+    let rest = c .before .before .before .before .word-rest .ensures in
+    clean (now (a .args .word)) (a .args .strength) (a .pre .0) (a .pre .1) _ rest
+    (c .before .before .if1 .taken) (eqb-true _ _ (c .if2 .taken))
+
+odd-values-requires : tie.Need-odd-values-requires
+odd-values-requires c κs = rest-small _ _ (c .before .before .word-rest .ensures)
+
+none-requires : tie.Need-none-requires
+none-requires c κs = search needs
+
+same-length-2 : tie.Need-same-length-2
+same-length-2 c = search needs
+
+returns-2 : tie.Need-returns-2
+returns-2 c =
+    let a = c .before .before .before .before .before .before .before .before in
+    let rest = c .before .before .before .before .before .word-rest .ensures in
+    spotless (now (a .args .word)) (a .args .strength) (a .pre .0) (a .pre .1) rest
+    (c .before .before .odd-values .ensures) (c .before .none .ensures (c .if3 .taken))
+
+locate-requires : tie.Need-locate-requires
+locate-requires c κs =
+    let a = c .before .before .before .before .before .before .before .before in
+    (odd-under (c .before .before .odd-values .ensures), a .pre .1 .most)
+
+flip-requires : tie.Need-flip-requires
+flip-requires c κs =
+    let a = c .before .before .before .before .before .before .before .before .before .before .before in
+    (a .pre .0 .long, located-yes _ _ _ (c .before .before .locate .ensures) (c .before .if4 .taken) .2 .fits)
+
+same-length-3 : tie.Need-same-length-3
+same-length-3 c = search needs
+
+returns-3 : tie.Need-returns-3
+returns-3 c =
+    let p = c .before .before .before .before .before in
+    let v = p .before .before .before in
+    let rest = v .before .before .before in
+    let a = rest .before .before .before in
+    flipped (now (a .args .word)) (a .args .strength) (a .pre .0) (a .pre .1) (rest .word-rest .ensures)
+    (v .odd-values .ensures) _ (p .locate .ensures) _ (c .before .before .before .before .if4 .taken) (c .before .before .flip .ensures)
+
+same-length-4 : tie.Need-same-length-4
+same-length-4 c = search needs
+
+returns-4 : tie.Need-returns-4
+returns-4 c =
+    let v = c .before .before .before .before in
+    let rest = v .before .before .before in
+    let a = rest .before .before .before in
+    refused (now (a .args .word)) (a .args .strength) (a .pre .0) (a .pre .1) (rest .word-rest .ensures)
+    (v .odd-values .ensures) _ (c .before .locate .ensures) (c .if4 .left)
+
+pub mend-spec : {M : Type 1} → statement M
+mend-spec =
+    tie.close
+    (tie.spec
+    word-rest-requires
+    same-length
+    returns
+    odd-values-requires
+    none-requires
+    same-length-2
+    returns-2
+    locate-requires
+    flip-requires
+    same-length-3
+    returns-3
+    same-length-4
+    returns-4)

@@ -1,0 +1,3 @@
+-- What is meant: the contract, and the places.
+pub mod Places
+pub mod Correcting

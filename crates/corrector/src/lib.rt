@@ -1,0 +1,247 @@
+// The block corrector: words of 2047 bits in field 11, in 256 bytes. A word is divided by the generator of strength 8;
+// where the remainder is 0 it is a codeword of every strength, and nothing more is done. Else the remainder gives the
+// odd syndromes, Berlekamp's register the locator polynomial, the plain search its roots, and their positions under the
+// recorders' convention the wrong bits. They are flipped where there are at most t of them and their odd power sums are
+// the syndromes: that decides exactly whether a codeword lies within t bits.
+ghost use mathlib.Core.Path.{_≡_};
+ghost use mathlib.Core.Bool.{true, false};
+ghost use Prim.Native.Nat.{ℕ, _<_, _≤_, _^_};
+ghost use lib.ListN.{getD, length};
+ghost use Rattle.field.specs.Field.{fieldAt};
+ghost use Rattle.field.specs.Tables.{Powers};
+ghost use Rattle.elements.specs.Calls.{positionUnder};
+ghost use Rattle.locating.specs.Under.{Under};
+ghost use Rattle.corrector.specs.Places.{placesOf, sumAt, placesIn, flipAll, Placing, Placed, Few8};
+ghost use Rattle.corrector.specs.Places.{Spotted, Located, Tells, Agrees};
+ghost use Rattle.corrector.specs.Correcting.{IsBlock, IsStrength, Corrects, paperCorrected};
+use elements::Answer;
+use refusals::Refusal;
+use searching::Searched;
+use tables::named::logs11;
+use tables::named::powers11;
+
+// What the corrector answers: the number of flips, or what is turned away.
+pub enum Corrected {
+    Flips(u16),
+    NotCorrected(Refusal),
+}
+
+// Where the wrong bits may stand: the first n of at, if they are good; else nowhere.
+pub struct Places {
+    pub at: [u16; 8],
+    pub n: u16,
+    pub good: bool,
+}
+
+// Nowhere.
+fn nowhere() -> Places
+    ensures { λ p. ⌜ p .good ≡ false ⌝ }
+{
+    let at: [u16; 8] = [0; 8];
+    Places {
+        at: at,
+        n: 0,
+        good: false,
+    }
+}
+
+// The place of a root: its position under the recorders' convention.
+fn place(r: u16) -> u16
+    requires { ⌜ (0 < r) × (r < 2048) ⌝ }
+    ensures { λ j. ⌜ j ≡ positionUnder 1 (fieldAt 11) r ⌝ }
+{
+    match elements::position(11, r, 1) {
+        Answer::Value(j) => j,
+        Answer::Refused(_) => 0,
+    }
+}
+
+// The places of the first n roots.
+fn places_of(roots: &[u16], n: u16) -> Places
+    requires { ⌜ Placing (now roots) n ⌝ }
+    ensures { λ p. ⌜ Placed (now (roots .entry)) n p ⌝ }
+{
+    let mut at: [u16; 8] = [0; 8];
+    let mut i: usize = 0;
+    while i < n as usize {
+        at[i] = place(roots[i]);
+        i += 1;
+    }
+    Places {
+        at: at,
+        n: n,
+        good: true,
+    }
+}
+
+// The places that a locator polynomial names, unless there are more than t.
+fn spots_of(locator: [u16; 9], t: u16) -> Places
+    requires { ⌜ Under locator × (getD locator 0 0 ≡ 1) × (t ≤ 8) ⌝ }
+    ensures { λ r. ⌜ Spotted (placesOf locator) t r ⌝ }
+{
+    let mut roots = [0u16; 32];
+    match searching::search(11, &locator, &mut roots) {
+        Searched::NotSearched(_) => nowhere(),
+        Searched::Seen(s) => {
+            if t < s {
+                return nowhere();
+            }
+            places_of(&roots, s)
+        }
+    }
+}
+
+// The sum of a^(k j) over the places j.
+fn power_sum(powers: &[u16], p: Places, k: u32) -> u16
+    requires { ⌜ Powers (fieldAt 11) (now powers) × Few8 p × (k < 100) ⌝ }
+    ensures { λ r. ⌜ r ≡ sumAt (placesIn p) k ⌝ }
+{
+    let at = p.at;
+    let n = p.n as usize;
+    let mut sum: u16 = 0;
+    let mut i: usize = 0;
+    while i < n {
+        let e = (at[i] as u32) * k % 2047;
+        sum = sum ^ powers[e as usize];
+        i += 1;
+    }
+    sum
+}
+
+// Are the first t odd power sums of the places these?
+fn agree(powers: &[u16], p: Places, odd: [u16; 8], t: u32) -> bool
+    requires { ⌜ Powers (fieldAt 11) (now powers) × Few8 p × (t ≤ 8) ⌝ }
+    ensures { λ r. ⌜ Tells (Agrees odd t (placesIn p)) r ⌝ }
+{
+    let mut i: u32 = 0;
+    while i < t {
+        if power_sum(powers, p, 2 * i + 1) != odd[i as usize] {
+            return false;
+        }
+        i += 1;
+    }
+    true
+}
+
+// The places to flip for these odd syndromes.
+fn locate(odd: [u16; 8], t: u16) -> Places
+    requires { ⌜ Under odd × (t ≤ 8) ⌝ }
+    ensures { λ r. ⌜ Located odd t r ⌝ }
+{
+    let logs = logs11();
+    let powers = powers11();
+    let s = locating::all_sums(&logs, &powers, odd);
+    let r = locating::key(&logs, &powers, &s, t as usize);
+    let locator = r.locator;
+    let p = spots_of(locator, t);
+    let good = p.good;
+    if good {
+        if agree(&powers, p, odd, t as u32) {
+            return p;
+        }
+        return nowhere();
+    }
+    nowhere()
+}
+
+// Are the first t odd syndromes 0?
+fn none(odd: [u16; 8], t: u16) -> bool
+    requires { ⌜ t ≤ 8 ⌝ }
+    ensures { λ r. ⌜ (r ≡ true → (k : ℕ) → k < t → getD odd k 0 ≡ 0) ⌝ }
+{
+    let mut i: usize = 0;
+    while i < t as usize {
+        if odd[i] != 0 {
+            return false;
+        }
+        i += 1;
+    }
+    true
+}
+
+// The weight of bit k of a byte.
+fn weight(k: usize) -> u8
+    requires { ⌜ k < 8 ⌝ }
+    ensures { λ r. ⌜ r ≡ 2 ^ k ⌝ }
+{
+    if k < 4 {
+        if k < 2 {
+            if k < 1 {
+                return 1;
+            }
+            return 2;
+        }
+        if k < 3 {
+            return 4;
+        }
+        return 8;
+    }
+    if k < 6 {
+        if k < 5 {
+            return 16;
+        }
+        return 32;
+    }
+    if k < 7 {
+        return 64;
+    }
+    128
+}
+
+// Flips the bits at the places.
+fn flip(word: &mut [u8], p: Places)
+    requires { ⌜ (length (now word) ≡ 256) × Few8 p ⌝ }
+    ensures { λ _. ⌜ now (word .exit) ≡ flipAll (placesIn p) (now (word .entry)) ⌝ }
+{
+    let at = p.at;
+    let n = p.n as usize;
+    let mut i: usize = 0;
+    while i < n {
+        let j = at[i] as usize;
+        let b = j / 8;
+        word[b] = word[b] ^ weight(j % 8);
+        i += 1;
+    }
+}
+
+// A block at a strength: the word becomes the codeword near it, if there is one.
+fn mend(strength: u16, word: &mut [u8]) -> Corrected
+    requires { ⌜ IsBlock (now word) × IsStrength strength ⌝ }
+    ensures { λ r. ⌜ Corrects strength (now (word .entry)) (paperCorrected r) (now (word .exit)) ⌝ }
+{
+    let r = syndromes::word_rest(word);
+    if r.lo == 0 && r.hi == 0 {
+        return Corrected::Flips(0);
+    }
+    let odd = syndromes::odd_values(r);
+    if none(odd, strength) {
+        return Corrected::Flips(0);
+    }
+    let p = locate(odd, strength);
+    let good = p.good;
+    if good {
+        flip(word, p);
+        return Corrected::Flips(p.n);
+    }
+    Corrected::NotCorrected(Refusal::Far)
+}
+
+// Makes the word the codeword of this strength within so many bits of it, if there is one, and tells how many bits were
+// flipped.
+pub fn correct(strength: u16, word: &mut [u8]) -> Corrected
+    ensures { λ r. ⌜ Corrects strength (now (word .entry)) (paperCorrected r) (now (word .exit)) ⌝ }
+{
+    if word.len() != 256 {
+        return Corrected::NotCorrected(Refusal::Block);
+    }
+    if word[255] >= 128 {
+        return Corrected::NotCorrected(Refusal::Block);
+    }
+    if strength == 0 {
+        return Corrected::NotCorrected(Refusal::Strength);
+    }
+    if strength > 8 {
+        return Corrected::NotCorrected(Refusal::Strength);
+    }
+    mend(strength, word)
+}

@@ -1,0 +1,2 @@
+-- Why: a row is the sum of its basis.
+pub mod Bases

@@ -1,0 +1,2 @@
+-- What is meant: the generator, and its rows.
+pub mod Rows

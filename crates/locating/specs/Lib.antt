@@ -1,0 +1,2 @@
+-- What is meant: elements, registers and power sums.
+pub mod Under

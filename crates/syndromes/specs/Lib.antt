@@ -1,0 +1,2 @@
+-- What is meant: a remainder, and the odd syndromes.
+pub mod Remainder
