@@ -7,7 +7,7 @@ use mathlib.Core.List.{List}
 use Prim.Native.Nat.{ℕ}
 use Rattle.refusals.proofs.Numbers.{by-number, refused-back, accepted-back}
 use Rattle.refusals.proofs.Told.{told, coincide}
-use Rattle.beginning.specs.Calls.{paperBegun, beginOutcome, beginMemory}
+use Rattle.beginning.specs.Calls.{paperBegun, beginOutcome, beginMemory, Begins}
 use Rattle.beginning.specs.declared.Begun.{Begun}
 use Rattle.beginning.specs.declared.Begun.the-variants.{Ready, NotBegun}
 
@@ -26,6 +26,6 @@ pub begun-told : (r s : Begun) → paperBegun r ≡ paperBegun s → r ≡ s
 begun-told = told paperBegun begunOf begun-back
 
 -- the answer and the lent memory of begin
-pub begin-coincide : (m c : ℕ) (cs table : List ℕ) (r s : Begun) (x y : List ℕ) → (paperBegun r ≡ beginOutcome m c cs table) × (x ≡ beginMemory m c cs table)
-    → (paperBegun s ≡ beginOutcome m c cs table) × (y ≡ beginMemory m c cs table) → (r ≡ s) × (x ≡ y)
+pub begin-coincide : (m c : ℕ) (cs table : List ℕ) (r s : Begun) (x y : List ℕ)
+    → Begins m c cs table r x → Begins m c cs table s y → (r ≡ s) × (x ≡ y)
 begin-coincide m c cs table = coincide paperBegun begun-told (beginOutcome m c cs table) (beginMemory m c cs table)

@@ -2,13 +2,14 @@
 --   beginTests                 the tests of begin in their order, each behind its number: those of a polynomial, then 6 and 7
 --   beginOutcome, beginMemory  its outcome, and the lent table afterwards
 --   paperBegun                 the number of each answer
+--   Begins                     THE CONTRACT: the answers and tables that begin admits
 -- Assumes nothing.
 use mathlib.Core.Bool.{Bool, not}
 use mathlib.Core.List.{List, [], _∷_}
 use Prim.Native.Nat.{ℕ}
 use lib.Dec.{eqb, ltb}
 use lib.ListN.{length}
-use Rattle.refusals.specs.Order.{outcome, memory}
+use Rattle.refusals.specs.Order.{outcome, memory, Answers}
 use Rattle.refusals.specs.Numbers.{numberOf}
 use Rattle.groups.specs.Cutoff.{inForce}
 use Rattle.groups.specs.Layout.{byFactor}
@@ -30,3 +31,8 @@ beginMemory m c cs table = memory (beginTests m c cs table) (slotsBegun byFactor
 abbrev pub paperBegun : Begun → ℕ × List ℕ
 paperBegun Ready = (0, [])
 paperBegun (NotBegun k) = (numberOf k, [])
+
+-- the contract: an answer, and the lent table afterwards
+abbrev pub Begins : ℕ → ℕ → List ℕ → List ℕ → Begun → List ℕ → Type 0
+Begins m c cs table r after =
+    Answers (beginTests m c cs table) [] (slotsBegun byFactor slots m (inForce c) cs) table (paperBegun r) after

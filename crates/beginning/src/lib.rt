@@ -12,8 +12,9 @@ ghost use Rattle.groups.specs.Layout.{byFactor};
 ghost use Rattle.groups.specs.Table.{encode};
 ghost use Rattle.groups.specs.Splitting.{begunTable, slotsBegun};
 ghost use Rattle.groups.specs.Limit.{limit, slots};
-ghost use Rattle.beginning.specs.Calls.{beginOutcome, beginMemory, paperBegun};
-ghost use Rattle.beginning.specs.SplitPart.{Residual, Residue, Splittable, SplitOff, Powered, Beginnable, Writable};
+ghost use Rattle.beginning.specs.Calls.{Begins};
+ghost use Rattle.beginning.specs.SplitPart.{Residual, Residue, Splittable};
+ghost use Rattle.beginning.specs.SplitPart.{SplitOff, Powered, Beginnable, Writable};
 use admitting::admit;
 use admitting::in_force;
 use euclid::gcd;
@@ -33,7 +34,9 @@ pub enum Begun {
 // Writes z^(2^m) + z, reduced by the monic polynomial with the low coefficients p, to b: m squarings, then z is added. The rows of the powers are written to rows.
 fn residue(m: u16, logs: &[u16], antilogs: &[u16], p: &[u16], b: &mut [u16], rows: &mut [u16])
     requires { ⌜ Residual m (now logs) (now antilogs) (now p) (now b) (now rows) ⌝ }
-    ensures { λ _. ⌜ Residue m (now (p .entry)) (now (b .exit)) × (take (m * length (now (p .entry))) (now (rows .exit)) ≡ powerRows m (now (p .entry)) m (rem (G m) (now (p .entry)) (0 ∷ 1 ∷ []))) ⌝ }
+    ensures { λ _. ⌜ Residue m (now (p .entry)) (now (b .exit))
+        × (take (m * length (now (p .entry))) (now (rows .exit))
+        ≡ powerRows m (now (p .entry)) m (rem (G m) (now (p .entry)) (0 ∷ 1 ∷ []))) ⌝ }
 {
     let mut row = [0u16; 32];
     let mut s = [0u16; 64];
@@ -71,7 +74,8 @@ pub fn split_part(
     rows: &mut [u16],
 ) -> Degrees
     requires { ⌜ Splittable m (now logs) (now antilogs) (now coeffs) (now out) (now rows) ⌝ }
-    ensures { λ r. ⌜ SplitOff m (now (coeffs .entry)) (r .part) (now (out .exit)) × Powered m (now (coeffs .entry)) (r .whole) (now (rows .exit)) ⌝ }
+    ensures { λ r. ⌜ SplitOff m (now (coeffs .entry)) (r .part) (now (out .exit))
+        × Powered m (now (coeffs .entry)) (r .whole) (now (rows .exit)) ⌝ }
 {
     let mut b = [0u16; 33];
     let mut row = [0u16; 32];
@@ -111,7 +115,8 @@ pub fn begin_lent(
     rows: &mut [u16],
 ) -> usize
     requires { ⌜ Beginnable m (now logs) (now antilogs) (now coeffs) (now table) (now rows) ⌝ }
-    ensures { λ d. ⌜ (now (table .exit) ≡ slotsBegun byFactor slots m c (now (coeffs .entry))) × Powered m (now (coeffs .entry)) d (now (rows .exit)) ⌝ }
+    ensures { λ d. ⌜ (now (table .exit) ≡ slotsBegun byFactor slots m c (now (coeffs .entry)))
+        × Powered m (now (coeffs .entry)) d (now (rows .exit)) ⌝ }
 {
     let mut part = [0u16; 33];
     let found = split_part(m, logs, antilogs, coeffs, &mut part, rows);
@@ -144,7 +149,7 @@ fn write(m: u16, size: usize, coeffs: &[u16], c: u16, table: &mut [u16])
 
 // Begins a table: one factor, the product of (z + r) over all distinct roots of the polynomial, or none if it has no root.
 pub fn begin(m: u16, coeffs: &[u16], cutoff: u16, table: &mut [u16]) -> Begun
-    ensures { λ r. ⌜ (paperBegun r ≡ beginOutcome m cutoff (now (coeffs .entry)) (now (table .entry))) × (now (table .exit) ≡ beginMemory m cutoff (now (coeffs .entry)) (now (table .entry))) ⌝ }
+    ensures { λ r. ⌜ Begins m cutoff (now (coeffs .entry)) (now (table .entry)) r (now (table .exit)) ⌝ }
 {
     match admit(m, coeffs, cutoff, table.len() != SLOTS) {
         Admission::Out(k) => Begun::NotBegun(k),

@@ -4,26 +4,34 @@
 --   settles    the corrector's
 --   demand-1   it holds of every entry
 -- Assumes nothing.
-use mathlib.Core.Path.{_≡_, refl, sym, ap, _∙_}
-use mathlib.Core.Bool.{Bool}
-use mathlib.Core.List.{List}
-use mathlib.Core.Logic.{_⊎_, inl, inr}
+use mathlib.Core.Path.{_≡_, refl, sym, ap, subst, _∙_}
+use mathlib.Core.Bool.{Bool, true}
+use mathlib.Core.List.{List, [], _∷_}
+use mathlib.Core.Logic.{_↔_, _⊎_, inl, inr}
 use Prim.Native.Nat.{ℕ, suc, _<_}
 use native.Mathlib.Omega.{arith}
-use Rattle.refusals.specs.Order.{outcome, memory, Given, Passed}
+use Rattle.refusals.specs.Order.{outcome, memory, Answers, Given, Passed}
 use Rattle.refusals.specs.Order.Given.{here, later}
 use Rattle.refusals.proofs.Order as order
 use Rattle.algebra.specs.Trial.{All}
-use Rattle.elements.proofs.Coincide.{answer-told, roots-told}
-use Rattle.beginning.proofs.Coincide.{begun-told}
-use Rattle.splitter.proofs.Coincide.{stepped-told}
-use Rattle.finishing.proofs.Coincide.{finished-told}
-use Rattle.finder.proofs.Coincide.{solved-told}
-use Rattle.searching.proofs.Coincide.{searched-told}
+use Rattle.elements.specs.Calls.{pairTests, nonzeroTests, positionTests}
+use Rattle.elements.proofs.Coincide.{product-coincide, inverse-coincide, position-coincide, quadratic-coincide}
+use Rattle.judging.specs.Verdicts.{stepTests}
+use Rattle.beginning.specs.Calls.{beginTests}
+use Rattle.beginning.proofs.Coincide.{begin-coincide}
+use Rattle.splitter.proofs.Coincide.{step-coincide}
+use Rattle.finishing.specs.Calls.{finishTests}
+use Rattle.finishing.proofs.Coincide.{finish-coincide}
+use Rattle.finder.specs.Calls.{solveTests}
+use Rattle.finder.proofs.Coincide.{solve-coincide}
+use Rattle.searching.specs.Calls.{searchTests}
+use Rattle.searching.proofs.Coincide.{search-coincide}
+use Rattle.jobs.proofs.Coincide.{turned-once}
 use Rattle.corrector.specs.Correcting.{distance, Corrects}
 use Rattle.corrector.specs.Correcting.Corrects.{no-block, no-strength, none-near, mended}
-use Rattle.corrector.proofs.Coincide.{corrected-told}
-use Rattle.records.proofs.Coincide as records
+use Rattle.corrector.proofs.Coincide.{correct-coincide}
+use Rattle.records.specs.Reading.{Outcome}
+use Rattle.records.proofs.Coincide.{read-coincide}
 use Rattle.records.proofs.Exactly.{ends-exactly, stops-exactly, refuses-exactly}
 use Rattle.demands.specs.Demand1.{Decides, Spares, Settles, Demand1}
 
@@ -54,9 +62,22 @@ decides ts values n = record {
   accepted = (passed-of ts values n, λ p. order.accepted values p);
 }
 
+-- the same of what equals it
+decided : (ts : List (ℕ × Bool)) (values : List ℕ) {o : ℕ × List ℕ} → Numbered ts → o ≡ outcome ts values → Decides ts values o
+decided ts values n e = subst (Decides ts values) (sym e) (decides ts values n)
+
 -- a memory that tests decide
 spares : (ts : List (ℕ × Bool)) (new old : List ℕ) → Spares ts new old (memory ts new old)
 spares ts new old = record { refused = λ k g. order.unwritten new old g; accepted = λ p. order.written new old p }
+
+-- an outcome and a memory that one contract admits
+answered : (ts : List (ℕ × Bool)) (values new old : List ℕ) {o : ℕ × List ℕ} {after : List ℕ} → Numbered ts → Answers ts values new old o after
+    → Decides ts values o × Spares ts new old after
+answered ts values new old n h = (decided ts values n (h .0), subst (Spares ts new old) (sym (h .1)) (spares ts new old))
+
+-- what holds exactly of an outcome holds exactly of what an answer tells
+of-told : {B : Type 0} {o p q : Outcome} → o ≡ p → ((p ≡ q) ↔ B) → (o ≡ q) ↔ B
+of-told e h = (λ k. h .0 (sym e ∙ k), λ b. e ∙ h .1 b)
 
 -- two outcomes with different numbers are not one
 clash : {A : Type 0} {o p : ℕ × List ℕ} → o ≡ p → (o .0 ≡ p .0 → ⊥) → A
@@ -93,28 +114,35 @@ settles (mended b s x) = record {
   unwritten = λ k e. clash e (λ (z : 0 ≡ suc k). omega arith);
 }
 
+-- seven tests, and fewer
+seven : Numbered ((1, true) ∷ (2, true) ∷ (3, true) ∷ (4, true) ∷ (5, true) ∷ (6, true) ∷ (7, true) ∷ [])
+seven = (omega arith, (omega arith, (omega arith, (omega arith, (omega arith, (omega arith, (omega arith, tt)))))))
+
 pub demand-1 : Demand1
 demand-1 = record {
-  product = λ m a b. decides _ _ (omega arith, (omega arith, tt));
-  quadratic = λ m a b. decides _ _ (omega arith, (omega arith, tt));
-  inverse = λ m a. decides _ _ (omega arith, (omega arith, (omega arith, tt)));
-  position = λ m r convention. decides _ _ (omega arith, (omega arith, (omega arith, (omega arith, tt))));
-  begin = λ m c cs table. (decides _ _ (omega arith, (omega arith, (omega arith, (omega arith, (omega arith, (omega arith, (omega arith, tt))))))), spares _ _ table);
-  step = λ table. (decides _ _ (omega arith, (omega arith, (omega arith, tt))), spares _ _ table);
-  finish = λ table list. (decides _ _ (omega arith, (omega arith, (omega arith, tt))), spares _ _ list);
-  solve = λ m c cs list. (decides _ _ (omega arith, (omega arith, (omega arith, (omega arith, (omega arith, (omega arith, (omega arith, tt))))))), spares _ _ list);
-  search = λ m cs list. (decides _ _ (omega arith, (omega arith, (omega arith, (omega arith, (omega arith, (omega arith, tt)))))), spares _ _ list);
+  product = λ m a b r h. decided (pairTests m a b) _ (omega arith, (omega arith, tt)) h;
+  quadratic = λ m a b r h. decided (pairTests m a b) _ (omega arith, (omega arith, tt)) h;
+  inverse = λ m a r h. decided (nonzeroTests m a) _ (omega arith, (omega arith, (omega arith, tt))) h;
+  position = λ m x v r h. decided (positionTests m x v) _ (omega arith, (omega arith, (omega arith, (omega arith, tt)))) h;
+  begin = λ m c cs table r after h. answered (beginTests m c cs table) _ _ table seven h;
+  step = λ table r after h. answered (stepTests table) _ _ table (omega arith, (omega arith, (omega arith, tt))) h;
+  finish = λ table list r after h. answered (finishTests table list) _ _ list (omega arith, (omega arith, (omega arith, tt))) h;
+  solve = λ m c cs list r after h. answered (solveTests m c cs list) _ _ list seven h;
+  search = λ m cs list r after h. answered (searchTests m cs list) _ _ list (omega arith, (omega arith, (omega arith, (omega arith, (omega arith, (omega arith, tt)))))) h;
   correct = λ t word o after h. settles h;
-  ends = ends-exactly;
-  stops = stops-exactly;
-  refuses = refuses-exactly;
-  element-told = answer-told;
-  quadratic-told = roots-told;
-  begin-told = begun-told;
-  step-told = stepped-told;
-  finish-told = finished-told;
-  solve-told = solved-told;
-  search-told = searched-told;
-  correct-told = corrected-told;
-  read-told = records.read-told;
+  ends = λ file at r h. of-told h (ends-exactly file at);
+  stops = λ file at k r h. of-told h (stops-exactly file at k);
+  refuses = λ file at k r h. of-told h (refuses-exactly file at k);
+  product-one = product-coincide;
+  quadratic-one = quadratic-coincide;
+  inverse-one = inverse-coincide;
+  position-one = position-coincide;
+  begin-one = begin-coincide;
+  step-one = step-coincide;
+  finish-one = finish-coincide;
+  solve-one = solve-coincide;
+  search-one = search-coincide;
+  correct-one = λ t word r s x y h k. correct-coincide r s x y h k;
+  read-one = read-coincide;
+  turn-one = λ file old at k r s x y h g. turned-once h g;
 }

@@ -21,9 +21,13 @@ use Rattle.groups.specs.Splitting.{rootsAt}
 use Rattle.groups.proofs.Fields.{known-field}
 use Rattle.groups.specs.Polynomials.{PolynomialIn}
 use Rattle.groups.proofs.Polynomials.{polynomial-told, passed-more, passed-first, passed-rest}
+use Rattle.groups.specs.Demand.{stepsAt}
 use Rattle.finder.specs.Calls.{solveTests}
+use Rattle.finder.specs.declared.Solved.the-variants.{Found}
+use Rattle.finder.proofs.Coincide.{solved-told}
 use Rattle.searching.specs.Calls.{searchTests}
-use Rattle.groups.specs.RootMemory.{rootMemory}
+use Rattle.searching.specs.declared.Searched.the-variants.{Seen}
+use Rattle.searching.proofs.Coincide.{searched-told}
 use Rattle.groups.proofs.Polynomials.{roots-few}
 use Rattle.demands.proofs.Agreement.{agree-list}
 use Rattle.demands.specs.Demand2.{valueAt, RootList, Holds, Demand2}
@@ -72,11 +76,9 @@ demand-2 m c f list p =
     record {
       roots = root-list m f t;
       few = roots-few t;
-      solve-gives = accepted _ p;
-      solve-holds = holds (rootsAt m f) list (rootMemory (solveTests m c f list) m f list) (written _ list p);
-      search-gives = accepted _ q;
-      search-holds = holds (rootsAt m f) list (rootMemory (searchTests m f list) m f list) (written _ list q);
-      agree = agree-list m c f list h;
+      solve-gives = λ r after s. (solved-told r (Found (length (rootsAt m f)) (stepsAt m c f)) (s .0 ∙ accepted _ p), holds (rootsAt m f) list after (s .1 ∙ written _ list p));
+      search-gives = λ r after s. (searched-told r (Seen (length (rootsAt m f))) (s .0 ∙ accepted _ q), holds (rootsAt m f) list after (s .1 ∙ written _ list q));
+      agree = λ r s x y a b. a .1 ∙ agree-list m c f list h ∙ sym (b .1);
     }
 
 pub demand-2-search : (m c : ℕ) (f list : List ℕ) → c ≤ 3 → Passed (searchTests m f list) → Demand2 m c f list

@@ -2,7 +2,7 @@
 --   never-refused  no step on the table of a begun polynomial is refused
 --   demand-3-calls it holds
 -- Assumes nothing.
-use mathlib.Core.Path.{_≡_, refl, sym, ap, _∙_}
+use mathlib.Core.Path.{_≡_, refl, sym, ap, subst, _∙_}
 use mathlib.Core.Bool.{Bool, true, false, not, cond}
 use mathlib.Core.List.{List, [], _∷_}
 use Prim.Native.Nat.{ℕ, zero, suc, _<_, _≤_}
@@ -25,16 +25,38 @@ use Rattle.groups.proofs.Soundness.{done-encode, stuck-encode}
 use Rattle.groups.proofs.Demand.{demand-3, begin-slots}
 use Rattle.groups.specs.Limit.{limit, slots}
 use Rattle.judging.specs.Verdicts.{stepTests}
-use Rattle.beginning.specs.Calls.{beginTests, beginMemory}
-use Rattle.splitter.specs.Calls.{stepOutcome, stepMemory}
+use Rattle.beginning.specs.Calls.{beginTests, beginMemory, Begins}
+use Rattle.beginning.specs.declared.Begun.{Begun}
+use Rattle.beginning.specs.declared.Begun.the-variants.{Ready}
+use Rattle.beginning.proofs.Coincide.{begun-told}
+use Rattle.splitter.specs.Calls.{stepOutcome, stepMemory, paperStepped, Steps}
+use Rattle.splitter.specs.declared.Stepped.{Stepped}
+use Rattle.splitter.specs.declared.Stepped.the-variants.{Taken, Done}
+use Rattle.splitter.proofs.Coincide.{stepped-told}
 use Rattle.finishing.specs.Calls.{finishTests, finishOutcome, finishMemory}
+use Rattle.finishing.specs.declared.Finished.the-variants.{Listed}
+use Rattle.finishing.proofs.Coincide.{finished-told}
+use Rattle.finder.specs.declared.Solved.the-variants.{Found}
+use Rattle.finder.proofs.Coincide.{solved-told}
 use Rattle.groups.specs.Polynomials.{PolynomialIn}
 use Rattle.groups.proofs.Polynomials.{polynomial-told, passed-more, passed-first, passed-rest}
 use Rattle.groups.specs.Demand.{stepsAt}
 use Rattle.finder.specs.Calls.{solveTests}
 use Rattle.finder.specs.Solving.{begunAfter, Stepping}
 use Rattle.finder.proofs.Running.{taken-at, begun-after, long-now, run-on, run-count, out-roots}
-use Rattle.demands.specs.Demand3.{afterSteps, Followed}
+use Rattle.demands.specs.Demand3.{After, Followed}
+use Rattle.demands.specs.Demand3.After.{start, call}
+
+-- what so many steps leave of a table
+unfoldable afterSteps : ℕ → List ℕ → List ℕ
+afterSteps zero table = table
+afterSteps (suc n) table = stepMemory (afterSteps n table)
+
+-- and so do so many calls that the contract of step admits
+after-is : {table t : List ℕ} {n : ℕ} → After table n t → t ≡ afterSteps n table
+unfolding afterSteps
+after-is start = refl
+after-is (call u r a h) = h .1 ∙ ap stepMemory (after-is a)
 
 module _ (m c : ℕ) (f table : List ℕ) (p : Passed (beginTests m c f table)) where
   -- the cutoff in force, and the number of steps
@@ -143,18 +165,34 @@ module _ (m c : ℕ) (f table : List ℕ) (p : Passed (beginTests m c f table)) 
   lists list h =
       ap (λ (t : List ℕ). finishMemory t list) at-end ∙ written _ list (finish-passes list h) ∙ ap (λ (r : List ℕ). copied r list) end-roots
 
-  pub demand-3-calls : Followed m c f table
+  -- what a call of step answers where n steps were taken
+  answers-at : {n : ℕ} {t : List ℕ} (u : List ℕ) (r : Stepped) → After begun n t → Steps t r u → paperStepped r ≡ stepOutcome (afterSteps n begun)
+  answers-at u r a h = h .0 ∙ ap stepOutcome (after-is a)
+
+  -- of whatever table begin leaves
+  pub demand-3-calls : (r : Begun) (b : List ℕ) → Begins m c f table r b → (r ≡ Ready) × Followed m c f b
   unfolding begun
-  demand-3-calls = record {
-    groups = D;
-    begun = accepted [] p;
-    each = each;
-    taken = λ n h. ap stepOutcome (each n (omega arith)) ∙ step-answers n false (omega arith) (done-at n (D .before n h .0));
-    done = λ n h. ap stepOutcome (still n h) ∙ step-answers count true (omega arith) done-end;
-    still = still;
-    bound = D .bound;
-    finish-gives = λ list h. ap (λ (t : List ℕ). finishOutcome t list) at-end ∙ accepted _ (finish-passes list h) ∙ ap (λ (r : List ℕ). (0, length r ∷ [])) end-roots;
-    finish-lists = lists;
-    whole-gives = λ list h. accepted _ (solve-passes list h);
-    whole-lists = λ list h. written _ list (solve-passes list h) ∙ sym (lists list h);
-  }
+  demand-3-calls r b h = (begun-told r Ready (h .0 ∙ accepted [] p), subst (Followed m c f) (sym (h .1)) followed)
+    where
+      followed : Followed m c f begun
+      followed = record {
+        groups = D;
+        each = λ n t l a. after-is a ∙ each n l;
+        taken = λ n t u r l a s. stepped-told r Taken
+            (answers-at u r a s ∙ ap stepOutcome (each n (omega arith)) ∙ step-answers n false (omega arith) (done-at n (D .before n l .0)));
+        done = λ n t u r l a s. (
+          stepped-told r Done (answers-at u r a s ∙ ap stepOutcome (still n l) ∙ step-answers count true (omega arith) done-end),
+          after-is (call u r a s) ∙ still (suc n) (omega arith) ∙ sym (after-is a ∙ still n l),
+        );
+        still = λ n t l a. after-is a ∙ still n l;
+        bound = D .bound;
+        finish-gives = λ t list r after a l h. (
+          finished-told r (Listed (length (rootsAt m f))) (h .0 ∙ ap (λ (t : List ℕ). finishOutcome t list) (after-is a ∙ at-end)
+              ∙ accepted _ (finish-passes list l) ∙ ap (λ (r : List ℕ). (0, length r ∷ [])) end-roots),
+          h .1 ∙ ap (λ (t : List ℕ). finishMemory t list) (after-is a) ∙ lists list l,
+        );
+        whole-gives = λ t list r s x y a l h k. (
+          solved-told s (Found (length (rootsAt m f)) count) (k .0 ∙ accepted _ (solve-passes list l)),
+          k .1 ∙ written _ list (solve-passes list l) ∙ sym (h .1 ∙ ap (λ (t : List ℕ). finishMemory t list) (after-is a) ∙ lists list l),
+        );
+      }

@@ -3,8 +3,9 @@
 --   Decides   an outcome by tests in their order: a refusal's number alone exactly when its test is the first to hold, 0 with the values exactly when none holds
 --   Spares    lent memory afterwards: as it was where a test holds, and else what the entry writes
 --   Settles   the corrector's outcome and word, by its tests in their order; the last of them asks for a codeword
---   Told      an answer is told by the paper's number and values: two answers that a contract admits coincide
---   Demand1   each entry, for every input: its tests in their order, its values, its memory; the record reader likewise; and that its answer is told
+--   Demand1   of whatever the contract of each entry admits, for every input: its tests in their order, its values, its memory; the record reader
+--             likewise; and that it admits one answer and one memory
+-- The exports' contracts (locator/specs/Calls) are the structs of these answers.
 -- Assumes nothing.
 use mathlib.Core.Path.{_≡_}
 use mathlib.Core.Bool.{Bool, cond}
@@ -16,27 +17,34 @@ use Rattle.refusals.specs.Order.{Given, Passed}
 use Rattle.slots.specs.Lists.{copied}
 use Rattle.field.specs.Field.{fieldAt, mul, inverse}
 use Rattle.field.specs.Quadratics.{paperRoots, rootsOfQuadratic}
+use Rattle.field.specs.declared.solver.Quadratic.{Quadratic}
+use Rattle.elements.specs.declared.Answer.{Answer}
 use Rattle.elements.specs.Calls.{paper, pairTests, nonzeroTests, positionTests, positionUnder}
-use Rattle.elements.specs.Calls.{productOutcome, inverseOutcome, positionOutcome, quadraticOutcome}
+use Rattle.elements.specs.Calls.{TellsProduct, TellsInverse, TellsPosition, TellsQuadratic}
 use Rattle.groups.specs.Cutoff.{inForce}
-use Rattle.groups.specs.Layout.{byFactor}
-use Rattle.groups.specs.Splitting.{rootsAt, slotsDone, slotsStepped, slotsBegun, slotsRoots}
-use Rattle.groups.specs.Limit.{slots}
-use Rattle.judging.specs.Verdicts.{stepTests}
-use Rattle.beginning.specs.Calls.{beginTests, beginOutcome, beginMemory}
-use Rattle.finishing.specs.Calls.{finishTests, finishOutcome, finishMemory}
-use Rattle.splitter.specs.Calls.{stepOutcome, stepMemory}
-use Rattle.beginning.specs.Calls.{paperBegun}
-use Rattle.splitter.specs.Calls.{paperStepped}
-use Rattle.finishing.specs.Calls.{paperFinished}
 use Rattle.groups.specs.Demand.{stepsAt}
-use Rattle.finder.specs.Calls.{solveTests, solveOutcome, paperSolved}
-use Rattle.searching.specs.Calls.{searchTests, searchOutcome, paperSearched}
-use Rattle.groups.specs.RootMemory.{rootMemory}
-use Rattle.corrector.specs.Correcting.{distance, IsBlock, IsStrength, Within, Corrects, paperCorrected}
+use Rattle.groups.specs.Layout.{byFactor}
+use Rattle.groups.specs.Limit.{slots}
+use Rattle.groups.specs.Splitting.{rootsAt, slotsDone, slotsStepped, slotsBegun, slotsRoots}
+use Rattle.beginning.specs.Calls.{beginTests, paperBegun, Begins}
+use Rattle.beginning.specs.declared.Begun.{Begun}
+use Rattle.judging.specs.Verdicts.{stepTests}
+use Rattle.splitter.specs.Calls.{paperStepped, Steps}
+use Rattle.splitter.specs.declared.Stepped.{Stepped}
+use Rattle.finishing.specs.Calls.{finishTests, paperFinished, Finishes}
+use Rattle.finishing.specs.declared.Finished.{Finished}
+use Rattle.finder.specs.Calls.{solveTests, paperSolved, Solves}
+use Rattle.finder.specs.declared.Solved.{Solved}
+use Rattle.searching.specs.Calls.{searchTests, paperSearched, Searches}
+use Rattle.searching.specs.declared.Searched.{Searched}
 use Rattle.records.specs.Layout.{recordLength}
-use Rattle.records.specs.Reading.{Outcome, startTests, recordTests, readAt}
+use Rattle.records.specs.Reading.{Outcome, startTests, recordTests, ReadsAt}
 use Rattle.records.specs.Reading.{paper as paperRead}
+use Rattle.records.specs.declared.Read.{Read}
+use Rattle.jobs.specs.Printing.{Turned}
+use Rattle.jobs.specs.declared.Turn.{Turn}
+use Rattle.corrector.specs.Correcting.{IsBlock, IsStrength, Within, distance, Corrects, paperCorrected}
+use Rattle.corrector.specs.declared.Corrected.{Corrected}
 
 pub record Decides (tests : List (ℕ × Bool)) (values : List ℕ) (outcome : ℕ × List ℕ) : Type 0 where
   pub refused : (k : ℕ) → (outcome ≡ (suc k, [])) ↔ Given (suc k) tests
@@ -55,50 +63,57 @@ pub record Settles (t : ℕ) (word : List ℕ) (outcome : ℕ × List ℕ) (afte
   pub accepted : (outcome ≡ (0, distance word after ∷ [])) ↔ (IsBlock word × IsStrength t × Within t word after)
   pub unwritten : (k : ℕ) → outcome ≡ (suc k, []) → after ≡ word
 
-abbrev pub Told : {A B : Type 0} → (A → B) → Type 0
-Told {A} tell = (r s : A) → tell r ≡ tell s → r ≡ s
-
 pub record Demand1 : Type 0 where
   -- element calls: 1, 4, 13;  position: 1, 21, 4, 13
-  pub product : (m a b : ℕ) → Decides (pairTests m a b) (mul (fieldAt m) a b ∷ []) (productOutcome m a b)
-  pub quadratic : (m a b : ℕ) → Decides (pairTests m a b) (rootsOfQuadratic (fieldAt m) a b) (quadraticOutcome m a b)
-  pub inverse : (m a : ℕ) → Decides (nonzeroTests m a) (inverse (fieldAt m) a ∷ []) (inverseOutcome m a)
-  pub position : (m r convention : ℕ)
-      → Decides (positionTests m r convention) (positionUnder convention (fieldAt m) r ∷ [])
-      (positionOutcome m r convention)
+  pub product : (m a b : ℕ) (r : Answer) → TellsProduct m a b r → Decides (pairTests m a b) (mul (fieldAt m) a b ∷ []) (paper r)
+  pub quadratic : (m a b : ℕ) (r : Quadratic) → TellsQuadratic m a b r → Decides (pairTests m a b) (rootsOfQuadratic (fieldAt m) a b) (paperRoots r)
+  pub inverse : (m a : ℕ) (r : Answer) → TellsInverse m a r → Decides (nonzeroTests m a) (inverse (fieldAt m) a ∷ []) (paper r)
+  pub position : (m x convention : ℕ) (r : Answer) → TellsPosition m x convention r
+      → Decides (positionTests m x convention) (positionUnder convention (fieldAt m) x ∷ []) (paper r)
   -- begin: 1 to 7;  step: 7, 8, 9;  finish: 7, 8, 10
-  pub begin : (m c : ℕ) (cs table : List ℕ)
-      → Decides (beginTests m c cs table) [] (beginOutcome m c cs table)
-      × Spares (beginTests m c cs table) (slotsBegun byFactor slots m (inForce c) cs) table (beginMemory m c cs table)
-  pub step : (table : List ℕ)
-      → Decides (stepTests table) (cond (slotsDone byFactor table) 1 0 ∷ []) (stepOutcome table)
-      × Spares (stepTests table) (cond (slotsDone byFactor table) table (slotsStepped byFactor table)) table (stepMemory table)
-  pub finish : (table list : List ℕ)
-      → Decides (finishTests table list) (length (slotsRoots byFactor table) ∷ []) (finishOutcome table list)
-      × Spares (finishTests table list) (copied (slotsRoots byFactor table) list) list (finishMemory table list)
+  pub begin : (m c : ℕ) (cs table : List ℕ) (r : Begun) (after : List ℕ) → Begins m c cs table r after
+      → Decides (beginTests m c cs table) [] (paperBegun r)
+      × Spares (beginTests m c cs table) (slotsBegun byFactor slots m (inForce c) cs) table after
+  pub step : (table : List ℕ) (r : Stepped) (after : List ℕ) → Steps table r after
+      → Decides (stepTests table) (cond (slotsDone byFactor table) 1 0 ∷ []) (paperStepped r)
+      × Spares (stepTests table) (cond (slotsDone byFactor table) table (slotsStepped byFactor table)) table after
+  pub finish : (table list : List ℕ) (r : Finished) (after : List ℕ) → Finishes table list r after
+      → Decides (finishTests table list) (length (slotsRoots byFactor table) ∷ []) (paperFinished r)
+      × Spares (finishTests table list) (copied (slotsRoots byFactor table) list) list after
   -- whole call: 1 to 7;  plain search: likewise without 6
-  pub solve : (m c : ℕ) (cs list : List ℕ)
-      → Decides (solveTests m c cs list) (length (rootsAt m cs) ∷ stepsAt m c cs ∷ []) (solveOutcome m c cs list)
-      × Spares (solveTests m c cs list) (copied (rootsAt m cs) list) list (rootMemory (solveTests m c cs list) m cs list)
-  pub search : (m : ℕ) (cs list : List ℕ)
-      → Decides (searchTests m cs list) (length (rootsAt m cs) ∷ []) (searchOutcome m cs list)
-      × Spares (searchTests m cs list) (copied (rootsAt m cs) list) list (rootMemory (searchTests m cs list) m cs list)
-  -- correct: 22, 23, 24, of whatever its contract admits
+  pub solve : (m c : ℕ) (cs list : List ℕ) (r : Solved) (after : List ℕ) → Solves m c cs list r after
+      → Decides (solveTests m c cs list) (length (rootsAt m cs) ∷ stepsAt m c cs ∷ []) (paperSolved r)
+      × Spares (solveTests m c cs list) (copied (rootsAt m cs) list) list after
+  pub search : (m : ℕ) (cs list : List ℕ) (r : Searched) (after : List ℕ) → Searches m cs list r after
+      → Decides (searchTests m cs list) (length (rootsAt m cs) ∷ []) (paperSearched r)
+      × Spares (searchTests m cs list) (copied (rootsAt m cs) list) list after
+  -- correct: 22, 23, 24
   pub correct : (t : ℕ) (word : List ℕ) (outcome : ℕ × List ℕ) (after : List ℕ)
       → Corrects t word outcome after → Settles t word outcome after
   -- the reader at a place of a file: it ends where no byte remains, stops under 12 or 11, and refuses a complete record under 1 to 6 with the place behind it
-  pub ends : (file : List ℕ) (at : ℕ) → (readAt file at ≡ Outcome.ends) ↔ (length file ≤ at)
-  pub stops : (file : List ℕ) (at k : ℕ) → (readAt file at ≡ Outcome.gives k []) ↔ ((at < length file) × Given k (startTests (drop at file)))
-  pub refuses : (file : List ℕ) (at k : ℕ)
-      → (readAt file at ≡ Outcome.gives (suc k) ((at + recordLength (drop at file)) ∷ []))
+  pub ends : (file : List ℕ) (at : ℕ) (r : Read) → ReadsAt file at r → (paperRead r ≡ Outcome.ends) ↔ (length file ≤ at)
+  pub stops : (file : List ℕ) (at k : ℕ) (r : Read) → ReadsAt file at r
+      → (paperRead r ≡ Outcome.gives k []) ↔ ((at < length file) × Given k (startTests (drop at file)))
+  pub refuses : (file : List ℕ) (at k : ℕ) (r : Read) → ReadsAt file at r
+      → (paperRead r ≡ Outcome.gives (suc k) ((at + recordLength (drop at file)) ∷ []))
       ↔ (Passed (startTests (drop at file)) × Given (suc k) (recordTests (drop at file)))
-  -- so each contract admits one answer
-  pub element-told : Told paper
-  pub quadratic-told : Told paperRoots
-  pub begin-told : Told paperBegun
-  pub step-told : Told paperStepped
-  pub finish-told : Told paperFinished
-  pub solve-told : Told paperSolved
-  pub search-told : Told paperSearched
-  pub correct-told : Told paperCorrected
-  pub read-told : Told paperRead
+  -- each contract admits one answer, and one content of lent memory
+  pub product-one : (m a b : ℕ) (r s : Answer) → TellsProduct m a b r → TellsProduct m a b s → r ≡ s
+  pub quadratic-one : (m a b : ℕ) (r s : Quadratic) → TellsQuadratic m a b r → TellsQuadratic m a b s → r ≡ s
+  pub inverse-one : (m a : ℕ) (r s : Answer) → TellsInverse m a r → TellsInverse m a s → r ≡ s
+  pub position-one : (m x convention : ℕ) (r s : Answer) → TellsPosition m x convention r → TellsPosition m x convention s → r ≡ s
+  pub begin-one : (m c : ℕ) (cs table : List ℕ) (r s : Begun) (x y : List ℕ)
+      → Begins m c cs table r x → Begins m c cs table s y → (r ≡ s) × (x ≡ y)
+  pub step-one : (table : List ℕ) (r s : Stepped) (x y : List ℕ) → Steps table r x → Steps table s y → (r ≡ s) × (x ≡ y)
+  pub finish-one : (table list : List ℕ) (r s : Finished) (x y : List ℕ)
+      → Finishes table list r x → Finishes table list s y → (r ≡ s) × (x ≡ y)
+  pub solve-one : (m c : ℕ) (cs list : List ℕ) (r s : Solved) (x y : List ℕ)
+      → Solves m c cs list r x → Solves m c cs list s y → (r ≡ s) × (x ≡ y)
+  pub search-one : (m : ℕ) (cs list : List ℕ) (r s : Searched) (x y : List ℕ)
+      → Searches m cs list r x → Searches m cs list s y → (r ≡ s) × (x ≡ y)
+  pub correct-one : (t : ℕ) (word : List ℕ) (r s : Corrected) (x y : List ℕ)
+      → Corrects t word (paperCorrected r) x → Corrects t word (paperCorrected s) y → (r ≡ s) × (x ≡ y)
+  pub read-one : (file : List ℕ) (at : ℕ) (r s : Read) → ReadsAt file at r → ReadsAt file at s → r ≡ s
+  -- a record's line and where reading goes on (take_turn): one text, one place
+  pub turn-one : (file old : List ℕ) (at k : ℕ) (r s : Turn) (x y : List ℕ)
+      → Turned file at k old r x → Turned file at k old s y → (r ≡ s) × (x ≡ y)

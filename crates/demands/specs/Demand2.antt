@@ -3,7 +3,7 @@
 --   valueAt    the value of a polynomial at an element of the field of degree m
 --   RootList   a list is the root list of f
 --   Holds      a root list fills the front of a lent list, and what is behind it is as it was
---   Demand2    the whole call and the search on a polynomial that they accept, at the cutoff c
+--   Demand2    on a polynomial that they accept, at the cutoff c: whatever the contracts of the whole call and of the search admit
 -- Assumes nothing.
 use mathlib.Core.Path.{_≡_}
 use mathlib.Core.List.{List, List·Memᴰ, [], _∷_}
@@ -16,9 +16,12 @@ use Rattle.field.specs.Field.{numbers, fieldAt}
 use Rattle.groups.specs.Splitting.{rootsAt}
 use Rattle.groups.specs.Limit.{limit}
 use Rattle.groups.specs.Demand.{stepsAt}
-use Rattle.finder.specs.Calls.{solveTests, solveOutcome}
-use Rattle.searching.specs.Calls.{searchTests, searchOutcome}
-use Rattle.groups.specs.RootMemory.{rootMemory}
+use Rattle.finder.specs.Calls.{Solves}
+use Rattle.finder.specs.declared.Solved.{Solved}
+use Rattle.finder.specs.declared.Solved.the-variants.{Found}
+use Rattle.searching.specs.Calls.{Searches}
+use Rattle.searching.specs.declared.Searched.{Searched}
+use Rattle.searching.specs.declared.Searched.the-variants.{Seen}
 
 abbrev pub valueAt : ℕ → List ℕ → ℕ → ℕ
 valueAt m f x = eval (numbers (fieldAt m)) f x
@@ -38,11 +41,11 @@ pub record Holds (roots list after : List ℕ) : Type 0 where
 pub record Demand2 (m c : ℕ) (f list : List ℕ) : Type 0 where
   pub roots : RootList m f (rootsAt m f)
   pub few : length (rootsAt m f) ≤ limit
-  -- the trace engine
-  pub solve-gives : solveOutcome m c f list ≡ (0, length (rootsAt m f) ∷ stepsAt m c f ∷ [])
-  pub solve-holds : Holds (rootsAt m f) list (rootMemory (solveTests m c f list) m f list)
-  -- the plain trial
-  pub search-gives : searchOutcome m f list ≡ (0, length (rootsAt m f) ∷ [])
-  pub search-holds : Holds (rootsAt m f) list (rootMemory (searchTests m f list) m f list)
+  -- the trace engine: whatever the whole call's contract admits
+  pub solve-gives : (r : Solved) (after : List ℕ) → Solves m c f list r after
+      → (r ≡ Found (length (rootsAt m f)) (stepsAt m c f)) × Holds (rootsAt m f) list after
+  -- the plain trial: whatever the search's contract admits
+  pub search-gives : (r : Searched) (after : List ℕ) → Searches m f list r after
+      → (r ≡ Seen (length (rootsAt m f))) × Holds (rootsAt m f) list after
   -- they agree
-  pub agree : rootMemory (solveTests m c f list) m f list ≡ rootMemory (searchTests m f list) m f list
+  pub agree : (r : Solved) (s : Searched) (x y : List ℕ) → Solves m c f list r x → Searches m f list s y → x ≡ y

@@ -9,7 +9,7 @@ use lib.ListN.{getD}
 use Rattle.refusals.proofs.Numbers.{by-number, refused-back, accepted-back}
 use Rattle.refusals.proofs.Told.{told}
 use Rattle.field.specs.Quadratics.{paperRoots}
-use Rattle.elements.specs.Calls.{paper, productOutcome, inverseOutcome, positionOutcome, quadraticOutcome}
+use Rattle.elements.specs.Calls.{paper, TellsProduct, TellsInverse, TellsPosition, TellsQuadratic}
 use Rattle.elements.specs.declared.Answer.{Answer}
 use Rattle.elements.specs.declared.Answer.the-variants.{Value, Refused}
 use Rattle.field.specs.declared.solver.Quadratic.{Quadratic}
@@ -45,15 +45,15 @@ roots-back (Two x y) = accepted-back Turned (Two x y)
 pub roots-told : (r s : Quadratic) → paperRoots r ≡ paperRoots s → r ≡ s
 roots-told = told paperRoots rootsAnswer roots-back
 
-pub product-coincide : (m a b : ℕ) (r s : Answer) → paper r ≡ productOutcome m a b → paper s ≡ productOutcome m a b → r ≡ s
+pub product-coincide : (m a b : ℕ) (r s : Answer) → TellsProduct m a b r → TellsProduct m a b s → r ≡ s
 product-coincide m a b r s h k = answer-told r s (h ∙ sym k)
 
-pub inverse-coincide : (m a : ℕ) (r s : Answer) → paper r ≡ inverseOutcome m a → paper s ≡ inverseOutcome m a → r ≡ s
+pub inverse-coincide : (m a : ℕ) (r s : Answer) → TellsInverse m a r → TellsInverse m a s → r ≡ s
 inverse-coincide m a r s h k = answer-told r s (h ∙ sym k)
 
 pub position-coincide : (m x convention : ℕ) (r s : Answer)
-    → paper r ≡ positionOutcome m x convention → paper s ≡ positionOutcome m x convention → r ≡ s
+    → TellsPosition m x convention r → TellsPosition m x convention s → r ≡ s
 position-coincide m x convention r s h k = answer-told r s (h ∙ sym k)
 
-pub quadratic-coincide : (m a b : ℕ) (r s : Quadratic) → paperRoots r ≡ quadraticOutcome m a b → paperRoots s ≡ quadraticOutcome m a b → r ≡ s
+pub quadratic-coincide : (m a b : ℕ) (r s : Quadratic) → TellsQuadratic m a b r → TellsQuadratic m a b s → r ≡ s
 quadratic-coincide m a b r s h k = roots-told r s (h ∙ sym k)

@@ -3,16 +3,19 @@
 --   pairTests, nonzeroTests, positionTests   the tests in their order, each behind its number
 --   positionUnder       the position of a root under a convention
 --   productOutcome ..   the outcome of each call: its tests and its value
+--   TellsProduct ..     THE CONTRACT of each call: which answers it admits
 -- Assumes nothing.
 use mathlib.Core.Bool.{Bool, not, cond, _||_}
 use mathlib.Core.List.{List, [], _∷_}
+use mathlib.Core.Path.{_≡_}
 use Prim.Native.Nat.{ℕ, _-_, _%_, _^_}
 use lib.Dec.{eqb, leb, ltb}
 use Rattle.refusals.specs.Order.{outcome}
 use Rattle.refusals.specs.Numbers.{numberOf}
 use Rattle.refusals.specs.Rows.{known}
 use Rattle.field.specs.Field.{Field, fieldAt, order, mul, inverse, position}
-use Rattle.field.specs.Quadratics.{rootsOfQuadratic}
+use Rattle.field.specs.Quadratics.{paperRoots, rootsOfQuadratic}
+use Rattle.field.specs.declared.solver.Quadratic.{Quadratic}
 use Rattle.elements.specs.declared.Answer.{Answer}
 use Rattle.elements.specs.declared.Answer.the-variants.{Value, Refused}
 
@@ -52,3 +55,16 @@ positionOutcome m r convention = outcome (positionTests m r convention) (positio
 
 abbrev pub quadraticOutcome : ℕ → ℕ → ℕ → ℕ × List ℕ
 quadraticOutcome m a b = outcome (pairTests m a b) (rootsOfQuadratic (fieldAt m) a b)
+
+-- the contract of each call: the answers that it admits
+abbrev pub TellsProduct : ℕ → ℕ → ℕ → Answer → Type 0
+TellsProduct m a b r = paper r ≡ productOutcome m a b
+
+abbrev pub TellsInverse : ℕ → ℕ → Answer → Type 0
+TellsInverse m a r = paper r ≡ inverseOutcome m a
+
+abbrev pub TellsPosition : ℕ → ℕ → ℕ → Answer → Type 0
+TellsPosition m x convention r = paper r ≡ positionOutcome m x convention
+
+abbrev pub TellsQuadratic : ℕ → ℕ → ℕ → Quadratic → Type 0
+TellsQuadratic m a b r = paperRoots r ≡ quadraticOutcome m a b

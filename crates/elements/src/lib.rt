@@ -1,7 +1,5 @@
 // The public element calls: product, inverse, position, quadratic. Each answers every input.
-ghost use mathlib.Core.Path.{_≡_};
-ghost use Rattle.field.specs.Quadratics.{paperRoots};
-ghost use Rattle.elements.specs.Calls.{paper, productOutcome, inverseOutcome, positionOutcome, quadraticOutcome};
+ghost use Rattle.elements.specs.Calls.{TellsProduct, TellsInverse, TellsPosition, TellsQuadratic};
 ghost use Rattle.elements.specs.Calls.{pairTests, nonzeroTests, positionTests};
 ghost use Rattle.refusals.specs.Admitting.{Admits};
 use field::arithmetic::product_of;
@@ -56,7 +54,7 @@ fn admit_nonzero(m: u16, a: u16) -> Admission
 
 // The product of a and b in the field of degree m.
 pub fn product(m: u16, a: u16, b: u16) -> Answer
-    ensures { λ r. ⌜ paper r ≡ productOutcome m a b ⌝ }
+    ensures { λ r. ⌜ TellsProduct m a b r ⌝ }
 {
     match admit_pair(m, a, b) {
         Admission::Out(k) => Answer::Refused(k),
@@ -66,7 +64,7 @@ pub fn product(m: u16, a: u16, b: u16) -> Answer
 
 // The inverse of a in the field of degree m.
 pub fn inverse(m: u16, a: u16) -> Answer
-    ensures { λ r. ⌜ paper r ≡ inverseOutcome m a ⌝ }
+    ensures { λ r. ⌜ TellsInverse m a r ⌝ }
 {
     match admit_nonzero(m, a) {
         Admission::Out(k) => Answer::Refused(k),
@@ -92,7 +90,7 @@ fn admit_position(m: u16, r: u16, convention: u16) -> Admission
 // products of z + X) the root 2^j stands for place j; under 1 (recorders, products of 1 + X z) for its mirror image
 // among the 2^m - 1 places, and place 0 stays 0.
 pub fn position(m: u16, r: u16, convention: u16) -> Answer
-    ensures { λ j. ⌜ paper j ≡ positionOutcome m r convention ⌝ }
+    ensures { λ j. ⌜ TellsPosition m r convention j ⌝ }
 {
     match admit_position(m, r, convention) {
         Admission::Out(k) => Answer::Refused(k),
@@ -110,7 +108,7 @@ pub fn position(m: u16, r: u16, convention: u16) -> Answer
 
 // The roots of z^2 + az + b in the field of degree m.
 pub fn quadratic(m: u16, a: u16, b: u16) -> Quadratic
-    ensures { λ r. ⌜ paperRoots r ≡ quadraticOutcome m a b ⌝ }
+    ensures { λ r. ⌜ TellsQuadratic m a b r ⌝ }
 {
     match admit_pair(m, a, b) {
         Admission::Out(k) => Quadratic::Refused(k),

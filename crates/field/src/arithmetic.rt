@@ -53,7 +53,9 @@ pub fn position_of(degree: u16, poly: u16, logs: &[u16], r: u16) -> u16
 
 // The product over lent tables, for all numbers: elements by their logs, others digit by digit.
 pub fn times(degree: u16, poly: u16, logs: &[u16], antilogs: &[u16], a: u16, b: u16) -> u16
-    requires { ⌜ Listed degree poly × Logs (fieldOf degree poly) (now logs) × Antilogs (fieldOf degree poly) (now antilogs) ⌝ }
+    requires { ⌜ Listed degree poly
+        × Logs (fieldOf degree poly) (now logs)
+        × Antilogs (fieldOf degree poly) (now antilogs) ⌝ }
     ensures { λ r. ⌜ r ≡ mul (fieldOf degree poly) a b ⌝ }
 {
     if a == 0 {

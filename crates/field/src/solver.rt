@@ -20,7 +20,10 @@ pub enum Quadratic {
 
 // The roots of z^2 + az + b: where a is 0 the square root of b, else z = ax with x^2 + x = b / a^2.
 pub fn quadratic_of(degree: u16, poly: u16, halves: &[u16], a: u16, b: u16) -> Quadratic
-    requires { ⌜ Listed degree poly × Halves (fieldOf degree poly) (now halves) × (a < 2 ^ degree) × (b < 2 ^ degree) ⌝ }
+    requires { ⌜ Listed degree poly
+        × Halves (fieldOf degree poly) (now halves)
+        × (a < 2 ^ degree)
+        × (b < 2 ^ degree) ⌝ }
     ensures { λ r. ⌜ paperRoots r ≡ (0, rootsOfQuadratic (fieldOf degree poly) a b) ⌝ }
 {
     if a == 0 {

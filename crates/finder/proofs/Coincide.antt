@@ -9,7 +9,7 @@ use lib.ListN.{getD}
 use Rattle.refusals.proofs.Numbers.{by-number, refused-back, accepted-back}
 use Rattle.refusals.proofs.Told.{told, coincide}
 use Rattle.groups.specs.RootMemory.{rootMemory}
-use Rattle.finder.specs.Calls.{paperSolved, solveOutcome, solveTests}
+use Rattle.finder.specs.Calls.{paperSolved, solveOutcome, solveTests, Solves}
 use Rattle.finder.specs.declared.Solved.{Solved}
 use Rattle.finder.specs.declared.Solved.the-variants.{Found, NotSolved}
 
@@ -29,6 +29,5 @@ solved-told = told paperSolved solvedOf solved-back
 
 -- the answer and the lent list
 pub solve-coincide : (m c : ℕ) (cs list : List ℕ) (r s : Solved) (x y : List ℕ)
-    → (paperSolved r ≡ solveOutcome m c cs list) × (x ≡ rootMemory (solveTests m c cs list) m cs list)
-    → (paperSolved s ≡ solveOutcome m c cs list) × (y ≡ rootMemory (solveTests m c cs list) m cs list) → (r ≡ s) × (x ≡ y)
+    → Solves m c cs list r x → Solves m c cs list s y → (r ≡ s) × (x ≡ y)
 solve-coincide m c cs list = coincide paperSolved solved-told (solveOutcome m c cs list) (rootMemory (solveTests m c cs list) m cs list)

@@ -1,15 +1,17 @@
--- What the whole call answers, for every input. What it leaves in the lent root list is `rootMemory` of groups.
+-- What the whole call answers, for every input. The lent root list's front is then the roots, ascending.
 --   solveTests     its tests in their order, each behind its number
 --   solveOutcome   its outcome: the numbers of roots and of steps
 --   paperSolved    the number and the values of its answer
+--   Solves         THE CONTRACT: the answers and lists that the whole call admits
 -- Assumes nothing.
 use mathlib.Core.Bool.{Bool}
 use mathlib.Core.List.{List, [], _∷_}
 use Prim.Native.Nat.{ℕ}
 use lib.Dec.{ltb}
 use lib.ListN.{length}
-use Rattle.refusals.specs.Order.{outcome}
+use Rattle.refusals.specs.Order.{outcome, Answers}
 use Rattle.refusals.specs.Numbers.{numberOf}
+use Rattle.slots.specs.Lists.{copied}
 use Rattle.groups.specs.Splitting.{rootsAt}
 use Rattle.groups.specs.Demand.{stepsAt}
 use Rattle.groups.specs.Limit.{limit}
@@ -26,3 +28,8 @@ solveOutcome m c cs list = outcome (solveTests m c cs list) (length (rootsAt m c
 abbrev pub paperSolved : Solved → ℕ × List ℕ
 paperSolved (Found s steps) = (0, s ∷ steps ∷ [])
 paperSolved (NotSolved k) = (numberOf k, [])
+
+-- the contract: an answer, and the lent list afterwards
+abbrev pub Solves : ℕ → ℕ → List ℕ → List ℕ → Solved → List ℕ → Type 0
+Solves m c cs list r after =
+    Answers (solveTests m c cs list) (length (rootsAt m cs) ∷ stepsAt m c cs ∷ []) (copied (rootsAt m cs) list) list (paperSolved r) after

@@ -4,9 +4,9 @@ ghost use mathlib.Core.Path.{_≡_};
 ghost use Prim.Native.Nat.{_-_, _*_, _≤_};
 ghost use lib.ListN.{length};
 ghost use Rattle.groups.specs.Cutoff.{inForce};
-ghost use Rattle.finder.specs.Calls.{solveOutcome, solveTests, paperSolved};
-ghost use Rattle.groups.specs.RootMemory.{rootMemory};
-ghost use Rattle.finder.specs.Solving.{Traceable, TracedTo, Advancing, Advanced, Running, RunOut, Solvable, SolvedOut, Admitted};
+ghost use Rattle.finder.specs.Calls.{Solves};
+ghost use Rattle.finder.specs.Solving.{Traceable, TracedTo, Advancing, Advanced};
+ghost use Rattle.finder.specs.Solving.{Running, RunOut, Solvable, SolvedOut, Admitted};
 use admitting::admit;
 use admitting::in_force;
 use beginning::begin_lent;
@@ -64,7 +64,8 @@ fn advance(
     o: usize,
 ) -> u16
     requires { ⌜ Advancing m (now logs) (now antilogs) n (now rows) (now traces) ready (now table) o ⌝ }
-    ensures { λ k. ⌜ Advanced m n (now (rows .entry)) (now (table .entry)) k (now (traces .exit)) (now (table .exit)) ⌝ }
+    ensures { λ k. ⌜ Advanced m n (now (rows .entry)) (now (table .entry))
+        k (now (traces .exit)) (now (table .exit)) ⌝ }
 {
     let level = table[o];
     let k = trace_to(m, logs, antilogs, n, rows, traces, ready, level);
@@ -156,7 +157,10 @@ fn solve_over(
     cutoff: u16,
     roots: &mut [u16],
 ) -> Counts
-    requires { ⌜ Admitted m size cutoff (now coeffs) (now roots) × (size ≤ length (now logs)) × (3 * (size - 1) ≤ length (now antilogs)) × (size ≤ length (now halves)) ⌝ }
+    requires { ⌜ Admitted m size cutoff (now coeffs) (now roots)
+        × (size ≤ length (now logs))
+        × (3 * (size - 1) ≤ length (now antilogs))
+        × (size ≤ length (now halves)) ⌝ }
     ensures { λ r. ⌜ SolvedOut m (inForce cutoff) (now (coeffs .entry)) (now (roots .entry)) r (now (roots .exit)) ⌝ }
 {
     tables::lent::logs(m, logs);
@@ -212,7 +216,7 @@ fn solve_in(m: u16, size: usize, coeffs: &[u16], cutoff: u16, roots: &mut [u16])
 
 // The whole call: all distinct roots, ascending, at the front of the list, and the number of roots and of steps.
 pub fn solve(m: u16, coeffs: &[u16], cutoff: u16, roots: &mut [u16]) -> Solved
-    ensures { λ r. ⌜ (paperSolved r ≡ solveOutcome m cutoff (now (coeffs .entry)) (now (roots .entry))) × (now (roots .exit) ≡ rootMemory (solveTests m cutoff (now (coeffs .entry)) (now (roots .entry))) m (now (coeffs .entry)) (now (roots .entry))) ⌝ }
+    ensures { λ r. ⌜ Solves m cutoff (now (coeffs .entry)) (now (roots .entry)) r (now (roots .exit)) ⌝ }
 {
     match admit(m, coeffs, cutoff, roots.len() < LIMIT) {
         Admission::Out(k) => Solved::NotSolved(k),

@@ -8,7 +8,7 @@ use Prim.Native.Nat.{ℕ}
 use lib.ListN.{getD}
 use Rattle.refusals.proofs.Numbers.{by-number, refused-back, accepted-back}
 use Rattle.refusals.proofs.Told.{told, coincide}
-use Rattle.finishing.specs.Calls.{paperFinished, finishOutcome, finishMemory}
+use Rattle.finishing.specs.Calls.{paperFinished, finishOutcome, finishMemory, Finishes}
 use Rattle.finishing.specs.declared.Finished.{Finished}
 use Rattle.finishing.specs.declared.Finished.the-variants.{Listed, NotFinished}
 
@@ -27,6 +27,6 @@ pub finished-told : (r s : Finished) → paperFinished r ≡ paperFinished s →
 finished-told = told paperFinished finishedOf finished-back
 
 -- the answer and the lent list
-pub finish-coincide : (table list : List ℕ) (r s : Finished) (x y : List ℕ) → (paperFinished r ≡ finishOutcome table list) × (x ≡ finishMemory table list)
-    → (paperFinished s ≡ finishOutcome table list) × (y ≡ finishMemory table list) → (r ≡ s) × (x ≡ y)
+pub finish-coincide : (table list : List ℕ) (r s : Finished) (x y : List ℕ)
+    → Finishes table list r x → Finishes table list s y → (r ≡ s) × (x ≡ y)
 finish-coincide table list = coincide paperFinished finished-told (finishOutcome table list) (finishMemory table list)

@@ -3,13 +3,14 @@
 --   finishOutcome   its outcome: the number of roots
 --   finishMemory    the list afterwards: the roots fill its front
 --   paperFinished   the number and the value of its answer
+--   Finishes        THE CONTRACT: the answers and lists that finish admits
 -- Assumes nothing.
 use mathlib.Core.Bool.{Bool, not, _||_}
 use mathlib.Core.List.{List, [], _∷_}
 use Prim.Native.Nat.{ℕ}
 use lib.Dec.{eqb, ltb}
 use lib.ListN.{length}
-use Rattle.refusals.specs.Order.{outcome, memory}
+use Rattle.refusals.specs.Order.{outcome, memory, Answers}
 use Rattle.refusals.specs.Numbers.{numberOf}
 use Rattle.slots.specs.Lists.{copied}
 use Rattle.groups.specs.Layout.{byFactor}
@@ -31,3 +32,8 @@ finishMemory table list = memory (finishTests table list) (copied (slotsRoots by
 abbrev pub paperFinished : Finished → ℕ × List ℕ
 paperFinished (Listed s) = (0, s ∷ [])
 paperFinished (NotFinished k) = (numberOf k, [])
+
+-- the contract: an answer, and the lent list afterwards
+abbrev pub Finishes : List ℕ → List ℕ → Finished → List ℕ → Type 0
+Finishes table list r after =
+    Answers (finishTests table list) (length (slotsRoots byFactor table) ∷ []) (copied (slotsRoots byFactor table) list) list (paperFinished r) after

@@ -1,6 +1,6 @@
 // Finish: the roots of each factor of a done table, merged into the front of the list, ascending and once each.
 ghost use mathlib.Core.Path.{_≡_};
-ghost use Rattle.finishing.specs.Calls.{finishOutcome, finishMemory, paperFinished};
+ghost use Rattle.finishing.specs.Calls.{Finishes};
 ghost use Rattle.finishing.specs.Finishing.{Mergeable, RootsIn, Listable, ListedIn, Lendable, Opens};
 use cubics::small_roots;
 use groups::LIMIT;
@@ -117,7 +117,7 @@ fn finish_at(table: &[u16], roots: &mut [u16]) -> usize
 
 // Lists, ascending and once each, every field element at which some factor of a done table is zero, at the front of the list.
 pub fn finish(table: &[u16], roots: &mut [u16]) -> Finished
-    ensures { λ r. ⌜ (paperFinished r ≡ finishOutcome (now (table .entry)) (now (roots .entry))) × (now (roots .exit) ≡ finishMemory (now (table .entry)) (now (roots .entry))) ⌝ }
+    ensures { λ r. ⌜ Finishes (now (table .entry)) (now (roots .entry)) r (now (roots .exit)) ⌝ }
 {
     match admit(table, &roots[..]) {
         Opening::Closed(k) => Finished::NotFinished(k),

@@ -49,7 +49,8 @@ fn turned_line(k: u32, refusal: Refusal, out: &mut [u8]) -> usize
 // The line of an accepted record, to the front of out; its length.
 fn solved_line(k: u32, m: u16, cutoff: u16, bytes: &[u8], out: &mut [u8]) -> usize
     requires { ⌜ Solvable m cutoff (words (now bytes)) (now out) ⌝ }
-    ensures { λ n. ⌜ Wrote (solvedLine k m cutoff (words (now (bytes .entry)))) 0 (now (out .entry)) n (now (out .exit)) ⌝ }
+    ensures { λ n. ⌜ Wrote (solvedLine k m cutoff (words (now (bytes .entry))))
+        0 (now (out .entry)) n (now (out .exit)) ⌝ }
 {
     let mut room = [0u16; 33];
     let n = records::coefficients(bytes, &mut room);

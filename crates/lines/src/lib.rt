@@ -39,7 +39,8 @@ fn put_spaced(x: u16, at: usize, out: &mut [u8]) -> usize
 // Writes the first s of the roots, each behind a space, to out from `at` on; the place behind them.
 fn put_roots(s: usize, roots: &[u16], at: usize, out: &mut [u8]) -> usize
     requires { ⌜ (s ≤ length (now roots)) × (at + 6 * s ≤ length (now out)) ⌝ }
-    ensures { λ r. ⌜ Wrote (spaced (take s (now (roots .entry)))) at (now (out .entry)) r (now (out .exit)) × (r ≤ at + 6 * s) ⌝ }
+    ensures { λ r. ⌜ Wrote (spaced (take s (now (roots .entry)))) at (now (out .entry)) r (now (out .exit))
+        × (r ≤ at + 6 * s) ⌝ }
 {
     let mut end = at;
     for i in 0..s {
@@ -52,7 +53,8 @@ fn put_roots(s: usize, roots: &[u16], at: usize, out: &mut [u8]) -> usize
 // Its length. With 32 roots it has at most 221 bytes.
 pub fn line(k: u32, outcome: u16, s: u16, steps: u16, roots: &[u16], out: &mut [u8]) -> usize
     requires { ⌜ (s ≤ length (now roots)) × (29 + 6 * s ≤ length (now out)) ⌝ }
-    ensures { λ n. ⌜ Wrote (lineOf k outcome steps (take s (now (roots .entry)))) 0 (now (out .entry)) n (now (out .exit)) ⌝ }
+    ensures { λ n. ⌜ Wrote (lineOf k outcome steps (take s (now (roots .entry))))
+        0 (now (out .entry)) n (now (out .exit)) ⌝ }
 {
     let first = decimal(k, 0, out);
     let second = put_spaced(outcome, first, out);

@@ -1,6 +1,5 @@
 -- The C face loses nothing: a struct tells the answer that it was made from.
 --   value-told ..       so for the struct of each answer
---   corrected-coincide  two structs that the corrector's export admits are one, and so is what the lent word holds
 -- Assumes nothing.
 use mathlib.Core.Path.{_≡_, sym, ap, _∙_}
 use mathlib.Core.Bool.{cond}
@@ -33,8 +32,7 @@ use Rattle.finishing.specs.declared.Finished.the-variants.{Listed, NotFinished}
 use Rattle.corrector.specs.Correcting.{paperCorrected}
 use Rattle.corrector.specs.declared.Corrected.{Corrected}
 use Rattle.corrector.specs.declared.Corrected.the-variants.{Flips, NotCorrected}
-use Rattle.corrector.proofs.Coincide.{coincide}
-use Rattle.locator.specs.Calls.{asValue, asPair, asFound, asStepped, asCorrected, CorrectsAs}
+use Rattle.locator.specs.Calls.{asValue, asPair, asFound, asStepped, asCorrected}
 use Rattle.locator.specs.declared.LocatorValue.{LocatorValue}
 use Rattle.locator.specs.declared.LocatorPair.{LocatorPair}
 use Rattle.locator.specs.declared.LocatorFound.{LocatorFound}
@@ -145,10 +143,3 @@ corrected-back (NotCorrected k) = refused-back NotCorrected (Flips 0) k
 -- two answers with one struct are one
 pub corrected-told : (a b : Corrected) → asCorrected (paperCorrected a) ≡ asCorrected (paperCorrected b) → a ≡ b
 corrected-told = told (λ (a : Corrected). asCorrected (paperCorrected a)) correctedBack corrected-back
-
--- two structs that the export admits are one, and so is what they leave
-pub corrected-coincide : {t : ℕ} {word x y : List ℕ} {r s : LocatorCorrected}
-    → CorrectsAs t word r x → CorrectsAs t word s y → (r ≡ s) × (x ≡ y)
-corrected-coincide h k =
-    let e = coincide (h .admitted) (k .admitted) in
-    (h .told ∙ ap asCorrected (e .0) ∙ sym (k .told), e .1)

@@ -6,7 +6,8 @@
 --   asFound       outcome, how many roots, how many steps: whole call, search, finish. Search and finish take no steps
 --   asStepped     outcome, and 1 where the table is done
 --   asCorrected   outcome, and how many bits were flipped
---   CorrectsAs    a struct, and what the lent word holds afterwards: those of an outcome that the corrector's contract admits
+--   As            r is the struct of an answer that a contract admits
+--   ProductAs ..  THE CONTRACT of each export, by that of the call
 -- Assumes nothing.
 use mathlib.Core.Path.{_≡_}
 use mathlib.Core.List.{List}
@@ -17,7 +18,14 @@ use Rattle.locator.specs.declared.LocatorPair.{LocatorPair}
 use Rattle.locator.specs.declared.LocatorFound.{LocatorFound}
 use Rattle.locator.specs.declared.LocatorStepped.{LocatorStepped}
 use Rattle.locator.specs.declared.LocatorCorrected.{LocatorCorrected}
-use Rattle.corrector.specs.Correcting.{Corrects}
+use Rattle.field.specs.Quadratics.{paperRoots}
+use Rattle.elements.specs.Calls.{paper, TellsProduct, TellsInverse, TellsPosition, TellsQuadratic}
+use Rattle.finder.specs.Calls.{paperSolved, Solves}
+use Rattle.searching.specs.Calls.{paperSearched, Searches}
+use Rattle.beginning.specs.Calls.{paperBegun, Begins}
+use Rattle.splitter.specs.Calls.{paperStepped, Steps}
+use Rattle.finishing.specs.Calls.{paperFinished, Finishes}
+use Rattle.corrector.specs.Correcting.{paperCorrected, Corrects}
 
 -- the value at place i of an outcome, or 0
 abbrev pub at : ℕ × List ℕ → ℕ → ℕ
@@ -39,8 +47,39 @@ asStepped o = record { outcome = o .0; done = at o 0 }
 abbrev pub asCorrected : ℕ × List ℕ → LocatorCorrected
 asCorrected o = record { outcome = o .0; flips = at o 0 }
 
--- an outcome that the corrector's contract admits, told as the struct
-pub record CorrectsAs (t : ℕ) (word : List ℕ) (r : LocatorCorrected) (after : List ℕ) : Type 0 where
-  pub outcome : ℕ × List ℕ
-  pub admitted : Corrects t word outcome after
-  pub told : r ≡ asCorrected outcome
+-- THE CONTRACTS of the exports: r is the struct of an answer that the contract of the call admits
+pub record As {A R : Type 0} (tell : A → R) (admits : A → Type 0) (r : R) : Type 0 where
+  pub answer : A
+  pub admitted : admits answer
+  pub told : r ≡ tell answer
+
+abbrev pub ProductAs : ℕ → ℕ → ℕ → LocatorValue → Type 0
+ProductAs m a b = As (λ x. asValue (paper x)) (TellsProduct m a b)
+
+abbrev pub InverseAs : ℕ → ℕ → LocatorValue → Type 0
+InverseAs m a = As (λ x. asValue (paper x)) (TellsInverse m a)
+
+abbrev pub PositionAs : ℕ → ℕ → ℕ → LocatorValue → Type 0
+PositionAs m r convention = As (λ x. asValue (paper x)) (TellsPosition m r convention)
+
+abbrev pub QuadraticAs : ℕ → ℕ → ℕ → LocatorPair → Type 0
+QuadraticAs m a b = As (λ x. asPair (paperRoots x)) (TellsQuadratic m a b)
+
+-- with lent memory afterwards
+abbrev pub SolvesAs : ℕ → ℕ → List ℕ → List ℕ → LocatorFound → List ℕ → Type 0
+SolvesAs m c cs list r after = As (λ x. asFound (paperSolved x)) (λ x. Solves m c cs list x after) r
+
+abbrev pub SearchesAs : ℕ → List ℕ → List ℕ → LocatorFound → List ℕ → Type 0
+SearchesAs m cs list r after = As (λ x. asFound (paperSearched x)) (λ x. Searches m cs list x after) r
+
+abbrev pub BeginsAs : ℕ → ℕ → List ℕ → List ℕ → ℕ → List ℕ → Type 0
+BeginsAs m c cs table r after = As (λ x. paperBegun x .0) (λ x. Begins m c cs table x after) r
+
+abbrev pub StepsAs : List ℕ → LocatorStepped → List ℕ → Type 0
+StepsAs table r after = As (λ x. asStepped (paperStepped x)) (λ x. Steps table x after) r
+
+abbrev pub FinishesAs : List ℕ → List ℕ → LocatorFound → List ℕ → Type 0
+FinishesAs table list r after = As (λ x. asFound (paperFinished x)) (λ x. Finishes table list x after) r
+
+abbrev pub CorrectsAs : ℕ → List ℕ → LocatorCorrected → List ℕ → Type 0
+CorrectsAs t word r after = As (λ x. asCorrected (paperCorrected x)) (λ x. Corrects t word (paperCorrected x) after) r

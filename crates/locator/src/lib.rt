@@ -1,15 +1,8 @@
 // The C face: the element calls, the whole call, the plain search, begin, step and finish, and the block corrector, as
 // include/locator.h declares them. A slice is a pointer, then a count. Each call answers every input; it neither
 // allocates nor calls out, and keeps no state.
-ghost use mathlib.Core.Path.{_≡_};
-ghost use Rattle.elements.specs.Calls.{productOutcome, inverseOutcome, positionOutcome, quadraticOutcome};
-ghost use Rattle.finder.specs.Calls.{solveOutcome, solveTests};
-ghost use Rattle.searching.specs.Calls.{searchOutcome, searchTests};
-ghost use Rattle.groups.specs.RootMemory.{rootMemory};
-ghost use Rattle.beginning.specs.Calls.{beginOutcome, beginMemory};
-ghost use Rattle.splitter.specs.Calls.{stepOutcome, stepMemory};
-ghost use Rattle.finishing.specs.Calls.{finishOutcome, finishMemory};
-ghost use Rattle.locator.specs.Calls.{asValue, asPair, asFound, asStepped, CorrectsAs};
+ghost use Rattle.locator.specs.Calls.{ProductAs, InverseAs, PositionAs, QuadraticAs};
+ghost use Rattle.locator.specs.Calls.{SolvesAs, SearchesAs, BeginsAs, StepsAs, FinishesAs, CorrectsAs};
 
 mod answers; // what the calls answer, as these structs
 
@@ -54,7 +47,7 @@ pub struct LocatorCorrected {
 // The product of a and b in the field of degree m.
 #[no_mangle]
 pub extern "C" fn locator_product(m: u16, a: u16, b: u16) -> LocatorValue
-    ensures { λ r. ⌜ r ≡ asValue (productOutcome m a b) ⌝ }
+    ensures { λ r. ⌜ ProductAs m a b r ⌝ }
 {
     answers::value_of(elements::product(m, a, b))
 }
@@ -62,7 +55,7 @@ pub extern "C" fn locator_product(m: u16, a: u16, b: u16) -> LocatorValue
 // The inverse of a in the field of degree m.
 #[no_mangle]
 pub extern "C" fn locator_inverse(m: u16, a: u16) -> LocatorValue
-    ensures { λ r. ⌜ r ≡ asValue (inverseOutcome m a) ⌝ }
+    ensures { λ r. ⌜ InverseAs m a r ⌝ }
 {
     answers::value_of(elements::inverse(m, a))
 }
@@ -70,7 +63,7 @@ pub extern "C" fn locator_inverse(m: u16, a: u16) -> LocatorValue
 // The position of a root r in the field of degree m: where the bad bit stands, under a convention.
 #[no_mangle]
 pub extern "C" fn locator_position(m: u16, r: u16, convention: u16) -> LocatorValue
-    ensures { λ j. ⌜ j ≡ asValue (positionOutcome m r convention) ⌝ }
+    ensures { λ j. ⌜ PositionAs m r convention j ⌝ }
 {
     answers::value_of(elements::position(m, r, convention))
 }
@@ -78,7 +71,7 @@ pub extern "C" fn locator_position(m: u16, r: u16, convention: u16) -> LocatorVa
 // The roots of z^2 + az + b in the field of degree m.
 #[no_mangle]
 pub extern "C" fn locator_quadratic(m: u16, a: u16, b: u16) -> LocatorPair
-    ensures { λ r. ⌜ r ≡ asPair (quadraticOutcome m a b) ⌝ }
+    ensures { λ r. ⌜ QuadraticAs m a b r ⌝ }
 {
     answers::pair_of(elements::quadratic(m, a, b))
 }
@@ -91,7 +84,7 @@ pub extern "C" fn locator_solve(
     cutoff: u16,
     roots: &mut [u16],
 ) -> LocatorFound
-    ensures { λ r. ⌜ (r ≡ asFound (solveOutcome m cutoff (now (coeffs .entry)) (now (roots .entry)))) × (now (roots .exit) ≡ rootMemory (solveTests m cutoff (now (coeffs .entry)) (now (roots .entry))) m (now (coeffs .entry)) (now (roots .entry))) ⌝ }
+    ensures { λ r. ⌜ SolvesAs m cutoff (now (coeffs .entry)) (now (roots .entry)) r (now (roots .exit)) ⌝ }
 {
     answers::solved_of(finder::solve(m, coeffs, cutoff, roots))
 }
@@ -99,7 +92,7 @@ pub extern "C" fn locator_solve(
 // The plain search.
 #[no_mangle]
 pub extern "C" fn locator_search(m: u16, coeffs: &[u16], roots: &mut [u16]) -> LocatorFound
-    ensures { λ r. ⌜ (r ≡ asFound (searchOutcome m (now (coeffs .entry)) (now (roots .entry)))) × (now (roots .exit) ≡ rootMemory (searchTests m (now (coeffs .entry)) (now (roots .entry))) m (now (coeffs .entry)) (now (roots .entry))) ⌝ }
+    ensures { λ r. ⌜ SearchesAs m (now (coeffs .entry)) (now (roots .entry)) r (now (roots .exit)) ⌝ }
 {
     answers::searched_of(searching::search(m, coeffs, roots))
 }
@@ -107,7 +100,7 @@ pub extern "C" fn locator_search(m: u16, coeffs: &[u16], roots: &mut [u16]) -> L
 // Begins a table: the paper's number alone.
 #[no_mangle]
 pub extern "C" fn locator_begin(m: u16, coeffs: &[u16], cutoff: u16, table: &mut [u16]) -> u16
-    ensures { λ r. ⌜ (r ≡ beginOutcome m cutoff (now (coeffs .entry)) (now (table .entry)) .0) × (now (table .exit) ≡ beginMemory m cutoff (now (coeffs .entry)) (now (table .entry))) ⌝ }
+    ensures { λ r. ⌜ BeginsAs m cutoff (now (coeffs .entry)) (now (table .entry)) r (now (table .exit)) ⌝ }
 {
     answers::begun_of(beginning::begin(m, coeffs, cutoff, table))
 }
@@ -115,7 +108,7 @@ pub extern "C" fn locator_begin(m: u16, coeffs: &[u16], cutoff: u16, table: &mut
 // One step of a table.
 #[no_mangle]
 pub extern "C" fn locator_step(table: &mut [u16]) -> LocatorStepped
-    ensures { λ r. ⌜ (r ≡ asStepped (stepOutcome (now (table .entry)))) × (now (table .exit) ≡ stepMemory (now (table .entry))) ⌝ }
+    ensures { λ r. ⌜ StepsAs (now (table .entry)) r (now (table .exit)) ⌝ }
 {
     answers::stepped_of(splitter::step(table))
 }
@@ -123,7 +116,7 @@ pub extern "C" fn locator_step(table: &mut [u16]) -> LocatorStepped
 // Finishes a table that is done.
 #[no_mangle]
 pub extern "C" fn locator_finish(table: &[u16], roots: &mut [u16]) -> LocatorFound
-    ensures { λ r. ⌜ (r ≡ asFound (finishOutcome (now (table .entry)) (now (roots .entry)))) × (now (roots .exit) ≡ finishMemory (now (table .entry)) (now (roots .entry))) ⌝ }
+    ensures { λ r. ⌜ FinishesAs (now (table .entry)) (now (roots .entry)) r (now (roots .exit)) ⌝ }
 {
     answers::finished_of(finishing::finish(table, roots))
 }

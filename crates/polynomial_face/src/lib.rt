@@ -25,7 +25,8 @@ use tables::lent;
 #[no_mangle]
 pub extern "C" fn polynomial_logs(m: u16, room: &mut [u16])
     requires { ⌜ (known m ≡ true) × (2 ^ m ≤ length (now room)) ⌝ }
-    ensures { λ _. ⌜ Logs (fieldAt m) (take (2 ^ m) (now (room .exit))) × (length (now (room .exit)) ≡ length (now (room .entry))) ⌝ }
+    ensures { λ _. ⌜ Logs (fieldAt m) (take (2 ^ m) (now (room .exit)))
+        × (length (now (room .exit)) ≡ length (now (room .entry))) ⌝ }
 {
     lent::logs(m, room);
 }
@@ -34,7 +35,8 @@ pub extern "C" fn polynomial_logs(m: u16, room: &mut [u16])
 #[no_mangle]
 pub extern "C" fn polynomial_antilogs(m: u16, room: &mut [u16])
     requires { ⌜ (known m ≡ true) × (3 * (2 ^ m - 1) ≤ length (now room)) ⌝ }
-    ensures { λ _. ⌜ Antilogs (fieldAt m) (take (3 * (2 ^ m - 1)) (now (room .exit))) × (length (now (room .exit)) ≡ length (now (room .entry))) ⌝ }
+    ensures { λ _. ⌜ Antilogs (fieldAt m) (take (3 * (2 ^ m - 1)) (now (room .exit)))
+        × (length (now (room .exit)) ≡ length (now (room .entry))) ⌝ }
 {
     lent::antilogs(m, room);
 }
@@ -134,7 +136,9 @@ pub extern "C" fn polynomial_trace_of(
     s: &mut [u16],
     sum: &mut [u16],
 )
-    requires { ⌜ Startable m (now logs) (now antilogs) (now p) (now row) (now w) (now s) × (b < 2 ^ m) × (length (now sum) ≡ length (now p)) ⌝ }
+    requires { ⌜ Startable m (now logs) (now antilogs) (now p) (now row) (now w) (now s)
+        × (b < 2 ^ m)
+        × (length (now sum) ≡ length (now p)) ⌝ }
     ensures { λ _. ⌜ now (sum .exit) ≡ traceMod (G m) (now (p .entry)) m (rem (G m) (now (p .entry)) (0 ∷ b ∷ [])) ⌝ }
 {
     powers::trace_of(m, logs, antilogs, p, b, row, w, s, sum);

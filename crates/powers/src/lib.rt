@@ -72,7 +72,10 @@ pub fn power_mod(
 
 // Writes bz modulo the polynomial that the row holds to w.
 pub fn linear_mod(m: u16, logs: &[u16], antilogs: &[u16], row: &[u16], b: u16, w: &mut [u16])
-    requires { ⌜ Lent m (now logs) (now antilogs) × Row m (now row) × (b < 2 ^ m) × (length (now w) ≡ length (now row)) ⌝ }
+    requires { ⌜ Lent m (now logs) (now antilogs)
+        × Row m (now row)
+        × (b < 2 ^ m)
+        × (length (now w) ≡ length (now row)) ⌝ }
     ensures { λ _. ⌜ now (w .exit) ≡ rem (G m) (held m (now (row .entry))) (0 ∷ b ∷ []) ⌝ }
 {
     let mut z: [u16; 2] = [0, b];
@@ -101,7 +104,8 @@ pub fn trace_mod(
     s: &mut [u16],
     sum: &mut [u16],
 )
-    requires { ⌜ Squarable m (now logs) (now antilogs) (now row) (now w) (now s) × (length (now sum) ≡ length (now row)) ⌝ }
+    requires { ⌜ Squarable m (now logs) (now antilogs) (now row) (now w) (now s)
+        × (length (now sum) ≡ length (now row)) ⌝ }
     ensures { λ _. ⌜ now (sum .exit) ≡ traceMod (G m) (held m (now (row .entry))) m (now (w .entry)) ⌝ }
 {
     slots::copy(&w[..], sum);
@@ -144,7 +148,9 @@ pub fn trace_of(
     s: &mut [u16],
     sum: &mut [u16],
 )
-    requires { ⌜ Startable m (now logs) (now antilogs) (now p) (now row) (now w) (now s) × (b < 2 ^ m) × (length (now sum) ≡ length (now p)) ⌝ }
+    requires { ⌜ Startable m (now logs) (now antilogs) (now p) (now row) (now w) (now s)
+        × (b < 2 ^ m)
+        × (length (now sum) ≡ length (now p)) ⌝ }
     ensures { λ _. ⌜ now (sum .exit) ≡ traceMod (G m) (now (p .entry)) m (rem (G m) (now (p .entry)) (0 ∷ b ∷ [])) ⌝ }
 {
     log_row(m, logs, antilogs, p, row);
@@ -190,8 +196,10 @@ pub fn z_powers(
     s: &mut [u16],
     rows: &mut [u16],
 )
-    requires { ⌜ Startable m (now logs) (now antilogs) (now p) (now row) (now w) (now s) × (k * length (now p) ≤ length (now rows)) ⌝ }
-    ensures { λ _. ⌜ Saved m (now (p .entry)) k (rem (G m) (now (p .entry)) (0 ∷ 1 ∷ [])) (now (w .exit)) (now (rows .exit)) ⌝ }
+    requires { ⌜ Startable m (now logs) (now antilogs) (now p) (now row) (now w) (now s)
+        × (k * length (now p) ≤ length (now rows)) ⌝ }
+    ensures { λ _. ⌜ Saved m (now (p .entry)) k (rem (G m) (now (p .entry)) (0 ∷ 1 ∷ [])) (now (w .exit))
+        (now (rows .exit)) ⌝ }
 {
     log_row(m, logs, antilogs, p, row);
     linear_mod(m, logs, antilogs, row, 1, w);
@@ -209,7 +217,8 @@ pub fn add_trace(
     t: &mut [u16],
 )
     requires { ⌜ Summable m (now logs) (now antilogs) (now rows) k b (now t) ⌝ }
-    ensures { λ _. ⌜ now (t .exit) ≡ add (G m) (now (t .entry)) (traceSum m (length (now (t .entry))) k b (now (rows .entry))) ⌝ }
+    ensures { λ _. ⌜ now (t .exit)
+        ≡ add (G m) (now (t .entry)) (traceSum m (length (now (t .entry))) k b (now (rows .entry))) ⌝ }
 {
     let n = t.len();
     let mut c = b;

@@ -9,7 +9,7 @@ use mathlib.Core.List.{List, [], _∷_}
 use Prim.Native.Nat.{ℕ}
 use Rattle.refusals.proofs.Numbers.{by-number, refused-back}
 use Rattle.refusals.proofs.Told.{told}
-use Rattle.records.specs.Reading.{Outcome, paper, readAt, Spelled}
+use Rattle.records.specs.Reading.{Outcome, paper, ReadsAt, Spelled}
 use Rattle.records.proofs.Cutoffs.{cutoffFrom, cutoff-back}
 use Rattle.records.specs.declared.Read.{Read}
 use Rattle.records.specs.declared.Read.the-variants.{End, Record, Refused, Stopped}
@@ -37,7 +37,7 @@ read-back (Stopped k) = refused-back Stopped End k
 pub read-told : (r s : Read) → paper r ≡ paper s → r ≡ s
 read-told = told paper answerOf read-back
 
-pub read-coincide : (file : List ℕ) (at : ℕ) (r s : Read) → paper r ≡ readAt file at → paper s ≡ readAt file at → r ≡ s
+pub read-coincide : (file : List ℕ) (at : ℕ) (r s : Read) → ReadsAt file at r → ReadsAt file at s → r ≡ s
 read-coincide file at r s h k = read-told r s (h ∙ sym k)
 
 pub spelled-once : {bytes room : List ℕ} {n m : ℕ} {s t : List ℕ} → Spelled bytes room n s → Spelled bytes room m t → (n ≡ m) × (s ≡ t)

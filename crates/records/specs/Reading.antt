@@ -8,6 +8,7 @@
 --   judged       the outcome of a complete record at a place
 --   readHere     the outcome of the bytes from a place on
 --   readAt       the outcome at a place of a file
+--   ReadsAt      THE CONTRACT of the reader: the answers that it admits there
 --   Judges       what the tests find
 --   Largest      a number is below a bound exactly if all of a list are
 --   answered     the code's answer for a complete record, by what the tests found
@@ -71,6 +72,10 @@ readHere at (b ∷ bs) = decide (startTests (b ∷ bs)) (λ k. Outcome.gives k [
 
 abbrev pub readAt : List ℕ → ℕ → Outcome
 readAt file at = readHere at (drop at file)
+
+-- the contract of the reader: the answers that it admits at a place
+abbrev pub ReadsAt : List ℕ → ℕ → Read → Type 0
+ReadsAt file at r = paper r ≡ readAt file at
 
 abbrev pub Judges : List (ℕ × Bool) → Verdict → Type 0
 Judges tests Accepted = Passed tests

@@ -4,7 +4,8 @@ ghost use Prim.Native.Nat.{_+_, _*_, _≤_, _<_, _^_};
 ghost use lib.ListN.{length};
 ghost use Rattle.records.specs.Layout.{word, words, part};
 ghost use Rattle.records.specs.Cutoffs.{stated, statedBy, resolved};
-ghost use Rattle.records.specs.Reading.{paper, answered, readHere, readAt, callTests, valueTests, Judges, Largest, Spelled};
+ghost use Rattle.records.specs.Reading.{paper, answered, readHere, ReadsAt, callTests, valueTests};
+ghost use Rattle.records.specs.Reading.{Judges, Largest, Spelled};
 use groups::HOUSE_DEFAULT;
 use refusals::Found;
 use refusals::Refusal;
@@ -173,7 +174,7 @@ fn read_here(at: usize, rest: &[u8]) -> Read
 
 // What stands at a place of the file.
 pub fn read_record(file: &[u8], at: usize) -> Read
-    ensures { λ r. ⌜ paper r ≡ readAt (now (file .entry)) at ⌝ }
+    ensures { λ r. ⌜ ReadsAt (now (file .entry)) at r ⌝ }
 {
     if file.len() <= at {
         return Read::End;

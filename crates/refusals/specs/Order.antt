@@ -2,11 +2,13 @@
 --   decide   what an entry gives: `refuse k` where k stands beside the first test that holds, `accept` where none holds
 --   outcome  the paper's outcome: a refusal's number and nothing else, or 0 and the values
 --   memory   what lent memory holds afterwards: a refusal writes nothing
+--   Answers  THE SHAPE OF A CONTRACT: what an answer tells, and what lent memory holds afterwards, both decided by tests in their order
 --   Given k  the test beside k holds, and none before it does
 --   Passed   no test holds
 -- Assumes nothing.
 use mathlib.Core.Bool.{Bool, true, false, cond}
 use mathlib.Core.List.{List, [], _∷_}
+use mathlib.Core.Path.{_≡_}
 use Prim.Native.Nat.{ℕ}
 
 unfoldable pub decide : {A : Type 0} → List (ℕ × Bool) → (ℕ → A) → A → A
@@ -18,6 +20,9 @@ outcome tests values = decide tests (λ k. (k, [])) (0, values)
 
 abbrev pub memory : List (ℕ × Bool) → List ℕ → List ℕ → List ℕ
 memory tests new old = decide tests (λ k. old) new
+
+abbrev pub Answers : List (ℕ × Bool) → List ℕ → List ℕ → List ℕ → ℕ × List ℕ → List ℕ → Type 0
+Answers tests values new old told after = (told ≡ outcome tests values) × (after ≡ memory tests new old)
 
 pub data Given (k : ℕ) : List (ℕ × Bool) → Type 0 where
   here : {ts : List (ℕ × Bool)} → Given k ((k, true) ∷ ts)

@@ -9,7 +9,7 @@ use lib.ListN.{getD}
 use Rattle.refusals.proofs.Numbers.{by-number, refused-back, accepted-back}
 use Rattle.refusals.proofs.Told.{told, coincide}
 use Rattle.groups.specs.RootMemory.{rootMemory}
-use Rattle.searching.specs.Calls.{paperSearched, searchOutcome, searchTests}
+use Rattle.searching.specs.Calls.{paperSearched, searchOutcome, searchTests, Searches}
 use Rattle.searching.specs.declared.Searched.{Searched}
 use Rattle.searching.specs.declared.Searched.the-variants.{Seen, NotSearched}
 
@@ -29,6 +29,5 @@ searched-told = told paperSearched searchedOf searched-back
 
 -- the answer and the lent list
 pub search-coincide : (m : ℕ) (cs list : List ℕ) (r s : Searched) (x y : List ℕ)
-    → (paperSearched r ≡ searchOutcome m cs list) × (x ≡ rootMemory (searchTests m cs list) m cs list)
-    → (paperSearched s ≡ searchOutcome m cs list) × (y ≡ rootMemory (searchTests m cs list) m cs list) → (r ≡ s) × (x ≡ y)
+    → Searches m cs list r x → Searches m cs list s y → (r ≡ s) × (x ≡ y)
 search-coincide m cs list = coincide paperSearched searched-told (searchOutcome m cs list) (rootMemory (searchTests m cs list) m cs list)

@@ -3,8 +3,7 @@
 ghost use mathlib.Core.Path.{_≡_};
 ghost use Prim.Native.Nat.{_+_, _-_, _*_, _≤_, _<_};
 ghost use lib.ListN.{length};
-ghost use Rattle.searching.specs.Calls.{searchOutcome, searchTests, paperSearched};
-ghost use Rattle.groups.specs.RootMemory.{rootMemory};
+ghost use Rattle.searching.specs.Calls.{Searches};
 ghost use Rattle.searching.specs.Searching.{Searchable, SearchedOut, Tried, Noted, LetIn, Wordable, Planed};
 use admitting::admit_room;
 use groups::LIMIT;
@@ -74,7 +73,9 @@ fn search_over(
     f: &[u16],
     roots: &mut [u16],
 ) -> u16
-    requires { ⌜ LetIn m size (now f) (now roots) × (size ≤ length (now logs)) × (3 * (size - 1) ≤ length (now antilogs)) ⌝ }
+    requires { ⌜ LetIn m size (now f) (now roots)
+        × (size ≤ length (now logs))
+        × (3 * (size - 1) ≤ length (now antilogs)) ⌝ }
     ensures { λ k. ⌜ SearchedOut m (now (f .entry)) (now (roots .entry)) k (now (roots .exit)) ⌝ }
 {
     tables::lent::logs(m, logs);
@@ -140,7 +141,7 @@ fn search_in(m: u16, size: usize, f: &[u16], roots: &mut [u16]) -> u16
 
 // The plain search: every element is tried, the distinct roots stand ascending at the front of the list, and their number is returned.
 pub fn search(m: u16, coeffs: &[u16], roots: &mut [u16]) -> Searched
-    ensures { λ r. ⌜ (paperSearched r ≡ searchOutcome m (now (coeffs .entry)) (now (roots .entry))) × (now (roots .exit) ≡ rootMemory (searchTests m (now (coeffs .entry)) (now (roots .entry))) m (now (coeffs .entry)) (now (roots .entry))) ⌝ }
+    ensures { λ r. ⌜ Searches m (now (coeffs .entry)) (now (roots .entry)) r (now (roots .exit)) ⌝ }
 {
     match admit_room(m, coeffs, roots.len() < LIMIT) {
         Admission::Out(k) => Searched::NotSearched(k),

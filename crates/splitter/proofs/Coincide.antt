@@ -10,7 +10,7 @@ use lib.Dec.{eqb}
 use lib.ListN.{getD}
 use Rattle.refusals.proofs.Numbers.{by-number, refused-back, accepted-back}
 use Rattle.refusals.proofs.Told.{told, coincide}
-use Rattle.splitter.specs.Calls.{paperStepped, stepOutcome, stepMemory}
+use Rattle.splitter.specs.Calls.{paperStepped, stepOutcome, stepMemory, Steps}
 use Rattle.splitter.specs.declared.Stepped.{Stepped}
 use Rattle.splitter.specs.declared.Stepped.the-variants.{Taken, Done, NotStepped}
 
@@ -30,6 +30,5 @@ pub stepped-told : (r s : Stepped) → paperStepped r ≡ paperStepped s → r �
 stepped-told = told paperStepped steppedOf stepped-back
 
 -- the answer and the lent table
-pub step-coincide : (table : List ℕ) (r s : Stepped) (x y : List ℕ) → (paperStepped r ≡ stepOutcome table) × (x ≡ stepMemory table)
-    → (paperStepped s ≡ stepOutcome table) × (y ≡ stepMemory table) → (r ≡ s) × (x ≡ y)
+pub step-coincide : (table : List ℕ) (r s : Stepped) (x y : List ℕ) → Steps table r x → Steps table s y → (r ≡ s) × (x ≡ y)
 step-coincide table = coincide paperStepped stepped-told (stepOutcome table) (stepMemory table)

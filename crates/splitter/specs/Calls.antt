@@ -2,11 +2,12 @@
 --   stepOutcome    its outcome: the value is 1 where the table is done
 --   stepMemory     the table afterwards
 --   paperStepped   the number and the value of its answer
+--   Steps          THE CONTRACT: the answers and tables that a step admits
 -- Assumes nothing.
 use mathlib.Core.Bool.{cond}
 use mathlib.Core.List.{List, [], _∷_}
 use Prim.Native.Nat.{ℕ}
-use Rattle.refusals.specs.Order.{outcome, memory}
+use Rattle.refusals.specs.Order.{outcome, memory, Answers}
 use Rattle.refusals.specs.Numbers.{numberOf}
 use Rattle.groups.specs.Layout.{byFactor}
 use Rattle.groups.specs.Splitting.{slotsDone, slotsStepped}
@@ -24,3 +25,9 @@ abbrev pub paperStepped : Stepped → ℕ × List ℕ
 paperStepped Taken = (0, 0 ∷ [])
 paperStepped Done = (0, 1 ∷ [])
 paperStepped (NotStepped k) = (numberOf k, [])
+
+-- the contract: an answer, and the lent table afterwards
+abbrev pub Steps : List ℕ → Stepped → List ℕ → Type 0
+Steps table r after =
+    Answers (stepTests table) (cond (slotsDone byFactor table) 1 0 ∷ []) (cond (slotsDone byFactor table) table (slotsStepped byFactor table)) table
+    (paperStepped r) after

@@ -8,9 +8,10 @@ ghost use Rattle.algebra.specs.Routines.{rem, traceMod, cofactor};
 ghost use Rattle.polynomial.specs.Lent.{G};
 ghost use Rattle.groups.specs.Layout.{byFactor};
 ghost use Rattle.groups.specs.Splitting.{slotsStepped};
-ghost use Rattle.splitter.specs.Calls.{stepOutcome, stepMemory, paperStepped};
+ghost use Rattle.splitter.specs.Calls.{Steps};
 ghost use Rattle.judging.specs.Verdicts.{Chosen};
-ghost use Rattle.splitter.specs.Parting.{Splittable, Partable, Restable, IsCommon, Appended, Parted, Steppable, Ready};
+ghost use Rattle.splitter.specs.Parting.{Splittable, Partable, Restable, IsCommon};
+ghost use Rattle.splitter.specs.Parting.{Appended, Parted, Steppable, Ready};
 use euclid::cofactor;
 use euclid::gcd;
 use judging::Verdict;
@@ -30,7 +31,8 @@ pub enum Stepped {
 // Writes Tr(a^i z) modulo the monic polynomial with the low coefficients p, i being its level, to t.
 fn trace_at(m: u16, logs: &[u16], antilogs: &[u16], p: &[u16], level: u16, t: &mut [u16])
     requires { ⌜ Splittable m (now logs) (now antilogs) (now p) level × (length (now t) ≡ length (now p)) ⌝ }
-    ensures { λ _. ⌜ now (t .exit) ≡ traceMod (G m) (now (p .entry)) m (rem (G m) (now (p .entry)) (0 ∷ power (G m) 2 level ∷ [])) ⌝ }
+    ensures { λ _. ⌜ now (t .exit)
+        ≡ traceMod (G m) (now (p .entry)) m (rem (G m) (now (p .entry)) (0 ∷ power (G m) 2 level ∷ [])) ⌝ }
 {
     let n = p.len();
     let e = n + n;
@@ -177,7 +179,7 @@ fn step_at(table: &mut [u16], o: usize)
 
 // One step: the first factor above the cutoff gives way to its parts.
 pub fn step(table: &mut [u16]) -> Stepped
-    ensures { λ r. ⌜ (paperStepped r ≡ stepOutcome (now (table .entry))) × (now (table .exit) ≡ stepMemory (now (table .entry))) ⌝ }
+    ensures { λ r. ⌜ Steps (now (table .entry)) r (now (table .exit)) ⌝ }
 {
     match judge(table) {
         Verdict::Refused(k) => Stepped::NotStepped(k),

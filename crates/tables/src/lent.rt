@@ -20,7 +20,8 @@ use crate::named::powers11;
 // Lends the log table of the field of degree m.
 pub fn logs(m: u16, room: &mut [u16])
     requires { ⌜ (known m ≡ true) × (2 ^ m ≤ length (now room)) ⌝ }
-    ensures { λ _. ⌜ Logs (fieldAt m) (take (2 ^ m) (now (room .exit))) × (length (now (room .exit)) ≡ length (now (room .entry))) ⌝ }
+    ensures { λ _. ⌜ Logs (fieldAt m) (take (2 ^ m) (now (room .exit)))
+        × (length (now (room .exit)) ≡ length (now (room .entry))) ⌝ }
 {
     match m {
         4 => slots::copy(&logs4(), room),
@@ -45,7 +46,8 @@ fn unroll(powers: &[u16], room: &mut [u16])
 // Lends the antilog table of the field of degree m.
 pub fn antilogs(m: u16, room: &mut [u16])
     requires { ⌜ (known m ≡ true) × (3 * (2 ^ m - 1) ≤ length (now room)) ⌝ }
-    ensures { λ _. ⌜ Antilogs (fieldAt m) (take (3 * (2 ^ m - 1)) (now (room .exit))) × (length (now (room .exit)) ≡ length (now (room .entry))) ⌝ }
+    ensures { λ _. ⌜ Antilogs (fieldAt m) (take (3 * (2 ^ m - 1)) (now (room .exit)))
+        × (length (now (room .exit)) ≡ length (now (room .entry))) ⌝ }
 {
     match m {
         4 => unroll(&powers4(), room),
@@ -57,7 +59,8 @@ pub fn antilogs(m: u16, room: &mut [u16])
 // Lends the quadratic table of the field of degree m.
 pub fn halves(m: u16, room: &mut [u16])
     requires { ⌜ (known m ≡ true) × (2 ^ m ≤ length (now room)) ⌝ }
-    ensures { λ _. ⌜ Halves (fieldAt m) (take (2 ^ m) (now (room .exit))) × (length (now (room .exit)) ≡ length (now (room .entry))) ⌝ }
+    ensures { λ _. ⌜ Halves (fieldAt m) (take (2 ^ m) (now (room .exit)))
+        × (length (now (room .exit)) ≡ length (now (room .entry))) ⌝ }
 {
     match m {
         4 => slots::copy(&halves4(), room),

@@ -1,6 +1,5 @@
 -- `locator::locator_correct` meets its contract: it is the library's call, told as the struct.
 -- Assumes nothing.
-use Rattle.corrector.specs.Correcting.{paperCorrected}
 use borrow.Author.Needs.{needs}
 use Rattle.locator.proofs.locator_correct.Statement.{statement}
 use Rattle.locator.proofs.locator_correct.Tie as tie
@@ -15,9 +14,7 @@ same-length : tie.Need-same-length
 same-length c = search needs
 
 returns : tie.Need-returns
-returns c =
-    let call = c .before .before .before .correct in
-    record { outcome = paperCorrected (call .result); admitted = call .ensures; told = c .corrected-of .ensures }
+returns c = let call = c .before .before .before .correct in record { answer = call .result; admitted = call .ensures; told = c .corrected-of .ensures }
 
 pub locator-correct-spec : {M : Type 1} → statement M
 locator-correct-spec = tie.close (tie.spec correct-requires corrected-of-requires same-length returns)

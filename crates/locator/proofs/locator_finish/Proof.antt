@@ -1,7 +1,5 @@
 -- `locator::locator_finish` meets its contract: it is the library's call, told as the struct.
 -- Assumes nothing.
-use mathlib.Core.Path.{ap, _∙_}
-use Rattle.locator.specs.Calls.{asFound}
 use borrow.Author.Needs.{needs}
 use Rattle.locator.proofs.locator_finish.Statement.{statement}
 use Rattle.locator.proofs.locator_finish.Tie as tie
@@ -16,7 +14,7 @@ same-length : tie.Need-same-length
 same-length c = search needs
 
 returns : tie.Need-returns
-returns c = (c .finished-of .ensures ∙ ap asFound (c .before .before .before .finish .ensures .0), c .before .before .before .finish .ensures .1)
+returns c = let call = c .before .before .before .finish in record { answer = call .result; admitted = call .ensures; told = c .finished-of .ensures }
 
 pub locator-finish-spec : {M : Type 1} → statement M
 locator-finish-spec = tie.close (tie.spec finish-requires finished-of-requires same-length returns)

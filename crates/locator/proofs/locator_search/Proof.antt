@@ -1,7 +1,5 @@
 -- `locator::locator_search` meets its contract: it is the library's call, told as the struct.
 -- Assumes nothing.
-use mathlib.Core.Path.{ap, _∙_}
-use Rattle.locator.specs.Calls.{asFound}
 use borrow.Author.Needs.{needs}
 use Rattle.locator.proofs.locator_search.Statement.{statement}
 use Rattle.locator.proofs.locator_search.Tie as tie
@@ -16,7 +14,7 @@ same-length : tie.Need-same-length
 same-length c = search needs
 
 returns : tie.Need-returns
-returns c = (c .searched-of .ensures ∙ ap asFound (c .before .before .before .search .ensures .0), c .before .before .before .search .ensures .1)
+returns c = let call = c .before .before .before .search in record { answer = call .result; admitted = call .ensures; told = c .searched-of .ensures }
 
 pub locator-search-spec : {M : Type 1} → statement M
 locator-search-spec = tie.close (tie.spec search-requires searched-of-requires same-length returns)

@@ -1,7 +1,5 @@
 -- `locator::locator_solve` meets its contract: it is the library's call, told as the struct.
 -- Assumes nothing.
-use mathlib.Core.Path.{ap, _∙_}
-use Rattle.locator.specs.Calls.{asFound}
 use borrow.Author.Needs.{needs}
 use Rattle.locator.proofs.locator_solve.Statement.{statement}
 use Rattle.locator.proofs.locator_solve.Tie as tie
@@ -16,7 +14,7 @@ same-length : tie.Need-same-length
 same-length c = search needs
 
 returns : tie.Need-returns
-returns c = (c .solved-of .ensures ∙ ap asFound (c .before .before .before .solve .ensures .0), c .before .before .before .solve .ensures .1)
+returns c = let call = c .before .before .before .solve in record { answer = call .result; admitted = call .ensures; told = c .solved-of .ensures }
 
 pub locator-solve-spec : {M : Type 1} → statement M
 locator-solve-spec = tie.close (tie.spec solve-requires solved-of-requires same-length returns)

@@ -1,7 +1,5 @@
 -- `locator::locator_step` meets its contract: it is the library's call, told as the struct.
 -- Assumes nothing.
-use mathlib.Core.Path.{ap, _∙_}
-use Rattle.locator.specs.Calls.{asStepped}
 use borrow.Author.Needs.{needs}
 use Rattle.locator.proofs.locator_step.Statement.{statement}
 use Rattle.locator.proofs.locator_step.Tie as tie
@@ -16,7 +14,7 @@ same-length : tie.Need-same-length
 same-length c = search needs
 
 returns : tie.Need-returns
-returns c = (c .stepped-of .ensures ∙ ap asStepped (c .before .before .before .step .ensures .0), c .before .before .before .step .ensures .1)
+returns c = let call = c .before .before .before .step in record { answer = call .result; admitted = call .ensures; told = c .stepped-of .ensures }
 
 pub locator-step-spec : {M : Type 1} → statement M
 locator-step-spec = tie.close (tie.spec step-requires stepped-of-requires same-length returns)

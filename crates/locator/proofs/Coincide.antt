@@ -1,0 +1,68 @@
+-- Two structs that the contract of an export admits are one, and so is what lent memory holds: by what the contract of the call admits.
+--   one-struct, one-memory   from the call to the export
+--   product-one ..           so for each export
+-- Assumes nothing.
+use mathlib.Core.Path.{_≡_, sym, ap, _∙_}
+use mathlib.Core.List.{List}
+use Prim.Native.Nat.{ℕ}
+use Rattle.elements.proofs.Coincide.{product-coincide, inverse-coincide, position-coincide, quadratic-coincide}
+use Rattle.finder.proofs.Coincide.{solve-coincide}
+use Rattle.searching.proofs.Coincide.{search-coincide}
+use Rattle.beginning.proofs.Coincide.{begin-coincide}
+use Rattle.splitter.proofs.Coincide.{step-coincide}
+use Rattle.finishing.proofs.Coincide.{finish-coincide}
+use Rattle.corrector.proofs.Coincide.{correct-coincide}
+use Rattle.locator.specs.Calls.{As, ProductAs, InverseAs, PositionAs, QuadraticAs, SolvesAs, SearchesAs, BeginsAs, StepsAs, FinishesAs, CorrectsAs}
+use Rattle.locator.specs.declared.LocatorValue.{LocatorValue}
+use Rattle.locator.specs.declared.LocatorPair.{LocatorPair}
+use Rattle.locator.specs.declared.LocatorFound.{LocatorFound}
+use Rattle.locator.specs.declared.LocatorStepped.{LocatorStepped}
+use Rattle.locator.specs.declared.LocatorCorrected.{LocatorCorrected}
+
+-- one answer, one struct
+one-struct : {A R : Type 0} {tell : A → R} {admits : A → Type 0} → ((a b : A) → admits a → admits b → a ≡ b)
+    → {r s : R} → As tell admits r → As tell admits s → r ≡ s
+one-struct {tell = tell} one h k = h .told ∙ ap tell (one (h .answer) (k .answer) (h .admitted) (k .admitted)) ∙ sym (k .told)
+
+-- the same with lent memory
+one-memory : {A R : Type 0} {tell : A → R} {admits : A → List ℕ → Type 0}
+    → ((a b : A) (x y : List ℕ) → admits a x → admits b y → (a ≡ b) × (x ≡ y))
+    → {r s : R} {x y : List ℕ} → As tell (λ a. admits a x) r → As tell (λ a. admits a y) s → (r ≡ s) × (x ≡ y)
+one-memory {tell = tell} one {x = x} {y = y} h k =
+    let e = one (h .answer) (k .answer) x y (h .admitted) (k .admitted) in
+    (h .told ∙ ap tell (e .0) ∙ sym (k .told), e .1)
+
+pub product-one : (m a b : ℕ) (r s : LocatorValue) → ProductAs m a b r → ProductAs m a b s → r ≡ s
+product-one m a b r s h k = one-struct (product-coincide m a b) h k
+
+pub inverse-one : (m a : ℕ) (r s : LocatorValue) → InverseAs m a r → InverseAs m a s → r ≡ s
+inverse-one m a r s h k = one-struct (inverse-coincide m a) h k
+
+pub position-one : (m x convention : ℕ) (r s : LocatorValue) → PositionAs m x convention r → PositionAs m x convention s → r ≡ s
+position-one m x convention r s h k = one-struct (position-coincide m x convention) h k
+
+pub quadratic-one : (m a b : ℕ) (r s : LocatorPair) → QuadraticAs m a b r → QuadraticAs m a b s → r ≡ s
+quadratic-one m a b r s h k = one-struct (quadratic-coincide m a b) h k
+
+pub solve-one : (m c : ℕ) (cs list : List ℕ) (r s : LocatorFound) (x y : List ℕ)
+    → SolvesAs m c cs list r x → SolvesAs m c cs list s y → (r ≡ s) × (x ≡ y)
+solve-one m c cs list r s x y h k = one-memory (solve-coincide m c cs list) h k
+
+pub search-one : (m : ℕ) (cs list : List ℕ) (r s : LocatorFound) (x y : List ℕ)
+    → SearchesAs m cs list r x → SearchesAs m cs list s y → (r ≡ s) × (x ≡ y)
+search-one m cs list r s x y h k = one-memory (search-coincide m cs list) h k
+
+pub begin-one : (m c : ℕ) (cs table : List ℕ) (r s : ℕ) (x y : List ℕ)
+    → BeginsAs m c cs table r x → BeginsAs m c cs table s y → (r ≡ s) × (x ≡ y)
+begin-one m c cs table r s x y h k = one-memory (begin-coincide m c cs table) h k
+
+pub step-one : (table : List ℕ) (r s : LocatorStepped) (x y : List ℕ) → StepsAs table r x → StepsAs table s y → (r ≡ s) × (x ≡ y)
+step-one table r s x y h k = one-memory (step-coincide table) h k
+
+pub finish-one : (table list : List ℕ) (r s : LocatorFound) (x y : List ℕ)
+    → FinishesAs table list r x → FinishesAs table list s y → (r ≡ s) × (x ≡ y)
+finish-one table list r s x y h k = one-memory (finish-coincide table list) h k
+
+pub correct-one : (t : ℕ) (word : List ℕ) (r s : LocatorCorrected) (x y : List ℕ)
+    → CorrectsAs t word r x → CorrectsAs t word s y → (r ≡ s) × (x ≡ y)
+correct-one t word r s x y h k = one-memory (λ a b x y. correct-coincide a b x y) h k
