@@ -10,6 +10,7 @@ use mathlib.Core.List.{List, [], _∷_}
 use mathlib.Core.Logic.{_↔_, _⊎_, inl, inr}
 use Prim.Native.Nat.{ℕ, suc, _<_}
 use native.Mathlib.Omega.{arith}
+use lib.ListN.{drop}
 use Rattle.refusals.specs.Order.{outcome, memory, Answers, Given, Passed}
 use Rattle.refusals.specs.Order.Given.{here, later}
 use Rattle.refusals.proofs.Order as order
@@ -30,9 +31,9 @@ use Rattle.jobs.proofs.Coincide.{turned-once}
 use Rattle.corrector.specs.Correcting.{distance, Corrects}
 use Rattle.corrector.specs.Correcting.Corrects.{no-block, no-strength, none-near, mended}
 use Rattle.corrector.proofs.Coincide.{correct-coincide}
-use Rattle.records.specs.Reading.{Outcome}
+use Rattle.records.specs.Reading.{Outcome, startTests, recordTests, HandsBack}
 use Rattle.records.proofs.Coincide.{read-coincide}
-use Rattle.records.proofs.Exactly.{ends-exactly, stops-exactly, refuses-exactly}
+use Rattle.records.proofs.Exactly.{ends-exactly, stops-exactly, refuses-exactly, accepts-exactly}
 use Rattle.demands.specs.Demand1.{Decides, Spares, Settles, Demand1}
 
 -- each test stands behind a number from 1 on
@@ -133,6 +134,7 @@ demand-1 = record {
   ends = λ file at r h. of-told h (ends-exactly file at);
   stops = λ file at k r h. of-told h (stops-exactly file at k);
   refuses = λ file at k r h. of-told h (refuses-exactly file at k);
+  accepts = λ file at r h. subst (λ (o : Outcome). HandsBack file at o ↔ (Passed (startTests (drop at file)) × Passed (recordTests (drop at file)))) (sym h) (accepts-exactly file at);
   product-one = product-coincide;
   quadratic-one = quadratic-coincide;
   inverse-one = inverse-coincide;

@@ -38,7 +38,7 @@ use Rattle.finder.specs.declared.Solved.{Solved}
 use Rattle.searching.specs.Calls.{searchTests, paperSearched, Searches}
 use Rattle.searching.specs.declared.Searched.{Searched}
 use Rattle.records.specs.Layout.{recordLength}
-use Rattle.records.specs.Reading.{Outcome, startTests, recordTests, ReadsAt}
+use Rattle.records.specs.Reading.{Outcome, startTests, recordTests, ReadsAt, HandsBack}
 use Rattle.records.specs.Reading.{paper as paperRead}
 use Rattle.records.specs.declared.Read.{Read}
 use Rattle.jobs.specs.Printing.{Turned}
@@ -97,6 +97,9 @@ pub record Demand1 : Type 0 where
   pub refuses : (file : List ℕ) (at k : ℕ) (r : Read) → ReadsAt file at r
       → (paperRead r ≡ Outcome.gives (suc k) ((at + recordLength (drop at file)) ∷ []))
       ↔ (Passed (startTests (drop at file)) × Given (suc k) (recordTests (drop at file)))
+  -- and exactly where no test holds it hands back m, the cutoff as stated, the coefficient bytes as that part of the file, and the place behind
+  pub accepts : (file : List ℕ) (at : ℕ) (r : Read) → ReadsAt file at r
+      → HandsBack file at (paperRead r) ↔ (Passed (startTests (drop at file)) × Passed (recordTests (drop at file)))
   -- each contract admits one answer, and one content of lent memory
   pub product-one : (m a b : ℕ) (r s : Answer) → TellsProduct m a b r → TellsProduct m a b s → r ≡ s
   pub quadratic-one : (m a b : ℕ) (r s : Quadratic) → TellsQuadratic m a b r → TellsQuadratic m a b s → r ≡ s

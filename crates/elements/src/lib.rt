@@ -2,14 +2,14 @@
 ghost use Rattle.elements.specs.Calls.{TellsProduct, TellsInverse, TellsPosition, TellsQuadratic};
 ghost use Rattle.elements.specs.Calls.{pairTests, nonzeroTests, positionTests};
 ghost use Rattle.refusals.specs.Admitting.{Admits};
-use field::arithmetic::product_of;
-use field::division::inverse_of;
 use field::solver::Quadratic;
 use refusals::Admission;
 use refusals::Found;
 use refusals::Refusal;
 use refusals::also;
+use tables::widths::inverse_in;
 use tables::widths::position_in;
+use tables::widths::product_in;
 use tables::widths::roots_in;
 
 // What an element call answers: a value, or what is turned away.
@@ -58,7 +58,7 @@ pub fn product(m: u16, a: u16, b: u16) -> Answer
 {
     match admit_pair(m, a, b) {
         Admission::Out(k) => Answer::Refused(k),
-        Admission::In(row) => Answer::Value(product_of(m, row.poly, a, b)),
+        Admission::In(_) => Answer::Value(product_in(m, a, b)),
     }
 }
 
@@ -68,7 +68,7 @@ pub fn inverse(m: u16, a: u16) -> Answer
 {
     match admit_nonzero(m, a) {
         Admission::Out(k) => Answer::Refused(k),
-        Admission::In(row) => Answer::Value(inverse_of(m, row.poly, a)),
+        Admission::In(_) => Answer::Value(inverse_in(m, a)),
     }
 }
 

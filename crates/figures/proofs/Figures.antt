@@ -1,15 +1,16 @@
--- Every figure of document 01 that is marked P is right: one claim over the table, computed by antt from the definitions that the contracts cite.
---   figures-right             the claim
---   after-three, after-four   the work tables after steps 3 and 4
+-- Every figure of document 01 that is marked P is right: one claim over the table, computed by antt from the definitions
+-- that the contracts cite.
+--   figures-right   the claim
+--   roots-11, count-11   the roots and the steps of the figure in field 11, whose 2048 elements antt does not try
 -- Assumes nothing.
 use mathlib.Core.Path.{_≡_, refl, sym, ap, ap₂, _∙_}
 use mathlib.Core.Bool.{Bool, true, false}
 use mathlib.Core.List.{List, [], _∷_}
-use Prim.Native.Nat.{ℕ, _≤_, _<_, _^_}
+use Prim.Native.Nat.{ℕ, suc, _≤_, _<_, _^_}
 use native.Mathlib.Decide.{decLt}
 use native.Mathlib.Omega.{arith}
 use lib.Dec.{lit<, lit≤}
-use lib.ListN.{length}
+use lib.ListN.{length, drop, replicate}
 use Rattle.algebra.specs.Trial.{All, upFrom, firstFrom}
 use Rattle.algebra.specs.Field.{OnNumbers, power, trace}
 use Rattle.algebra.specs.Polynomial.{eval, rootsOf, add, fromRoots, frobenius, tracePoly}
@@ -30,57 +31,8 @@ use Rattle.groups.specs.Table.{encode, decode}
 use Rattle.groups.specs.Splitting.{isDone, rootsAt, slotsBegun, slotsStepped, slotsAfter}
 use Rattle.groups.specs.Demand.{stepCount, groupsAfter}
 use Rattle.groups.proofs.Demand.{demand-3, steps-to-done}
-use Rattle.figures.specs.Figures.{Right, figures, accepted, refused, wholeField, everyElement, afterSteps, Begins}
-
--- ---- field 4: antt computes them
-
-figure-1 : Right (accepted 4 1 (6 ∷ 7 ∷ 0 ∷ 1 ∷ []) (1 ∷ 2 ∷ 3 ∷ []) 4)
-unfolding decide knownIn polyIn allBelow rootsOf upFrom eval mul trace power words groupsAt groupCount sumBelow agrees inForceBy
-figure-1 = record { outcome = refl; roots = λ _. refl }
-
-figure-2 : Right (accepted 4 2 (6 ∷ 7 ∷ 0 ∷ 1 ∷ []) (1 ∷ 2 ∷ 3 ∷ []) 3)
-unfolding decide knownIn polyIn allBelow rootsOf upFrom eval mul trace power words groupsAt groupCount sumBelow agrees inForceBy
-figure-2 = record { outcome = refl; roots = λ _. refl }
-
-figure-3 : Right (accepted 4 3 (6 ∷ 7 ∷ 0 ∷ 1 ∷ []) (1 ∷ 2 ∷ 3 ∷ []) 0)
-unfolding decide knownIn polyIn allBelow rootsOf upFrom eval mul trace power words groupsAt groupCount sumBelow agrees inForceBy
-figure-3 = record { outcome = refl; roots = λ _. refl }
-
-figure-4 : Right (accepted 4 1 (1 ∷ 0 ∷ 0 ∷ 1 ∷ []) (1 ∷ 6 ∷ 7 ∷ []) 4)
-unfolding decide knownIn polyIn allBelow rootsOf upFrom eval mul trace power words groupsAt groupCount sumBelow agrees inForceBy
-figure-4 = record { outcome = refl; roots = λ _. refl }
-
-figure-5 : Right (accepted 4 1 (2 ∷ 0 ∷ 1 ∷ []) (5 ∷ []) 0)
-unfolding decide knownIn polyIn allBelow rootsOf upFrom eval mul trace power words groupsAt groupCount sumBelow agrees inForceBy
-figure-5 = record { outcome = refl; roots = λ _. refl }
-
-figure-6 : Right (accepted 4 1 (8 ∷ 1 ∷ 1 ∷ []) [] 0)
-unfolding decide knownIn polyIn allBelow rootsOf upFrom eval mul trace power words groupsAt groupCount sumBelow agrees inForceBy
-figure-6 = record { outcome = refl; roots = λ _. refl }
-
-figure-7 : Right (accepted 4 2 (6 ∷ 1 ∷ 1 ∷ []) (2 ∷ 3 ∷ []) 0)
-unfolding decide knownIn polyIn allBelow rootsOf upFrom eval mul trace power words groupsAt groupCount sumBelow agrees inForceBy
-figure-7 = record { outcome = refl; roots = λ _. refl }
-
-figure-8 : Right (accepted 4 1 (3 ∷ 2 ∷ []) (8 ∷ []) 0)
-unfolding decide knownIn polyIn allBelow rootsOf upFrom eval mul trace power words groupsAt groupCount sumBelow agrees inForceBy
-figure-8 = record { outcome = refl; roots = λ _. refl }
-
-figure-9 : Right (accepted 4 1 (7 ∷ []) [] 0)
-unfolding decide knownIn polyIn allBelow rootsOf upFrom eval mul trace power words groupsAt groupCount sumBelow agrees inForceBy
-figure-9 = record { outcome = refl; roots = λ _. refl }
-
-figure-10 : Right (accepted 4 1 wholeField everyElement 15)
-unfolding decide knownIn polyIn allBelow rootsOf upFrom eval mul trace power words groupsAt groupCount sumBelow agrees inForceBy
-figure-10 = record { outcome = refl; roots = λ _. refl }
-
-figure-11 : Right (accepted 4 2 wholeField everyElement 7)
-unfolding decide knownIn polyIn allBelow rootsOf upFrom eval mul trace power words groupsAt groupCount sumBelow agrees inForceBy
-figure-11 = record { outcome = refl; roots = λ _. refl }
-
-figure-12 : Right (accepted 4 3 wholeField everyElement 7)
-unfolding decide knownIn polyIn allBelow rootsOf upFrom eval mul trace power words groupsAt groupCount sumBelow agrees inForceBy
-figure-12 = record { outcome = refl; roots = λ _. refl }
+use Rattle.finder.specs.Calls.{solveOutcome}
+use Rattle.figures.specs.Figures.{Figure, Right, Begins, figures, accepted, refused, values, afterSteps}
 
 -- ---- field 11: z^2 + z, with a zero at the top. Its roots are 0 and 1, as it is 0 at 0 and the other root is 0 + 1
 known-11 : OnNumbers (numbers (fieldAt 11)) (2 ^ 11)
@@ -125,40 +77,61 @@ count-11 = sym (steps-to-done 11 refl 1 (lit≤ tt) f 1 (some (decLt 0 n)) (ap (
         let e : _≡_ {A = ℕ} 0 1 = cc in
         absurd (let b : ⊥ = omega arith in b)
 
-figure-13 : Right (accepted 11 1 (0 ∷ 1 ∷ 1 ∷ 0 ∷ []) (0 ∷ 1 ∷ []) 1)
+-- so the figure is right
+in-11 : Right (accepted 11 1 (0 ∷ 1 ∷ 1 ∷ 0 ∷ []) (0 ∷ 1 ∷ []) 1)
 unfolding decide knownIn allBelow inForceBy
-figure-13 = record {
+in-11 = record {
   outcome = ap₂ (λ (r : List ℕ) (k : ℕ). (0, length r ∷ k ∷ [])) roots-11 count-11;
   roots = λ _. roots-11;
+  tables = tt;
 }
 
--- ---- refusals
+-- ---- field 4: antt computes them. Each law puts its figures before those that follow in the table
 
-figure-14 : Right (refused 4 1 (0 ∷ 0 ∷ []) 5)
-unfolding decide knownIn allBelow
-figure-14 = record { outcome = refl; roots = λ e. absurd (let b : ⊥ = omega arith in b) }
+-- a figure by its outcome, its roots and its work tables
+accept : {f : Figure} → solveOutcome (f .m) (f .cutoff) (f .coefficients) (replicate 32 0) ≡ (f .number, values f)
+    → rootsAt (f .m) (f .coefficients) ≡ f .roots
+    → All (λ t. Begins (afterSteps f (t .0)) (t .1)) (f .tables) → Right f
+accept e r t = record { outcome = e; roots = λ _. r; tables = t }
 
-figure-15 : Right (refused 4 1 (16 ∷ 1 ∷ []) 4)
-unfolding decide knownIn allBelow
-figure-15 = record { outcome = refl; roots = λ e. absurd (let b : ⊥ = omega arith in b) }
+-- a refusal by its outcome: its number is not 0
+refuse : {m c k : ℕ} {cs : List ℕ} → solveOutcome m c cs (replicate 32 0) ≡ (suc k, values (refused m c cs (suc k)))
+    → Right (refused m c cs (suc k))
+refuse e = record { outcome = e; roots = λ z. absurd (let b : ⊥ = omega arith in b); tables = tt }
 
-figure-16 : Right (refused 4 4 (3 ∷ 2 ∷ []) 6)
-unfolding decide knownIn allBelow
-figure-16 = record { outcome = refl; roots = λ e. absurd (let b : ⊥ = omega arith in b) }
+-- 6, 7, 0, 1 at each cutoff, with its work tables at the first, and 1, 0, 0, 1
+cubics : All Right (drop 4 figures) → All Right figures
+unfolding decide knownIn polyIn allBelow inForceBy rootsOf upFrom eval mul inverse firstFrom trace power
+    words groupsAt groupCount sumBelow agrees slotsAfter slotsStepped slotsBegun encode decode blocks readBlocks
+    restBlocks unlessEmpty parts splitAt firstAbove done step add polyMul fromRoots frobenius tracePoly digit shiftIn rem quo norm
+    cofactor monicRoots euclid gcd
+cubics rest =
+    (accept refl refl (refl, (refl, tt)), (accept refl refl tt, (accept refl refl tt, (accept refl refl tt, rest))))
 
-figure-17 : Right (accepted 4 3 (3 ∷ 2 ∷ []) (8 ∷ []) 0)
-unfolding decide knownIn polyIn allBelow rootsOf upFrom eval mul trace power words groupsAt groupCount sumBelow agrees inForceBy
-figure-17 = record { outcome = refl; roots = λ _. refl }
+-- 2, 0, 1 and 8, 1, 1 and 6, 1, 1
+quadratics : All Right (drop 7 figures) → All Right (drop 4 figures)
+unfolding decide knownIn polyIn allBelow inForceBy rootsOf upFrom eval mul trace power
+    words groupsAt groupCount sumBelow agrees
+quadratics rest = (accept refl refl tt, (accept refl refl tt, (accept refl refl tt, rest)))
+
+-- 3, 2 and 7
+lower : All Right (drop 9 figures) → All Right (drop 7 figures)
+unfolding decide knownIn polyIn allBelow inForceBy rootsOf upFrom eval mul trace power
+    words groupsAt groupCount sumBelow agrees
+lower rest = (accept refl refl tt, (accept refl refl tt, rest))
+
+-- z^16 + z at each cutoff
+every-element : All Right (drop 12 figures) → All Right (drop 9 figures)
+unfolding decide knownIn polyIn allBelow inForceBy rootsOf upFrom eval mul trace power
+    words groupsAt groupCount sumBelow agrees
+every-element rest = (accept refl refl tt, (accept refl refl tt, (accept refl refl tt, rest)))
+
+-- refusals 5, 4 and 6, and cutoff 3
+refusals : All Right (drop 13 figures)
+unfolding decide knownIn polyIn allBelow inForceBy rootsOf upFrom eval mul trace power
+    words groupsAt groupCount sumBelow agrees
+refusals = (refuse refl, (refuse refl, (refuse refl, (accept refl refl tt, tt))))
 
 -- THE CLAIM: each figure is right
 pub figures-right : All Right figures
-figures-right = (figure-1, (figure-2, (figure-3, (figure-4, (figure-5, (figure-6, (figure-7, (figure-8, (figure-9, (figure-10, (figure-11, (figure-12, (figure-13, (figure-14, (figure-15, (figure-16, (figure-17, tt)))))))))))))))))
-
--- THE WORK TABLE after steps 3 and 4
-pub after-three : Begins (afterSteps 3) (4 ∷ 1 ∷ 2 ∷ 3 ∷ 3 ∷ 1 ∷ 1 ∷ 3 ∷ 2 ∷ 6 ∷ 1 ∷ [])
-unfolding slotsAfter slotsStepped slotsBegun encode decode blocks readBlocks restBlocks unlessEmpty parts splitAt firstAbove done step polyIn rootsOf upFrom eval mul inverse firstFrom trace power add polyMul fromRoots frobenius tracePoly digit shiftIn rem quo norm cofactor monicRoots euclid gcd
-after-three = refl
-
-pub after-four : Begins (afterSteps 4) (4 ∷ 1 ∷ 3 ∷ 4 ∷ 3 ∷ 1 ∷ 1 ∷ 4 ∷ 1 ∷ 2 ∷ 4 ∷ 1 ∷ 3 ∷ [])
-unfolding slotsAfter slotsStepped slotsBegun encode decode blocks readBlocks restBlocks unlessEmpty parts splitAt firstAbove done step polyIn rootsOf upFrom eval mul inverse firstFrom trace power add polyMul fromRoots frobenius tracePoly digit shiftIn rem quo norm cofactor monicRoots euclid gcd
-after-four = refl
+figures-right = cubics (quadratics (lower (every-element (in-11, refusals))))

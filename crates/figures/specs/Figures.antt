@@ -1,9 +1,11 @@
--- The bench figures of document 01 that are marked P, in one table: inputs of the whole call with an empty list of 32 slots, and what it answers.
---   Figure   field degree, cutoff, coefficients; the outcome's number and values; the roots where it is accepted
+-- The bench figures of document 01 that are marked P, in one table: inputs of the whole call with an empty list of 32
+-- slots, what it answers, and how the work table begins after so many steps, where the document says that.
+--   Figure   field degree, cutoff, coefficients; the outcome's number and values; the roots where it is accepted;
+--            work tables, each behind its steps
 --   wholeField   z^16 + z
 --   figures  the table
---   Right    what is claimed of a figure: the whole call's outcome, and the roots
---   afterSteps   the slots of a begun table after n steps;  Begins  slots begin with a list, and zeros follow
+--   Right    what is claimed of a figure: the whole call's outcome, the roots, and the work tables
+--   afterSteps   the slots of a figure's begun table after n steps;  Begins  slots begin with a list, and zeros follow
 -- Assumes nothing.
 use mathlib.Core.Path.{_≡_}
 use mathlib.Core.Bool.{cond}
@@ -11,6 +13,8 @@ use mathlib.Core.List.{List, [], _∷_, _++_}
 use Prim.Native.Nat.{ℕ, _-_}
 use lib.Dec.{eqb}
 use lib.ListN.{length, replicate}
+use Rattle.algebra.specs.Trial.{All}
+use Rattle.groups.specs.Cutoff.{inForce}
 use Rattle.groups.specs.Layout.{byFactor}
 use Rattle.groups.specs.Splitting.{rootsAt, slotsBegun, slotsAfter}
 use Rattle.groups.specs.Limit.{slots}
@@ -23,22 +27,31 @@ pub record Figure : Type 0 where
   pub number : ℕ
   pub steps : ℕ
   pub roots : List ℕ
+  pub tables : List (ℕ × List ℕ)
 
 abbrev pub wholeField : List ℕ
 wholeField = 0 ∷ 1 ∷ 0 ∷ 0 ∷ 0 ∷ 0 ∷ 0 ∷ 0 ∷ 0 ∷ 0 ∷ 0 ∷ 0 ∷ 0 ∷ 0 ∷ 0 ∷ 0 ∷ 1 ∷ []
 
+-- an accepted polynomial whose splitting is followed: each table stands behind the steps after which it is there
+abbrev pub followed : ℕ → ℕ → List ℕ → List ℕ → ℕ → List (ℕ × List ℕ) → Figure
+followed m c cs roots steps tables =
+    record { m = m; cutoff = c; coefficients = cs; number = 0; steps = steps; roots = roots; tables = tables }
+
 abbrev pub accepted : ℕ → ℕ → List ℕ → List ℕ → ℕ → Figure
-accepted m c cs roots steps = record { m = m; cutoff = c; coefficients = cs; number = 0; steps = steps; roots = roots }
+accepted m c cs roots steps = followed m c cs roots steps []
 
 abbrev pub refused : ℕ → ℕ → List ℕ → ℕ → Figure
-refused m c cs k = record { m = m; cutoff = c; coefficients = cs; number = k; steps = 0; roots = [] }
+refused m c cs k = record { m = m; cutoff = c; coefficients = cs; number = k; steps = 0; roots = []; tables = [] }
 
 abbrev pub everyElement : List ℕ
 everyElement = 0 ∷ 1 ∷ 2 ∷ 3 ∷ 4 ∷ 5 ∷ 6 ∷ 7 ∷ 8 ∷ 9 ∷ 10 ∷ 11 ∷ 12 ∷ 13 ∷ 14 ∷ 15 ∷ []
 
 abbrev pub figures : List Figure
 figures =
-    accepted 4 1 (6 ∷ 7 ∷ 0 ∷ 1 ∷ []) (1 ∷ 2 ∷ 3 ∷ []) 4
+    followed 4 1 (6 ∷ 7 ∷ 0 ∷ 1 ∷ []) (1 ∷ 2 ∷ 3 ∷ []) 4
+    ((3, 4 ∷ 1 ∷ 2 ∷ 3 ∷ 3 ∷ 1 ∷ 1 ∷ 3 ∷ 2 ∷ 6 ∷ 1 ∷ [])
+    ∷ (4, 4 ∷ 1 ∷ 3 ∷ 4 ∷ 3 ∷ 1 ∷ 1 ∷ 4 ∷ 1 ∷ 2 ∷ 4 ∷ 1 ∷ 3 ∷ [])
+    ∷ [])
     ∷ accepted 4 2 (6 ∷ 7 ∷ 0 ∷ 1 ∷ []) (1 ∷ 2 ∷ 3 ∷ []) 3
     ∷ accepted 4 3 (6 ∷ 7 ∷ 0 ∷ 1 ∷ []) (1 ∷ 2 ∷ 3 ∷ []) 0
     ∷ accepted 4 1 (1 ∷ 0 ∷ 0 ∷ 1 ∷ []) (1 ∷ 6 ∷ 7 ∷ []) 4
@@ -61,13 +74,14 @@ figures =
 abbrev pub values : Figure → List ℕ
 values f = cond (eqb (f .number) 0) (length (f .roots) ∷ f .steps ∷ []) []
 
-pub record Right (f : Figure) : Type 0 where
-  pub outcome : solveOutcome (f .m) (f .cutoff) (f .coefficients) (replicate 32 0) ≡ (f .number, values f)
-  pub roots : f .number ≡ 0 → rootsAt (f .m) (f .coefficients) ≡ f .roots
-
--- the table of 6, 7, 0, 1 in field 4 at cutoff 1, after n steps
-abbrev pub afterSteps : ℕ → List ℕ
-afterSteps n = slotsAfter byFactor n (slotsBegun byFactor slots 4 1 (6 ∷ 7 ∷ 0 ∷ 1 ∷ []))
+-- the figure's work table after n steps
+abbrev pub afterSteps : Figure → ℕ → List ℕ
+afterSteps f n = slotsAfter byFactor n (slotsBegun byFactor slots (f .m) (inForce (f .cutoff)) (f .coefficients))
 
 abbrev pub Begins : List ℕ → List ℕ → Type 0
 Begins l front = l ≡ front ++ replicate (slots - length front) 0
+
+pub record Right (f : Figure) : Type 0 where
+  pub outcome : solveOutcome (f .m) (f .cutoff) (f .coefficients) (replicate 32 0) ≡ (f .number, values f)
+  pub roots : f .number ≡ 0 → rootsAt (f .m) (f .coefficients) ≡ f .roots
+  pub tables : All (λ t. Begins (afterSteps f (t .0)) (t .1)) (f .tables)

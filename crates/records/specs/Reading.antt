@@ -9,6 +9,8 @@
 --   readHere     the outcome of the bytes from a place on
 --   readAt       the outcome at a place of a file
 --   ReadsAt      THE CONTRACT of the reader: the answers that it admits there
+--   HandsBack    an outcome at a place accepts: it gives m, the cutoff as stated, the coefficient bytes as that part of
+--                the file, and the place behind
 --   Judges       what the tests find
 --   Largest      a number is below a bound exactly if all of a list are
 --   answered     the code's answer for a complete record, by what the tests found
@@ -17,7 +19,7 @@
 use mathlib.Core.Bool.{Bool, not}
 use mathlib.Core.List.{List, [], _∷_}
 use mathlib.Core.Path.{_≡_}
-use Prim.Native.Nat.{ℕ, _+_, _<_}
+use Prim.Native.Nat.{ℕ, _+_, _≤_, _<_}
 use lib.ListN.{length, drop}
 use lib.Dec.{ltb}
 use Rattle.refusals.specs.Order.{decide, Given, Passed}
@@ -25,7 +27,7 @@ use Rattle.refusals.specs.Numbers.{numberOf}
 use Rattle.slots.specs.Bounded.{allBelow, anyFrom, allZero}
 use Rattle.slots.specs.Lists.{copied}
 use Rattle.groups.specs.Polynomials.{polynomialTests}
-use Rattle.records.specs.Layout.{headLength, marked, degreeByte, cutoffByte, bodyLength, recordLength, words, coefficients}
+use Rattle.records.specs.Layout.{headLength, marked, degreeByte, cutoffByte, bodyLength, recordLength, words, part, coefficients}
 use Rattle.records.specs.Cutoffs.{stated, statedBy}
 use Rattle.records.specs.declared.Cutoff.{Cutoff}
 use Rattle.records.specs.declared.Read.{Read}
@@ -76,6 +78,16 @@ readAt file at = readHere at (drop at file)
 -- the contract of the reader: the answers that it admits at a place
 abbrev pub ReadsAt : List ℕ → ℕ → Read → Type 0
 ReadsAt file at r = paper r ≡ readAt file at
+
+-- the part of the file that the values name is the record's coefficient bytes, and all of it lies in the file
+pub record HandsBack (file : List ℕ) (at : ℕ) (o : Outcome) : Type 0 where
+  pub gives : o
+      ≡ Outcome.gives 0
+      ((at + recordLength (drop at file)) ∷ degreeByte (drop at file) ∷ (at + headLength) ∷ bodyLength (drop at file)
+      ∷ stated (cutoffByte (drop at file)))
+  pub bytes : part file (at + headLength) (bodyLength (drop at file))
+      ≡ part (drop at file) headLength (bodyLength (drop at file))
+  pub inside : at + recordLength (drop at file) ≤ length file
 
 abbrev pub Judges : List (ℕ × Bool) → Verdict → Type 0
 Judges tests Accepted = Passed tests

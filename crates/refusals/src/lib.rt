@@ -57,7 +57,8 @@ pub struct Row {
     pub size: u16,
 }
 
-const ROWS: [Row; 3] = [
+// The fields' rows, which the tests, the reader and the field types consult.
+pub const ROWS: [Row; 3] = [
     Row {
         degree: 4,
         poly: 19,

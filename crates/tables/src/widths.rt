@@ -1,4 +1,5 @@
-// The field types: each has its own constants, and thin calls over what the fields share.
+// The field types, the way in for the element calls: each has its own constants, which are its row's, and thin calls
+// over what the fields share.
 ghost use mathlib.Core.Path.{_≡_};
 ghost use mathlib.Core.Bool.{true};
 ghost use Prim.Native.Nat.{_<_, _^_};
@@ -16,16 +17,17 @@ use field::arithmetic::product_of;
 use field::division::inverse_of;
 use field::solver::Quadratic;
 use field::solver::quadratic_of;
+use refusals::ROWS;
 
 // The field of 16 elements.
 pub struct F4 {}
 
 impl F4 {
-    pub const DEGREE: u16 = 4;
+    pub const DEGREE: u16 = ROWS[0].degree;
 
-    pub const POLY: u16 = 19;
+    pub const POLY: u16 = ROWS[0].poly;
 
-    pub const SIZE: u16 = 16;
+    pub const SIZE: u16 = ROWS[0].size;
 
     pub fn mul(a: u16, b: u16) -> u16
         requires { do ⌜ b < (← ⟦F4::SIZE⟧) ⌝ }
@@ -60,11 +62,11 @@ impl F4 {
 pub struct F8 {}
 
 impl F8 {
-    pub const DEGREE: u16 = 8;
+    pub const DEGREE: u16 = ROWS[1].degree;
 
-    pub const POLY: u16 = 285;
+    pub const POLY: u16 = ROWS[1].poly;
 
-    pub const SIZE: u16 = 256;
+    pub const SIZE: u16 = ROWS[1].size;
 
     pub fn mul(a: u16, b: u16) -> u16
         requires { do ⌜ b < (← ⟦F8::SIZE⟧) ⌝ }
@@ -99,11 +101,11 @@ impl F8 {
 pub struct F11 {}
 
 impl F11 {
-    pub const DEGREE: u16 = 11;
+    pub const DEGREE: u16 = ROWS[2].degree;
 
-    pub const POLY: u16 = 2053;
+    pub const POLY: u16 = ROWS[2].poly;
 
-    pub const SIZE: u16 = 2048;
+    pub const SIZE: u16 = ROWS[2].size;
 
     pub fn mul(a: u16, b: u16) -> u16
         requires { do ⌜ b < (← ⟦F11::SIZE⟧) ⌝ }
@@ -131,6 +133,30 @@ impl F11 {
         ensures { λ r. ⌜ paperRoots r ≡ (0, rootsOfQuadratic (fieldAt 11) a b) ⌝ }
     {
         quadratic_of(F11::DEGREE, F11::POLY, &halves11(), a, b)
+    }
+}
+
+// The product of a and an element b in the known field of degree m.
+pub fn product_in(m: u16, a: u16, b: u16) -> u16
+    requires { ⌜ (known m ≡ true) × (b < 2 ^ m) ⌝ }
+    ensures { λ r. ⌜ r ≡ mul (fieldAt m) a b ⌝ }
+{
+    match m {
+        4 => F4::mul(a, b),
+        8 => F8::mul(a, b),
+        _ => F11::mul(a, b),
+    }
+}
+
+// The inverse of a nonzero element in the known field of degree m.
+pub fn inverse_in(m: u16, a: u16) -> u16
+    requires { ⌜ (known m ≡ true) × (0 < a) × (a < 2 ^ m) ⌝ }
+    ensures { λ r. ⌜ r ≡ inverse (fieldAt m) a ⌝ }
+{
+    match m {
+        4 => F4::inverse(a),
+        8 => F8::inverse(a),
+        _ => F11::inverse(a),
     }
 }
 
