@@ -1,6 +1,6 @@
 /* A libFuzzer target over the program `roots`: files of job records, mostly well formed, and any bytes. The program's own object is linked, its main under
-   the name roots_main; standard input and standard output are files in memory. What it prints is compared, byte for byte, with a reading of the same file
-   after document 01 by tests/reference.h. tests/fuzz --records builds and runs it; reading that does not end meets libFuzzer's time limit. */
+   the name roots_main; standard input and output are files in memory, and so is standard error while it runs. What it prints is compared, byte for byte, with a
+   reading of the same file after document 01 by tests/reference.h; it says something on standard error exactly where the file is longer than it reads. tests/fuzz --records builds and runs it; reading that does not end meets libFuzzer's time limit. */
 #define _GNU_SOURCE
 
 enum { OTHER, FOUR, EIGHT, ELEVEN, ENDED, CUT, CALLS };
@@ -130,11 +130,30 @@ static unsigned read_file(size_t end)
 
 static char got[TEXT + 1];
 
+static int real_error, told;
+
+/* an empty file in memory */
+static int opened(void)
+{
+    int made = memfd_create("fuzz", 0);
+    expect(made >= 0, "no file in memory");
+    return made;
+}
+
 /* the descriptor stands for an empty file in memory */
 static void open_as(int descriptor)
 {
-    int made = memfd_create("fuzz", 0);
-    expect(made >= 0 && dup2(made, descriptor) == descriptor, "no file in memory");
+    expect(dup2(opened(), descriptor) == descriptor, "no file in memory");
+}
+
+/* calls the program; how many bytes it says on standard error, which is a file in memory meanwhile */
+static off_t called(void)
+{
+    expect(ftruncate(told, 0) == 0 && lseek(told, 0, SEEK_SET) == 0 && dup2(told, STDERR_FILENO) == STDERR_FILENO, "no standard error");
+    int status = roots_main();
+    expect(dup2(real_error, STDERR_FILENO) == STDERR_FILENO, "standard error is lost");
+    expect(status == 0, "roots does not end with 0");
+    return lseek(told, 0, SEEK_CUR);
 }
 
 /* runs the program over the file; how many bytes it printed */
@@ -143,8 +162,8 @@ static size_t run(void)
     expect(ftruncate(STDIN_FILENO, 0) == 0 && pwrite(STDIN_FILENO, file, size, 0) == (ssize_t)size, "standard input cannot be written");
     expect(ftruncate(STDOUT_FILENO, 0) == 0, "standard output cannot be emptied");
     expect(lseek(STDIN_FILENO, 0, SEEK_SET) == 0 && lseek(STDOUT_FILENO, 0, SEEK_SET) == 0, "no front of a file");
-    expect(roots_main() == 0, "roots does not end with 0");
-    expect(lseek(STDIN_FILENO, 0, SEEK_CUR) <= LIMIT, "roots reads more than 65,536 bytes");
+    expect((called() > 0) == (size > LIMIT), "standard error tells of input behind 65,536 bytes otherwise than it is");
+    expect(lseek(STDIN_FILENO, 0, SEEK_CUR) <= LIMIT + 1, "roots reads more than a byte behind 65,536");
     ssize_t n = pread(STDOUT_FILENO, got, TEXT, 0);
     expect(n >= 0 && n < TEXT, "roots prints more than it can");
     got[n] = 0;
@@ -163,6 +182,8 @@ static void differ(void)
 int LLVMFuzzerInitialize(int *count, char ***words)
 {
     (void)count, (void)words;
+    real_error = dup(STDERR_FILENO);
+    told = opened();
     open_as(STDIN_FILENO);
     open_as(STDOUT_FILENO);
     return start();

@@ -31,13 +31,16 @@ take-turn-requires c κs = search needs
 array-share-prefix-out : tie.Need-array-share-prefix-out Inv-loop μ-loop
 array-share-prefix-out c = omega (arith, turn-fits (c .before .take-turn .ensures) (c .before .take-turn .kept .1 .1 .0), c .before .take-turn .kept .1 .1 .0)
 
-slice-aggregate-write-all : tie.Need-slice-aggregate-write-all Inv-loop μ-loop
-slice-aggregate-write-all c =
+slice-aggregate-print : tie.Need-slice-aggregate-print Inv-loop μ-loop
+slice-aggregate-print c =
     let t = c .before .before in
     sym (length-take-le _ _ (omega (arith, turn-fits (t .take-turn .ensures) (t .take-turn .kept .1 .1 .0), t .take-turn .kept .1 .1 .0)))
 
-write-all-requires : tie.Need-write-all-requires Inv-loop μ-loop
-write-all-requires c κs = search needs
+print-requires : tie.Need-print-requires Inv-loop μ-loop
+print-requires c κs = search needs
+
+returns : tie.Need-returns Inv-loop μ-loop
+returns c = search needs
 
 enum-known-next : tie.Need-enum-known-next Inv-loop μ-loop
 enum-known-next c = search needs
@@ -45,20 +48,20 @@ enum-known-next c = search needs
 enum-told : tie.Need-enum-told Inv-loop μ-loop
 enum-told c = search needs
 
-returns : tie.Need-returns Inv-loop μ-loop
-returns c = search needs
+returns-2 : tie.Need-returns-2 Inv-loop μ-loop
+returns-2 c = search needs
 
 loop-less : tie.Need-loop-less Inv-loop μ-loop
 loop-less c =
     let n = c .before in
-    let t = n .before .before .before .before .before in
+    let t = n .before .before .before .before .before .before in
     let o = turn-on (t .take-turn .ensures) (n .next .given .1) in
     omega (arith, o .ahead, o .within)
 
 loop-again : tie.Need-loop-again Inv-loop μ-loop
 loop-again c =
     let n = c .before in
-    let t = n .before .before .before .before .before in
+    let t = n .before .before .before .before .before .before in
     let o = turn-on (t .take-turn .ensures) (n .next .given .1) in
     (t .take-turn .kept .1 .1 .0 ∙ t .before .before .loop .inv .0, omega (arith, o .number, o .ahead, t .before .before .loop .inv .1), o .within)
 
@@ -73,10 +76,11 @@ run-spec =
     slice-aggregate-take-turn
     take-turn-requires
     array-share-prefix-out
-    slice-aggregate-write-all
-    write-all-requires
+    slice-aggregate-print
+    print-requires
+    returns
     enum-known-next
     enum-told
-    returns
+    returns-2
     loop-less
     loop-again)
