@@ -146,5 +146,5 @@ demand-1 = record {
   search-one = search-coincide;
   correct-one = λ t word r s x y h k. correct-coincide r s x y h k;
   read-one = read-coincide;
-  turn-one = λ file old at k r s x y h g. turned-once h g;
+  turn-one = λ read bytes k old r s x y w h g. turned-once (h (w .file) (w .at) (w .read) (w .lent)) (g (w .file) (w .at) (w .read) (w .lent));
 }

@@ -38,10 +38,10 @@ use Rattle.finder.specs.declared.Solved.{Solved}
 use Rattle.searching.specs.Calls.{searchTests, paperSearched, Searches}
 use Rattle.searching.specs.declared.Searched.{Searched}
 use Rattle.records.specs.Layout.{recordLength}
-use Rattle.records.specs.Reading.{Outcome, startTests, recordTests, ReadsAt, HandsBack}
+use Rattle.records.specs.Reading.{Outcome, startTests, recordTests, ReadsAt, HandsBack, Stands}
 use Rattle.records.specs.Reading.{paper as paperRead}
 use Rattle.records.specs.declared.Read.{Read}
-use Rattle.jobs.specs.Printing.{Turned}
+use Rattle.jobs.specs.Printing.{TurnedBy}
 use Rattle.jobs.specs.declared.Turn.{Turn}
 use Rattle.corrector.specs.Correcting.{IsBlock, IsStrength, Within, distance, Corrects, paperCorrected}
 use Rattle.corrector.specs.declared.Corrected.{Corrected}
@@ -117,6 +117,6 @@ pub record Demand1 : Type 0 where
   pub correct-one : (t : ℕ) (word : List ℕ) (r s : Corrected) (x y : List ℕ)
       → Corrects t word (paperCorrected r) x → Corrects t word (paperCorrected s) y → (r ≡ s) × (x ≡ y)
   pub read-one : (file : List ℕ) (at : ℕ) (r s : Read) → ReadsAt file at r → ReadsAt file at s → r ≡ s
-  -- a record's line and where reading goes on (take_turn): one text, one place
-  pub turn-one : (file old : List ℕ) (at k : ℕ) (r s : Turn) (x y : List ℕ)
-      → Turned file at k old r x → Turned file at k old s y → (r ≡ s) × (x ≡ y)
+  -- a record's line and where reading goes on (take_turn), of what some file gives: one text, one place
+  pub turn-one : (read : Read) (bytes : List ℕ) (k : ℕ) (old : List ℕ) (r s : Turn) (x y : List ℕ) → Stands read bytes
+      → TurnedBy read bytes k old r x → TurnedBy read bytes k old s y → (r ≡ s) × (x ≡ y)

@@ -6,6 +6,8 @@
 --   LinesOf     a text is the lines of a file
 --   onFrom      the place to go on with the number of the record there, or nothing, of what reading gave;  told  of the code's answer
 --   Turned      what a turn leaves: the line at the front of the lent text, and all else there as it was
+--   TurnedBy    the same of what was read, wherever it stands: at every place of a file that gives it with these bytes
+--   Ahead       a number lies behind what was read, wherever that stands in a file of at most 65,536 bytes
 --   Solvable    what was accepted, and room for its line
 --   Prints      from a place on these lines are printed, turn by turn
 -- Assumes nothing.
@@ -19,8 +21,9 @@ use Rattle.groups.specs.Cutoff.{houseDefault}
 use Rattle.groups.specs.Splitting.{rootsAt}
 use Rattle.groups.specs.Demand.{stepsAt}
 use Rattle.records.specs.Layout.{words, part}
-use Rattle.records.specs.Reading.{Outcome, callTests, readAt}
+use Rattle.records.specs.Reading.{Outcome, callTests, paper, readAt, bytesOf}
 use Rattle.records.specs.Files.{Reads}
+use Rattle.records.specs.declared.Read.{Read}
 use Rattle.lines.specs.Lines.{lineOf}
 use Rattle.jobs.specs.declared.Next.{Next}
 use Rattle.jobs.specs.declared.Next.the-variants.{Over, On}
@@ -74,6 +77,14 @@ pub record Turned (file : List ℕ) (at k : ℕ) (old : List ℕ) (r : Turn) (ne
   pub ended : r .len ≡ length (lineFor file k (readAt file at))
   pub bytes : new ≡ pasted 0 (lineFor file k (readAt file at)) old
   pub goes : told (r .next) ≡ onFrom k (readAt file at)
+
+abbrev pub TurnedBy : Read → List ℕ → ℕ → List ℕ → Turn → List ℕ → Type 0
+TurnedBy read bytes k old r new = (file : List ℕ) (at : ℕ) → paper read ≡ readAt file at → bytes ≡ bytesOf file read
+    → Turned file at k old r new
+
+abbrev pub Ahead : Read → List ℕ → ℕ → Type 0
+Ahead read bytes n = (file : List ℕ) (at : ℕ) → paper read ≡ readAt file at → bytes ≡ bytesOf file read
+    → length file ≤ 65536 → at ≤ length file → at + 5 ≤ n
 
 pub record Solvable (m c : ℕ) (cs out : List ℕ) : Type 0 where
   pub passed : Passed (callTests m c cs)

@@ -1,11 +1,11 @@
-// The lines of job records: from the lent file and a place in it, the text of the record's line, and where reading goes on.
-ghost use mathlib.Core.Path.{_≡_};
+// The lines of job records: from what the reader gives, the text of the record's line, and where reading goes on.
 ghost use Prim.Native.Nat.{_+_, _≤_, _<_, _^_};
 ghost use lib.ListN.{length};
 ghost use Rattle.refusals.specs.Numbers.{numberOf};
 ghost use Rattle.records.specs.Layout.{words};
+ghost use Rattle.records.specs.Reading.{Stands};
 ghost use Rattle.lines.specs.Lines.{Wrote};
-ghost use Rattle.jobs.specs.Printing.{turnedLine, solvedLine, Turned, Solvable};
+ghost use Rattle.jobs.specs.Printing.{turnedLine, solvedLine, TurnedBy, Solvable};
 use finder::Solved;
 use finder::solve;
 use lines::line;
@@ -28,13 +28,6 @@ pub enum Next {
 pub struct Turn {
     pub len: usize,
     pub next: Next,
-}
-
-// The place of the first record.
-pub fn start() -> Place
-    ensures { λ r. ⌜ (r .at ≡ 0) × (r .k ≡ 1) ⌝ }
-{
-    Place { at: 0, k: 1 }
 }
 
 // The line of a refused record, to the front of out; its length.
@@ -61,14 +54,13 @@ fn solved_line(k: u32, m: u16, cutoff: u16, bytes: &[u8], out: &mut [u8]) -> usi
     }
 }
 
-// The line of the record at a place, to the front of out, and where reading goes on.
-pub fn take_turn(file: &[u8], place: Place, out: &mut [u8]) -> Turn
-    requires { ⌜ (221 ≤ length (now out)) × (place .k + 1 < 2 ^ 32) ⌝ }
-    ensures { λ r. ⌜ Turned (now (file .entry)) (place .at) (place .k) (now (out .entry)) r (now (out .exit)) ⌝ }
+// The line of what was read, with its coefficient bytes, to the front of out, and where reading goes on.
+pub fn take_turn(read: Read, bytes: &[u8], k: u32, out: &mut [u8]) -> Turn
+    requires { ⌜ (221 ≤ length (now out)) × (k + 1 < 2 ^ 32) × Stands read (now bytes) ⌝ }
+    ensures { λ r. ⌜ TurnedBy read (now (bytes .entry)) k (now (out .entry)) r (now (out .exit)) ⌝ }
 {
-    let k = place.k;
     let after = k + 1;
-    match records::held::read_from(file, place.at) {
+    match read {
         Read::End => Turn {
             len: 0,
             next: Next::Over,
@@ -82,7 +74,6 @@ pub fn take_turn(file: &[u8], place: Place, out: &mut [u8]) -> Turn
             next: Next::On(Place { at: next, k: after }), // after 1 to 6
         },
         Read::Record(job) => {
-            let bytes = records::body(file, job.start, job.len);
             let cutoff = job.cutoff;
             Turn {
                 len: solved_line(k, job.m as u16, records::resolve(cutoff), bytes, out),

@@ -11,6 +11,8 @@
 --   ReadsAt      THE CONTRACT of the reader: the answers that it admits there
 --   HandsBack    an outcome at a place accepts: it gives m, the cutoff as stated, the coefficient bytes as that part of
 --                the file, and the place behind
+--   bytesOf      the coefficient bytes of what was read, as that part of the file; none where no record was accepted
+--   Stands       what was read, with these bytes, stands somewhere in a file
 --   Judges       what the tests find
 --   Largest      a number is below a bound exactly if all of a list are
 --   answered     the code's answer for a complete record, by what the tests found
@@ -88,6 +90,20 @@ pub record HandsBack (file : List ℕ) (at : ℕ) (o : Outcome) : Type 0 where
   pub bytes : part file (at + headLength) (bodyLength (drop at file))
       ≡ part (drop at file) headLength (bodyLength (drop at file))
   pub inside : at + recordLength (drop at file) ≤ length file
+
+-- the coefficient bytes of what was read; none where no record was accepted
+abbrev pub bytesOf : List ℕ → Read → List ℕ
+bytesOf file End = []
+bytesOf file (Record j) = part file (j .start) (j .len)
+bytesOf file (Refused k next) = []
+bytesOf file (Stopped k) = []
+
+-- the file and the place are the caller's
+pub record Stands (r : Read) (bytes : List ℕ) : Type 0 where
+  pub file : List ℕ
+  pub at : ℕ
+  pub read : paper r ≡ readAt file at
+  pub lent : bytes ≡ bytesOf file r
 
 abbrev pub Judges : List (ℕ × Bool) → Verdict → Type 0
 Judges tests Accepted = Passed tests

@@ -1,8 +1,9 @@
-// The file's slice and a place in it in one struct, with thin functions over it. Each takes the struct apart and calls what reads a slice;
-// whoever calls `read_from` has plain parameters.
+// The file's slice and a place in it in one struct, with thin functions over it. Each takes the struct apart and calls what
+// reads a slice. The program `roots` walks with it.
 ghost use mathlib.Core.Path.{_≡_};
-ghost use Rattle.records.specs.Reading.{paper, readAt};
+ghost use Rattle.records.specs.Reading.{paper, readAt, bytesOf};
 use crate::Read;
+use crate::body_of;
 use crate::read_record;
 
 // A reader: the lent file and the place where it stands.
@@ -25,16 +26,16 @@ pub fn next<'a>(r: Reader<'a>) -> Read
     read_record(r.file, r.at)
 }
 
+// The coefficient bytes of what was read, as that part of the reader's file.
+pub fn bytes<'a>(r: Reader<'a>, read: Read) -> &'a [u8]
+    ensures { λ b. ⌜ now b ≡ bytesOf (now (r .entry .file)) read ⌝ }
+{
+    body_of(r.file, read)
+}
+
 // The reader at another place of the same file.
 pub fn moved<'a>(r: Reader<'a>, at: usize) -> Reader<'a>
     ensures { λ q. ⌜ (q .file ≡ r .entry .file) × (q .at ≡ at) ⌝ }
 {
     Reader { file: r.file, at }
-}
-
-// What stands at a place of a file, for callers that have the slice.
-pub fn read_from(file: &[u8], at: usize) -> Read
-    ensures { λ r. ⌜ paper r ≡ readAt (now (file .entry)) at ⌝ }
-{
-    next(new(file, at))
 }

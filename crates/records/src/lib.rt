@@ -4,7 +4,7 @@ ghost use Prim.Native.Nat.{_+_, _*_, _≤_, _<_, _^_};
 ghost use lib.ListN.{length};
 ghost use Rattle.records.specs.Layout.{word, words, part};
 ghost use Rattle.records.specs.Cutoffs.{stated, statedBy, resolved};
-ghost use Rattle.records.specs.Reading.{paper, answered, readHere, ReadsAt, callTests, valueTests};
+ghost use Rattle.records.specs.Reading.{paper, answered, bytesOf, readHere, ReadsAt, callTests, valueTests};
 ghost use Rattle.records.specs.Reading.{Judges, Largest, Spelled};
 use groups::HOUSE_DEFAULT;
 use refusals::Found;
@@ -193,6 +193,18 @@ pub fn body(file: &[u8], start: usize, len: usize) -> &[u8]
         return &file[start..start + len];
     }
     &file[start..]
+}
+
+// The coefficient bytes of what was read, as that part of the file; none where no record was accepted.
+pub fn body_of(file: &[u8], read: Read) -> &[u8]
+    ensures { λ b. ⌜ now b ≡ bytesOf (now (file .entry)) read ⌝ }
+{
+    match read {
+        Read::Record(job) => body(file, job.start, job.len),
+        Read::End => &file[..0],
+        Read::Refused { .. } => &file[..0],
+        Read::Stopped(_) => &file[..0],
+    }
 }
 
 // The coefficients that the bytes spell, to the front of the room; their number.

@@ -1,12 +1,20 @@
-// Reads job records from standard input, at most 65,536 bytes, and prints the line of each. Where a read or a write fails, standard error
-// says so and the program stops; that there was input behind is said there too.
-ghost use Prim.Native.Nat.{_≤_};
+// Reads job records from standard input, at most 65,536 bytes, and prints the line of each. Where a read or a write fails,
+// standard error says so and the program stops; that there was input behind is said there too.
+ghost use Prim.Native.Nat.{_+_, _≤_, _<_, _^_};
 ghost use lib.ListN.{length};
 ghost use Rattle.io.specs.Counts.{Counts};
+ghost use Rattle.records.specs.Reading.{Stands};
+ghost use Rattle.jobs.specs.Printing.{Ahead};
 use jobs::Next;
 use libc::STDERR_FILENO;
 use libc::STDIN_FILENO;
 use libc::STDOUT_FILENO;
+use records::Read;
+
+// Places past the end of any file: reading is over, and a line could not be printed.
+const OVER: usize = usize::MAX - 1;
+
+const FAILED: usize = usize::MAX;
 
 // Reads until the room is full or the input ends; how many bytes came. A read that fails is told, and then none came.
 fn read_all(room: &mut [u8]) -> usize
@@ -38,24 +46,41 @@ fn print(text: &[u8]) -> bool {
     written
 }
 
-// Prints the line of each record, until reading is over; false where a line could not be printed.
-fn run(file: &[u8]) -> bool
-    requires { ⌜ length (now file) ≤ 65536 ⌝ }
+// Prints the line of what was read; where reading goes on, or a number past the end of any file.
+fn print_turn(read: Read, bytes: &[u8], k: u32) -> usize
+    requires { ⌜ (k + 1 < 2 ^ 32) × Stands read (now bytes) ⌝ }
+    ensures { λ n. ⌜ Ahead read (now (bytes .entry)) n ⌝ }
 {
     let mut out = [0u8; 221];
-    let mut place = jobs::start();
-    loop {
-        let turn = jobs::take_turn(file, place, &mut out);
-        let len = turn.len;
-        if !print(&out[..len]) {
-            return false;
-        }
-        let next = turn.next;
-        let Next::On(behind) = next else {
-            return true;
-        };
-        place = behind;
+    let turn = jobs::take_turn(read, bytes, k, &mut out);
+    let len = turn.len;
+    if !print(&out[..len]) {
+        return FAILED;
     }
+    let next = turn.next;
+    match next {
+        Next::On(place) => place.at,
+        Next::Over => OVER,
+    }
+}
+
+// Prints the line of each record, by a reader that is made once and moved on; FAILED where a line could not be printed, else
+// a number behind the last record.
+fn run(file: &[u8]) -> usize
+    requires { ⌜ length (now file) ≤ 65536 ⌝ }
+    ensures { λ n. ⌜ length (now (file .entry)) ≤ n ⌝ }
+{
+    let mut reader = records::held::new(file, 0);
+    let mut at = 0;
+    let mut k = 1;
+    while at < file.len() {
+        let read = records::held::next(reader);
+        let bytes = records::held::bytes(reader, read);
+        at = print_turn(read, bytes, k);
+        reader = records::held::moved(reader, at);
+        k += 1;
+    }
+    at
 }
 
 // Says so where there is input behind what was read.
@@ -76,7 +101,7 @@ fn tell_rest() {
 fn main() {
     let mut buffer = io::large_buffer();
     let n = read_all(&mut buffer);
-    if run(&buffer[..n]) {
+    if run(&buffer[..n]) != FAILED {
         if n == 65536 {
             tell_rest();
         }
