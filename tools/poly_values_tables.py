@@ -1,5 +1,5 @@
 #!/usr/bin/env python3
-"""fft_tables: writes crates/fft/src/tables.rt, the constant tables of the transform for field 11. The prover tests every entry."""
+"""poly_values_tables: prints crates/poly_values/src/tables.rt, the constant tables of the transform for field 11. The prover tests every entry."""
 M, POLY = 11, 2053
 STEPS = [1024, 512, 256, 128, 64]  # the highest first
 

@@ -32,7 +32,7 @@ use Rattle.groups.specs.Splitting.{isDone, rootsAt, slotsBegun, slotsStepped, s
 use Rattle.groups.specs.Demand.{stepCount, groupsAfter}
 use Rattle.groups.proofs.Demand.{demand-3, steps-to-done}
 use Rattle.finder.specs.Calls.{solveOutcome}
-use Rattle.figures.specs.Figures.{Figure, Right, Begins, figures, accepted, refused, values, afterSteps}
+use Rattle.figures.specs.Figures.{Figure, Right, StartsWith, figures, accepted, refused, values, afterSteps}
 
 -- ---- field 11: z^2 + z, with a zero at the top. Its roots are 0 and 1, as it is 0 at 0 and the other root is 0 + 1
 known-11 : OnNumbers (numbers (fieldAt 11)) (2 ^ 11)
@@ -91,7 +91,7 @@ in-11 = record {
 -- a figure by its outcome, its roots and its work tables
 accept : {f : Figure} → solveOutcome (f .m) (f .cutoff) (f .coefficients) (replicate 32 0) ≡ (f .number, values f)
     → rootsAt (f .m) (f .coefficients) ≡ f .roots
-    → All (λ t. Begins (afterSteps f (t .0)) (t .1)) (f .tables) → Right f
+    → All (λ t. StartsWith (afterSteps f (t .0)) (t .1)) (f .tables) → Right f
 accept e r t = record { outcome = e; roots = λ _. r; tables = t }
 
 -- a refusal by its outcome: its number is not 0

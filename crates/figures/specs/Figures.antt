@@ -5,7 +5,7 @@
 --   wholeField   z^16 + z
 --   figures  the table
 --   Right    what is claimed of a figure: the whole call's outcome, the roots, and the work tables
---   afterSteps   the slots of a figure's begun table after n steps;  Begins  slots begin with a list, and zeros follow
+--   afterSteps   the slots of a figure's begun table after n steps;  StartsWith  slots begin with a list, and zeros follow
 -- Assumes nothing.
 use mathlib.Core.Path.{_≡_}
 use mathlib.Core.Bool.{cond}
@@ -78,10 +78,10 @@ values f = cond (eqb (f .number) 0) (length (f .roots) ∷ f .steps ∷ []) []
 abbrev pub afterSteps : Figure → ℕ → List ℕ
 afterSteps f n = slotsAfter byFactor n (slotsBegun byFactor slots (f .m) (inForce (f .cutoff)) (f .coefficients))
 
-abbrev pub Begins : List ℕ → List ℕ → Type 0
-Begins l front = l ≡ front ++ replicate (slots - length front) 0
+abbrev pub StartsWith : List ℕ → List ℕ → Type 0
+StartsWith l front = l ≡ front ++ replicate (slots - length front) 0
 
 pub record Right (f : Figure) : Type 0 where
   pub outcome : solveOutcome (f .m) (f .cutoff) (f .coefficients) (replicate 32 0) ≡ (f .number, values f)
   pub roots : f .number ≡ 0 → rootsAt (f .m) (f .coefficients) ≡ f .roots
-  pub tables : All (λ t. Begins (afterSteps f (t .0)) (t .1)) (f .tables)
+  pub tables : All (λ t. StartsWith (afterSteps f (t .0)) (t .1)) (f .tables)
