@@ -18,7 +18,11 @@ ghost use Rattle.beginning.specs.SplitPart.{SplitOff, Powered, Beginnabl
 use admitting::admit;
 use admitting::in_force;
 use euclid::gcd;
+use groups::COEFFICIENTS;
+use groups::LIMIT;
+use groups::POWER_ROWS;
 use groups::SLOTS;
+use groups::SQUARE;
 use polynomial::monic::make_monic;
 use powers::z_powers;
 use refusals::Admission;
@@ -38,8 +42,8 @@ fn residue(m: u16, logs: &[u16], antilogs: &[u16], p: &[u16], b: &mut [u16], row
         × (take (m * length (now (p .entry))) (now (rows .exit))
         ≡ powerRows m (now (p .entry)) m (rem (G m) (now (p .entry)) (0 ∷ 1 ∷ []))) ⌝ }
 {
-    let mut row = [0u16; 32];
-    let mut s = [0u16; 64];
+    let mut row = [0u16; LIMIT];
+    let mut s = [0u16; SQUARE];
     let n = p.len();
     let d = n + n;
     slots::clear(b);
@@ -77,8 +81,8 @@ pub fn split_part(
     ensures { λ r. ⌜ SplitOff m (now (coeffs .entry)) (r .part) (now (out .exit))
         × Powered m (now (coeffs .entry)) (r .whole) (now (rows .exit)) ⌝ }
 {
-    let mut b = [0u16; 33];
-    let mut row = [0u16; 32];
+    let mut b = [0u16; COEFFICIENTS];
+    let mut row = [0u16; LIMIT];
     let n = coeffs.len();
     slots::copy(coeffs, out);
     let d = make_monic(m, logs, antilogs, &mut out[..n]) - 1;
@@ -118,7 +122,7 @@ pub fn begin_lent(
     ensures { λ d. ⌜ (now (table .exit) ≡ slotsBegun byFactor slots m c (now (coeffs .entry)))
         × Powered m (now (coeffs .entry)) d (now (rows .exit)) ⌝ }
 {
-    let mut part = [0u16; 33];
+    let mut part = [0u16; COEFFICIENTS];
     let found = split_part(m, logs, antilogs, coeffs, &mut part, rows);
     let n = found.part;
     lay(table, m, c, &part[..n]);
@@ -132,7 +136,7 @@ fn write(m: u16, size: usize, coeffs: &[u16], c: u16, table: &mut [u16])
 {
     let mut logs = [0u16; 2048];
     let mut antilogs = [0u16; 6141];
-    let mut rows = [0u16; 352];
+    let mut rows = [0u16; POWER_ROWS];
     lent::logs(m, &mut logs);
     lent::antilogs(m, &mut antilogs);
     let e = 3 * (size - 1);

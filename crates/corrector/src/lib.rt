@@ -15,6 +15,7 @@ ghost use Rattle.corrector.specs.Places.{placesOf, sumAt, placesIn, flip
 ghost use Rattle.corrector.specs.Places.{Spotted, Located, Tells, Agrees};
 ghost use Rattle.corrector.specs.Correcting.{IsBlock, IsStrength, Corrects, paperCorrected};
 use elements::Answer;
+use groups::LIMIT;
 use refusals::Refusal;
 use searching::Searched;
 use tables::named::logs11;
@@ -79,7 +80,7 @@ fn spots_of(locator: [u16; 9], t: u16) -> Places
     requires { ⌜ Under locator × (getD locator 0 0 ≡ 1) × (t ≤ 8) ⌝ }
     ensures { λ r. ⌜ Spotted (placesOf locator) t r ⌝ }
 {
-    let mut roots = [0u16; 32];
+    let mut roots = [0u16; LIMIT];
     match searching::search(11, &locator, &mut roots) {
         Searched::NotSearched(_) => nowhere(),
         Searched::Seen(s) => {

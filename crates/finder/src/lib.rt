@@ -12,6 +12,8 @@ use admitting::in_force;
 use beginning::begin_lent;
 use finishing::finish_lent;
 use groups::LIMIT;
+use groups::POWER_ROWS;
+use groups::SLOTS;
 use judging::Place;
 use judging::find;
 use powers::add_trace;
@@ -123,9 +125,9 @@ pub fn solve_lent(
     requires { ⌜ Solvable m c (now coeffs) (now logs) (now antilogs) (now halves) (now roots) ⌝ }
     ensures { λ r. ⌜ SolvedOut m c (now (coeffs .entry)) (now (roots .entry)) r (now (roots .exit)) ⌝ }
 {
-    let mut table = [0u16; 100];
-    let mut rows = [0u16; 352];
-    let mut traces = [0u16; 352];
+    let mut table = [0u16; SLOTS];
+    let mut rows = [0u16; POWER_ROWS];
+    let mut traces = [0u16; POWER_ROWS];
     let n = begin_lent(m, c, logs, antilogs, coeffs, &mut table, &mut rows);
     let e = (m as usize) * n;
     run(

@@ -8,6 +8,8 @@ ghost use Rattle.lines.specs.Lines.{Wrote};
 ghost use Rattle.jobs.specs.Printing.{turnedLine, solvedLine, TurnedBy, Solvable};
 use finder::Solved;
 use finder::solve;
+use groups::COEFFICIENTS;
+use groups::LIMIT;
 use lines::line;
 use records::Read;
 use refusals::Refusal;
@@ -45,9 +47,9 @@ fn solved_line(k: u32, m: u16, cutoff: u16, bytes: &[u8], out: &mut [u8]) -> usi
     ensures { λ n. ⌜ Wrote (solvedLine k m cutoff (words (now (bytes .entry))))
         0 (now (out .entry)) n (now (out .exit)) ⌝ }
 {
-    let mut room = [0u16; 33];
+    let mut room = [0u16; COEFFICIENTS];
     let n = records::coefficients(bytes, &mut room);
-    let mut roots = [0u16; 32];
+    let mut roots = [0u16; LIMIT];
     match solve(m, &room[..n], cutoff, &mut roots) {
         Solved::Found { s, steps } => line(k, 0, s, steps, &roots, out),
         Solved::NotSolved(_) => 0, // never: the reader's tests are the whole call's

@@ -14,6 +14,10 @@ ghost use Rattle.splitter.specs.Parting.{Splittable, Partable, Restable,
 ghost use Rattle.splitter.specs.Parting.{Appended, Parted, Steppable, Ready};
 use euclid::cofactor;
 use euclid::gcd;
+use groups::COEFFICIENTS;
+use groups::LIMIT;
+use groups::SQUARE;
+use groups::TWO_FACTORS;
 use judging::Verdict;
 use judging::judge;
 use powers::trace_of;
@@ -37,9 +41,9 @@ fn trace_at(m: u16, logs: &[u16], antilogs: &[u16], p: &[u16], level: u16, t: &m
     let n = p.len();
     let e = n + n;
     let b = antilogs[level as usize];
-    let mut row = [0u16; 32];
-    let mut w = [0u16; 32];
-    let mut s = [0u16; 64];
+    let mut row = [0u16; LIMIT];
+    let mut w = [0u16; LIMIT];
+    let mut s = [0u16; SQUARE];
     trace_of(
         m,
         logs,
@@ -68,10 +72,10 @@ fn common(
 {
     let n = p.len();
     let k = t.len();
-    let mut b = [0u16; 32];
+    let mut b = [0u16; LIMIT];
     slots::copy(t, &mut b);
     slots::copy(p, g);
-    let mut row = [0u16; 32];
+    let mut row = [0u16; LIMIT];
     gcd(m, logs, antilogs, &mut row, g, n, &mut b, k)
 }
 
@@ -82,8 +86,8 @@ fn rest_of(m: u16, logs: &[u16], antilogs: &[u16], p: &[u16], g: &[u16], h: &mut
 {
     let k = g.len();
     let j = p.len() + 1;
-    let mut row = [0u16; 32];
-    let mut f = [0u16; 33];
+    let mut row = [0u16; LIMIT];
+    let mut f = [0u16; COEFFICIENTS];
     cofactor(m, logs, antilogs, p, g, &mut row[..k], &mut f[..j], h);
 }
 
@@ -116,9 +120,9 @@ fn parts_of(
     requires { ⌜ Partable m (now logs) (now antilogs) (now p) level (now t) × (36 ≤ length (now w)) ⌝ }
     ensures { λ r. ⌜ Parted m level (now (p .entry)) r (now (w .exit)) ⌝ }
 {
-    let mut g = [0u16; 33];
+    let mut g = [0u16; COEFFICIENTS];
     let k = common(m, logs, antilogs, p, level, t, &mut g);
-    let mut h = [0u16; 32];
+    let mut h = [0u16; LIMIT];
     let e = p.len() - k;
     rest_of(m, logs, antilogs, p, &g[..k], &mut h[..e]);
     let at = append(w, 0, level + 1, &g[..k]);
@@ -137,7 +141,7 @@ pub fn step_lent(table: &mut [u16], logs: &[u16], antilogs: &[u16], o: usize, t:
     let d = table[o + 1] as usize;
     let b = o + 2;
     let e = b + d;
-    let mut w = [0u16; 36];
+    let mut w = [0u16; TWO_FACTORS];
     let q = parts_of(m, logs, antilogs, &table[b..e], level, t, &mut w);
     slots::splice(table, o, d + 2, &w[..q]);
     table[2] = others + ((q - d) / 2) as u16;
@@ -154,7 +158,7 @@ fn step_traced(table: &mut [u16], logs: &[u16], antilogs: &[u16], o: usize)
     let d = table[o + 1] as usize;
     let b = o + 2;
     let e = b + d;
-    let mut t = [0u16; 32];
+    let mut t = [0u16; LIMIT];
     trace_at(m, logs, antilogs, &table[b..e], level, &mut t[..d]);
     step_lent(table, logs, antilogs, o, &t[..d]);
 }
