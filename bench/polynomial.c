@@ -6,7 +6,7 @@
  * and antilogs of three times the order, the last third 0, so that a product by 0 needs no branch. Each side has its own.
  * The loops are here, and neither side knows the lengths before it is called.
  */
-#include "../tests/polynomial_face.h"
+#include "../tests/poly_face.h"
 #include <stdio.h>
 #include <stdlib.h>
 #include <string.h>

@@ -3,7 +3,7 @@
    other lengths than its kind has, has no line. */
 #define DRIVER "routines"
 #include "lent.h"
-#include "polynomial_face.h"
+#include "poly_face.h"
 #include "reference.h"
 
 enum { REMAINDER = 1, SQUARE, Z_POWER, TRACE, GCD, QUOTIENT, VALUE, TOP, MONIC };

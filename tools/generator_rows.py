@@ -1,8 +1,8 @@
 #!/usr/bin/env python3
 """generator_rows [--check]: writes the constants of the block corrector from the field polynomial alone.
 
-  crates/generator/src/rows.rt    the remainders by the generator of strength 8; proofs/rows/ has the proofs of the arms
-  crates/syndromes/src/powers.rt  the powers of a, a^3, .., a^15
+  crates/corrector_generator/src/rows.rt    the remainders by the generator of strength 8; proofs/rows/ has the proofs of the arms
+  crates/corrector_syndromes/src/powers.rt  the powers of a, a^3, .., a^15
 The generator is the product of the minimal polynomials of a, a^3, .., a^15 in field 11, where a is 2; its degree is 88.
 A row function of digits k to k + w - 1 is a match: its arm c has the remainder of c x^(88 + k), the 64 low digits and
 the others. With --check it writes nothing, and says which files differ."""
@@ -88,7 +88,7 @@ def rows(g):
     yield "// Remainders by the generator, as constants in place: a match whose arms are numbers is a table in the\n"
     yield "// program's read-only part, and nothing is built at a call. Written by tools/generator_rows.py.\n"
     yield "ghost use mathlib.Core.Path.{_≡_};\nghost use Prim.Native.Nat.{_*_, _<_};\n"
-    yield "ghost use Rattle.generator.specs.Rows.{rowOf, top};\nuse crate::Row;\n"
+    yield "ghost use Rattle.corrector_generator.specs.Rows.{rowOf, top};\nuse crate::Row;\n"
     for k, w in PARTS:
         yield from function(k, w, g)
 
@@ -103,11 +103,11 @@ def proof(k, w):
     """The proof of a row function: each arm by its key, and no other number is below the bound."""
     names = ["returns"] + [f"returns-{i + 1}" for i in range(1, (1 << w) + 1)]
     rest = names[-1]
-    yield f"-- `generator::rows::row{k}` meets its contract: each arm is the sum of the basis over its key's digits.\n"
+    yield f"-- `corrector_generator::rows::row{k}` meets its contract: each arm is the sum of the basis over its key's digits.\n"
     yield "-- Written by tools/generator_rows.py. Assumes nothing.\nuse mathlib.Core.Path.{refl}\n"
-    yield f"use Rattle.generator.proofs.Bases.{{NotBelow, none-left, sum{k}, arm{k}}}\n"
-    yield f"use Rattle.generator.proofs.rows.row{k}.Statement.{{statement}}\n"
-    yield f"use Rattle.generator.proofs.rows.row{k}.Tie as tie\n\n"
+    yield f"use Rattle.corrector_generator.proofs.Bases.{{NotBelow, none-left, sum{k}, arm{k}}}\n"
+    yield f"use Rattle.corrector_generator.proofs.rows.row{k}.Statement.{{statement}}\n"
+    yield f"use Rattle.corrector_generator.proofs.rows.row{k}.Tie as tie\n\n"
     for i, name in enumerate(names[:-1]):
         yield from arm(name, k, i)
     yield f"{rest} : tie.Need-{rest}\nunfolding NotBelow\n"
@@ -129,9 +129,9 @@ def powers():
 def main():
     """Writes the files, or with --check compares them."""
     g = generator()
-    files = {TOP / "generator/src/rows.rt": "".join(rows(g)), TOP / "syndromes/src/powers.rt": "".join(powers())}
+    files = {TOP / "corrector_generator/src/rows.rt": "".join(rows(g)), TOP / "corrector_syndromes/src/powers.rt": "".join(powers())}
     for k, w in PARTS:
-        files[TOP / f"generator/proofs/rows/row{k}/Proof.antt"] = "".join(proof(k, w))
+        files[TOP / f"corrector_generator/proofs/rows/row{k}/Proof.antt"] = "".join(proof(k, w))
     bad = [path for path, text in files.items() if not path.exists() or path.read_text() != text]
     if sys.argv[1:] == ["--check"]:
         for path in bad:

@@ -1,7 +1,7 @@
 #!/usr/bin/env python3
-"""tables DEGREE POLYNOMIAL: the constant tables of a field, as crates/tables/src/halves.rt and logtables.rt hold them.
+"""tables DEGREE POLYNOMIAL: the constant tables of a field, as crates/field_tables/src/halves.rt and logtables.rt hold them.
 
-A new field costs a row in crates/refusals, these tables, and a few lines that name each (named.rt); the prover tests every entry."""
+A new field costs a row in crates/refusals, these tables, and a few lines that name each (constants.rt); the prover tests every entry."""
 import sys
 
 m, poly = int(sys.argv[1]), int(sys.argv[2])

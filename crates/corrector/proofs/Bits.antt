@@ -20,9 +20,9 @@ use lib.Seq.{getD-set-same, getD-set-other}
 use lib.Pow.{shr-shr, pow-add, pow-lt, pow-pos}
 use Rattle.algebra.specs.Trial.{All, upFrom}
 use Rattle.field.proofs.Xor.{xor-assoc}
-use Rattle.codes.specs.Word.{both, places}
-use Rattle.codes.specs.Digits.{numberOf, digits}
-use Rattle.codes.proofs.Flips.{digits-xor, flip-number}
+use Rattle.corrector_code.specs.Word.{both, places}
+use Rattle.corrector_code.specs.Digits.{numberOf, digits}
+use Rattle.corrector_code.proofs.Flips.{digits-xor, flip-number}
 use Rattle.corrector.specs.Correcting.{bitAt}
 use Rattle.corrector.specs.Places.{xorOver, flipAll}
 

@@ -18,9 +18,9 @@ use Rattle.algebra.specs.Field.{power}
 use Rattle.algebra.specs.Polynomial.{eval}
 use Rattle.algebra.specs.Trial.{keep, upFrom}
 use Rattle.field.proofs.Digits.{bit-cases}
-use Rattle.codes.specs.Word.{differs, both, bit, value, places}
-use Rattle.codes.specs.Word as words
-use Rattle.codes.specs.Eleven.{F11}
+use Rattle.corrector_code.specs.Word.{differs, both, bit, value, places}
+use Rattle.corrector_code.specs.Word as words
+use Rattle.corrector_code.specs.Eleven.{F11}
 use Rattle.corrector.specs.Correcting.{bitAt, polynomial, distance, IsBlock, IsCodeword, Within}
 use Rattle.corrector.proofs.Bits.{bitsOf}
 use Rattle.corrector.proofs.Reordering.{places-kept}

@@ -26,24 +26,24 @@ use Rattle.refusals.proofs.Numbers.{by-number, refused-back, accepted-back}
 use Rattle.refusals.proofs.Rows.{row11}
 use Rattle.field.specs.Field.{fieldAt}
 use Rattle.algebra.specs.Trial.{All}
-use Rattle.slots.specs.Bounded.{allBelow}
-use Rattle.slots.proofs.Lists.{copied-front}
-use Rattle.groups.specs.Splitting.{rootsAt}
-use Rattle.groups.specs.RootMemory.{rootMemory}
-use Rattle.searching.specs.Calls.{searchTests, searchOutcome, paperSearched}
-use Rattle.searching.specs.declared.Searched.{Searched}
-use Rattle.searching.specs.declared.Searched.the-variants.{Seen, NotSearched}
-use Rattle.locating.specs.Under.{Under, PowerSums, registerOf}
-use Rattle.locating.specs.declared.State.{State}
-use Rattle.locating.proofs.Fine.{Fine, register-fine}
-use Rattle.codes.specs.Eleven.{F11}
-use Rattle.codes.specs.Key.{register}
+use Rattle.slices.specs.Bounded.{allBelow}
+use Rattle.slices.proofs.Lists.{copied-front}
+use Rattle.table_rules.specs.Splitting.{rootsAt}
+use Rattle.table_rules.specs.RootMemory.{rootMemory}
+use Rattle.find_search.specs.Calls.{searchTests, searchOutcome, paperSearched}
+use Rattle.find_search.specs.declared.Searched.{Searched}
+use Rattle.find_search.specs.declared.Searched.the-variants.{Seen, NotSearched}
+use Rattle.corrector_locator.specs.Under.{Under, PowerSums, registerOf}
+use Rattle.corrector_locator.specs.declared.State.{State}
+use Rattle.corrector_locator.proofs.Fine.{Fine, register-fine}
+use Rattle.corrector_code.specs.Eleven.{F11}
+use Rattle.corrector_code.specs.Key.{register}
 use Rattle.corrector.specs.Places.{placesOf, placesIn, named, Placing, Placed, Holds, Few8, Either, Spotted, Located, Acceptable, Agrees}
 use Rattle.corrector.specs.declared.Places.{Places}
 use Rattle.corrector.proofs.Marking.{roots-nonzero, places-below}
-use Rattle.elements.specs.Calls.{paper, positionTests, positionUnder, positionOutcome}
-use Rattle.elements.specs.declared.Answer.{Answer}
-use Rattle.elements.specs.declared.Answer.the-variants.{Value, Refused}
+use Rattle.field_elements.specs.Calls.{paper, positionTests, positionUnder, positionOutcome}
+use Rattle.field_elements.specs.declared.Answer.{Answer}
+use Rattle.field_elements.specs.declared.Answer.the-variants.{Value, Refused}
 
 -- the number of a refusal is not 0
 pub not-zero : (k : Refusal) → numberOf k ≡ 0 → ⊥

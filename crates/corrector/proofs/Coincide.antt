@@ -18,9 +18,9 @@ use Rattle.refusals.proofs.Numbers.{by-number, refused-back, accepted-back}
 use Rattle.refusals.proofs.Told.{told}
 use Rattle.field.specs.Field.{fieldAt}
 use Rattle.field.proofs.Digits.{bit-cases}
-use Rattle.codes.specs.Digits.{numberOf as numberOfBytes, digits}
-use Rattle.codes.proofs.Eleven.{gen11}
-use Rattle.codes.proofs.Numbers as codes
+use Rattle.corrector_code.specs.Digits.{numberOf as numberOfBytes, digits}
+use Rattle.corrector_code.proofs.Eleven.{gen11}
+use Rattle.corrector_code.proofs.Numbers as codes
 use Rattle.corrector.specs.Correcting.{distance, IsBlock, Within, Corrects, paperCorrected}
 use Rattle.corrector.specs.Correcting.Corrects.{no-block, no-strength, none-near, mended}
 use Rattle.corrector.specs.declared.Corrected.{Corrected}

@@ -19,22 +19,22 @@ use Rattle.algebra.specs.Field.{power}
 use Rattle.algebra.specs.Polynomial.{coef, isRoot}
 use Rattle.algebra.specs.Trial.{All, upFrom}
 use Rattle.field.specs.Field.{fieldAt, mul, inverse, numbers, reduce}
-use Rattle.codes.specs.Word.{both, places, distance, total, value, locators, differs}
-use Rattle.codes.specs.Key.{register}
-use Rattle.codes.specs.Correct.{syndromes, locatorOf, marked, flips, Passes}
-use Rattle.codes.specs.Digits.{numberOf, digits}
-use Rattle.codes.specs.Eleven.{F11}
-use Rattle.codes.proofs.Eleven.{gen11}
-use Rattle.codes.proofs.Odd.{half}
-use Rattle.codes.proofs.Same.{register-same}
-use Rattle.codes.proofs.Complete.{row-at, both-both}
-use Rattle.codes.proofs.Flips.{digits-xor}
-use Rattle.codes.proofs.Numbers.{syndrome-square, accepted, exactly}
-use Rattle.generator.specs.Rows.{generator}
-use Rattle.syndromes.specs.Remainder.{OddValues}
-use Rattle.syndromes.proofs.Zeros.{odd-syndromes}
-use Rattle.locating.specs.Under.{PowerSums}
-use Rattle.locating.proofs.Fine.{register-fine}
+use Rattle.corrector_code.specs.Word.{both, places, distance, total, value, locators, differs}
+use Rattle.corrector_code.specs.Key.{register}
+use Rattle.corrector_code.specs.Correct.{syndromes, locatorOf, marked, flips, Passes}
+use Rattle.corrector_code.specs.Digits.{numberOf, digits}
+use Rattle.corrector_code.specs.Eleven.{F11}
+use Rattle.corrector_code.proofs.Eleven.{gen11}
+use Rattle.corrector_code.proofs.Odd.{half}
+use Rattle.corrector_code.proofs.Same.{register-same}
+use Rattle.corrector_code.proofs.Complete.{row-at, both-both}
+use Rattle.corrector_code.proofs.Flips.{digits-xor}
+use Rattle.corrector_code.proofs.Numbers.{syndrome-square, accepted, exactly}
+use Rattle.corrector_generator.specs.Rows.{generator}
+use Rattle.corrector_syndromes.specs.Remainder.{OddValues}
+use Rattle.corrector_syndromes.proofs.Zeros.{odd-syndromes}
+use Rattle.corrector_locator.specs.Under.{PowerSums}
+use Rattle.corrector_locator.proofs.Fine.{register-fine}
 use Rattle.corrector.specs.Places.{xorOver, placesOf, sumAt, Acceptable, named, flipAll}
 use Rattle.corrector.specs.Correcting.{IsBlock, IsStrength, Within}
 use Rattle.corrector.specs.Correcting as blocks

@@ -22,11 +22,11 @@ use Rattle.algebra.proofs.Trial.{all-at}
 use Rattle.field.specs.Field.{fieldAt, mul, inverse, position, numbers}
 use Rattle.field.proofs.Ring.{ring, RingLaws, power-lt, power-add}
 use Rattle.field.proofs.Generator.{unit, inverse-lt, inverse-only, mul-inverse, position-only, position-is, power-order}
-use Rattle.elements.specs.Calls.{positionUnder}
-use Rattle.elements.proofs.Mirror.{goppa, of-inverse}
-use Rattle.groups.specs.Splitting.{rootsAt}
-use Rattle.codes.specs.Eleven.{F11}
-use Rattle.codes.proofs.Eleven.{gen11}
+use Rattle.field_elements.specs.Calls.{positionUnder}
+use Rattle.field_elements.proofs.Mirror.{goppa, of-inverse}
+use Rattle.table_rules.specs.Splitting.{rootsAt}
+use Rattle.corrector_code.specs.Eleven.{F11}
+use Rattle.corrector_code.proofs.Eleven.{gen11}
 use Rattle.corrector.specs.Places.{placesOf}
 open RingLaws (ring (fieldAt 11) (gen11 .monic)) using (mul-comm, mul-zero-l, mul-zero-r)
 

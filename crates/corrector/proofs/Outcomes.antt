@@ -14,13 +14,13 @@ use native.Mathlib.Omega.{arith}
 use lib.ListN.{length, getD, replicate}
 use Rattle.field.specs.Field.{fieldAt, reduce}
 use Rattle.field.proofs.Generator.{unit}
-use Rattle.codes.specs.Digits.{numberOf, at}
-use Rattle.codes.proofs.Eleven.{gen11}
-use Rattle.codes.proofs.Values.{at-lt, at-zero}
-use Rattle.generator.specs.Rows.{generator}
-use Rattle.syndromes.specs.Remainder.{restOf, oddPower, OddValues}
-use Rattle.syndromes.specs.declared.Rest.{Rest}
-use Rattle.locating.specs.Under.{Under, PowerSums}
+use Rattle.corrector_code.specs.Digits.{numberOf, at}
+use Rattle.corrector_code.proofs.Eleven.{gen11}
+use Rattle.corrector_code.proofs.Values.{at-lt, at-zero}
+use Rattle.corrector_generator.specs.Rows.{generator}
+use Rattle.corrector_syndromes.specs.Remainder.{restOf, oddPower, OddValues}
+use Rattle.corrector_syndromes.specs.declared.Rest.{Rest}
+use Rattle.corrector_locator.specs.Under.{Under, PowerSums}
 use Rattle.corrector.specs.Places.{named, placesIn, flipAll, Holds, Few8, Acceptable, Either, Located, Tells}
 use Rattle.corrector.specs.Correcting.{distance, IsBlock, IsStrength, Within, Corrects}
 use Rattle.corrector.specs.Correcting.Corrects.{none-near, mended}

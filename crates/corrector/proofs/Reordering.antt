@@ -15,9 +15,9 @@ use lib.Dec.{T, eqb, ltb, eqb→eq}
 use lib.ListN.{length}
 use Rattle.algebra.specs.Trial.{All, Distinct, keep, upFrom}
 use Rattle.field.proofs.Xor.{xor-assoc}
-use Rattle.slots.specs.Ordered.{insertOnce, insertAll}
-use Rattle.slots.proofs.Ordered.{insertOnce-all, insertAll-kept}
-use Rattle.codes.specs.Word.{places}
+use Rattle.slices.specs.Ordered.{insertOnce, insertAll}
+use Rattle.slices.proofs.Ordered.{insertOnce-all, insertAll-kept}
+use Rattle.corrector_code.specs.Word.{places}
 use Rattle.corrector.specs.Places.{xorOver}
 
 -- not in a list

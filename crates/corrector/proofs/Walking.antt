@@ -24,9 +24,9 @@ use Rattle.field.specs.Tables.{Powers}
 use Rattle.field.proofs.Xor.{xor-assoc}
 use Rattle.field.proofs.Ring.{ring, RingLaws, power-add, power-mul, power-lt}
 use Rattle.field.proofs.Generator.{unit, power-order}
-use Rattle.elements.specs.Calls.{positionUnder}
-use Rattle.codes.specs.Eleven.{F11}
-use Rattle.codes.proofs.Eleven.{gen11}
+use Rattle.field_elements.specs.Calls.{positionUnder}
+use Rattle.corrector_code.specs.Eleven.{F11}
+use Rattle.corrector_code.proofs.Eleven.{gen11}
 use Rattle.corrector.specs.Places.{xorOver, sumAt, flipAll, placesIn, Placing, Placed, Few8, Agrees}
 use Rattle.corrector.specs.declared.Places.{Places}
 open RingLaws (ring (fieldAt 11) (gen11 .monic)) using (mul-one-l)

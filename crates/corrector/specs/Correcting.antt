@@ -21,7 +21,7 @@ use Rattle.algebra.specs.Field.{power}
 use Rattle.algebra.specs.Polynomial.{eval}
 use Rattle.algebra.specs.Trial.{keep, upFrom}
 use Rattle.refusals.specs.Numbers.{numberOf}
-use Rattle.codes.specs.Eleven.{F11}
+use Rattle.corrector_code.specs.Eleven.{F11}
 use Rattle.corrector.specs.declared.Corrected.{Corrected}
 use Rattle.corrector.specs.declared.Corrected.the-variants.{Flips, NotCorrected}
 

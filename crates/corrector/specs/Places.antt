@@ -20,11 +20,11 @@ use lib.Bits.{bitXor}
 use lib.ListN.{length, getD, set, take}
 use Rattle.algebra.specs.Field.{power}
 use Rattle.field.specs.Field.{fieldAt}
-use Rattle.elements.specs.Calls.{positionUnder}
-use Rattle.groups.specs.Splitting.{rootsAt}
-use Rattle.codes.specs.Eleven.{F11}
-use Rattle.codes.specs.Key.{register}
-use Rattle.locating.specs.Under.{PowerSums}
+use Rattle.field_elements.specs.Calls.{positionUnder}
+use Rattle.table_rules.specs.Splitting.{rootsAt}
+use Rattle.corrector_code.specs.Eleven.{F11}
+use Rattle.corrector_code.specs.Key.{register}
+use Rattle.corrector_locator.specs.Under.{PowerSums}
 use Rattle.corrector.specs.declared.Places.{Places}
 
 -- the sum of g over a list

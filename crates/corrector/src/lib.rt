@@ -9,17 +9,17 @@ ghost use Prim.Native.Nat.{ℕ, _<_, _≤_, _^_};
 ghost use lib.ListN.{getD, length};
 ghost use Rattle.field.specs.Field.{fieldAt};
 ghost use Rattle.field.specs.Tables.{Powers};
-ghost use Rattle.elements.specs.Calls.{positionUnder};
-ghost use Rattle.locating.specs.Under.{Under};
+ghost use Rattle.field_elements.specs.Calls.{positionUnder};
+ghost use Rattle.corrector_locator.specs.Under.{Under};
 ghost use Rattle.corrector.specs.Places.{placesOf, sumAt, placesIn, flipAll, Placing, Placed, Few8};
 ghost use Rattle.corrector.specs.Places.{Spotted, Located, Tells, Agrees};
 ghost use Rattle.corrector.specs.Correcting.{IsBlock, IsStrength, Corrects, paperCorrected};
-use elements::Answer;
-use groups::LIMIT;
+use field_elements::Answer;
+use field_tables::constants::logs11;
+use field_tables::constants::powers11;
+use find_search::Searched;
 use refusals::Refusal;
-use searching::Searched;
-use tables::named::logs11;
-use tables::named::powers11;
+use table_rules::LIMIT;
 
 // What the corrector answers: the number of flips, or what is turned away.
 pub enum Corrected {
@@ -51,7 +51,7 @@ fn place(r: u16) -> u16
     requires { ⌜ (0 < r) × (r < 2048) ⌝ }
     ensures { λ j. ⌜ j ≡ positionUnder 1 (fieldAt 11) r ⌝ }
 {
-    match elements::position(11, r, 1) {
+    match field_elements::position(11, r, 1) {
         Answer::Value(j) => j,
         Answer::Refused(_) => 0,
     }
@@ -81,7 +81,7 @@ fn spots_of(locator: [u16; 9], t: u16) -> Places
     ensures { λ r. ⌜ Spotted (placesOf locator) t r ⌝ }
 {
     let mut roots = [0u16; LIMIT];
-    match searching::search(11, &locator, &mut roots) {
+    match find_search::search(11, &locator, &mut roots) {
         Searched::NotSearched(_) => nowhere(),
         Searched::Seen(s) => {
             if t < s {
@@ -131,8 +131,8 @@ fn locate(odd: [u16; 8], t: u16) -> Places
 {
     let logs = logs11();
     let powers = powers11();
-    let s = locating::all_sums(&logs, &powers, odd);
-    let r = locating::key(&logs, &powers, &s, t as usize);
+    let s = corrector_locator::all_sums(&logs, &powers, odd);
+    let r = corrector_locator::key(&logs, &powers, &s, t as usize);
     let locator = r.locator;
     let p = spots_of(locator, t);
     let good = p.good;
@@ -210,11 +210,11 @@ fn mend(strength: u16, word: &mut [u8]) -> Corrected
     requires { ⌜ IsBlock (now word) × IsStrength strength ⌝ }
     ensures { λ r. ⌜ Corrects strength (now (word .entry)) (paperCorrected r) (now (word .exit)) ⌝ }
 {
-    let r = syndromes::word_rest(word);
+    let r = corrector_syndromes::word_rest(word);
     if r.lo == 0 && r.hi == 0 {
         return Corrected::Flips(0);
     }
-    let odd = syndromes::odd_values(r);
+    let odd = corrector_syndromes::odd_values(r);
     if none(odd, strength) {
         return Corrected::Flips(0);
     }

@@ -11,13 +11,13 @@ use borrow.Author.Tests.{le-ltb}
 use lib.Dec.{ltb}
 use lib.ListN.{length}
 use Rattle.refusals.specs.Order.{decide, outcome}
-use Rattle.groups.specs.Splitting.{rootsAt}
-use Rattle.groups.specs.Limit.{limit}
-use Rattle.groups.specs.Polynomials.{polynomialTests}
-use Rattle.groups.specs.Demand.{stepsAt}
-use Rattle.groups.specs.RootMemory.{rootMemory}
-use Rattle.finder.specs.Calls.{solveTests, solveOutcome}
-use Rattle.searching.specs.Calls.{searchTests, searchOutcome}
+use Rattle.table_rules.specs.Splitting.{rootsAt}
+use Rattle.table_rules.specs.Limit.{limit}
+use Rattle.table_rules.specs.Polynomials.{polynomialTests}
+use Rattle.table_rules.specs.Demand.{stepsAt}
+use Rattle.table_rules.specs.RootMemory.{rootMemory}
+use Rattle.find_solve.specs.Calls.{solveTests, solveOutcome}
+use Rattle.find_search.specs.Calls.{searchTests, searchOutcome}
 
 skipped : {A : Type 0} (ts : List (ℕ × Bool)) (k : ℕ) (us : List (ℕ × Bool)) (refuse : ℕ → A) (accept : A)
     → decide (ts ++ (k, false) ∷ us) refuse accept ≡ decide (ts ++ us) refuse accept

@@ -15,25 +15,25 @@ use Rattle.refusals.specs.Order.{outcome, memory, Answers, Given, Passed}
 use Rattle.refusals.specs.Order.Given.{here, later}
 use Rattle.refusals.proofs.Order as order
 use Rattle.algebra.specs.Trial.{All}
-use Rattle.elements.specs.Calls.{pairTests, nonzeroTests, positionTests}
-use Rattle.elements.proofs.Coincide.{product-coincide, inverse-coincide, position-coincide, quadratic-coincide}
-use Rattle.judging.specs.Verdicts.{stepTests}
-use Rattle.beginning.specs.Calls.{beginTests}
-use Rattle.beginning.proofs.Coincide.{begin-coincide}
-use Rattle.splitter.proofs.Coincide.{step-coincide}
-use Rattle.finishing.specs.Calls.{finishTests}
-use Rattle.finishing.proofs.Coincide.{finish-coincide}
-use Rattle.finder.specs.Calls.{solveTests}
-use Rattle.finder.proofs.Coincide.{solve-coincide}
-use Rattle.searching.specs.Calls.{searchTests}
-use Rattle.searching.proofs.Coincide.{search-coincide}
-use Rattle.jobs.proofs.Coincide.{turned-once}
+use Rattle.field_elements.specs.Calls.{pairTests, nonzeroTests, positionTests}
+use Rattle.field_elements.proofs.Coincide.{product-coincide, inverse-coincide, position-coincide, quadratic-coincide}
+use Rattle.table_check.specs.Verdicts.{stepTests}
+use Rattle.table_begin.specs.Calls.{beginTests}
+use Rattle.table_begin.proofs.Coincide.{begin-coincide}
+use Rattle.table_step.proofs.Coincide.{step-coincide}
+use Rattle.table_finish.specs.Calls.{finishTests}
+use Rattle.table_finish.proofs.Coincide.{finish-coincide}
+use Rattle.find_solve.specs.Calls.{solveTests}
+use Rattle.find_solve.proofs.Coincide.{solve-coincide}
+use Rattle.find_search.specs.Calls.{searchTests}
+use Rattle.find_search.proofs.Coincide.{search-coincide}
+use Rattle.job_lines.proofs.Coincide.{turned-once}
 use Rattle.corrector.specs.Correcting.{distance, Corrects}
 use Rattle.corrector.specs.Correcting.Corrects.{no-block, no-strength, none-near, mended}
 use Rattle.corrector.proofs.Coincide.{correct-coincide}
-use Rattle.records.specs.Reading.{Outcome, startTests, recordTests, HandsBack}
-use Rattle.records.proofs.Coincide.{read-coincide}
-use Rattle.records.proofs.Exactly.{ends-exactly, stops-exactly, refuses-exactly, accepts-exactly}
+use Rattle.job_records.specs.Reading.{Outcome, startTests, recordTests, HandsBack}
+use Rattle.job_records.proofs.Coincide.{read-coincide}
+use Rattle.job_records.proofs.Exactly.{ends-exactly, stops-exactly, refuses-exactly, accepts-exactly}
 use Rattle.demands.specs.Demand1.{Decides, Spares, Settles, Demand1}
 
 -- each test stands behind a number from 1 on

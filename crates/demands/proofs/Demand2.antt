@@ -15,20 +15,20 @@ use Rattle.refusals.specs.Order.{Passed}
 use Rattle.refusals.proofs.Order.{accepted, written, passes, failed, others}
 use Rattle.algebra.specs.Field.{OnNumbers}
 use Rattle.algebra.proofs.RootList.{rootsOf-ascending, rootsOf-distinct, rootsOf-exactly, rootsOf-only}
-use Rattle.slots.specs.Lists.{copied}
+use Rattle.slices.specs.Lists.{copied}
 use Rattle.field.specs.Field.{numbers, fieldAt}
-use Rattle.groups.specs.Splitting.{rootsAt}
-use Rattle.groups.proofs.Fields.{known-field}
-use Rattle.groups.specs.Polynomials.{PolynomialIn}
-use Rattle.groups.proofs.Polynomials.{polynomial-told, passed-more, passed-first, passed-rest}
-use Rattle.groups.specs.Demand.{stepsAt}
-use Rattle.finder.specs.Calls.{solveTests}
-use Rattle.finder.specs.declared.Solved.the-variants.{Found}
-use Rattle.finder.proofs.Coincide.{solved-told}
-use Rattle.searching.specs.Calls.{searchTests}
-use Rattle.searching.specs.declared.Searched.the-variants.{Seen}
-use Rattle.searching.proofs.Coincide.{searched-told}
-use Rattle.groups.proofs.Polynomials.{roots-few}
+use Rattle.table_rules.specs.Splitting.{rootsAt}
+use Rattle.table_rules.proofs.Fields.{known-field}
+use Rattle.table_rules.specs.Polynomials.{PolynomialIn}
+use Rattle.table_rules.proofs.Polynomials.{polynomial-told, passed-more, passed-first, passed-rest}
+use Rattle.table_rules.specs.Demand.{stepsAt}
+use Rattle.find_solve.specs.Calls.{solveTests}
+use Rattle.find_solve.specs.declared.Solved.the-variants.{Found}
+use Rattle.find_solve.proofs.Coincide.{solved-told}
+use Rattle.find_search.specs.Calls.{searchTests}
+use Rattle.find_search.specs.declared.Searched.the-variants.{Seen}
+use Rattle.find_search.proofs.Coincide.{searched-told}
+use Rattle.table_rules.proofs.Polynomials.{roots-few}
 use Rattle.demands.proofs.Agreement.{agree-list}
 use Rattle.demands.specs.Demand2.{valueAt, RootList, Holds, Demand2}
 

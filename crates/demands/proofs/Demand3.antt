@@ -14,36 +14,36 @@ use lib.ListN.{length, getD}
 use Rattle.refusals.specs.Order.{Passed}
 use Rattle.refusals.specs.Order.Passed.{none as none-left}
 use Rattle.refusals.proofs.Order.{accepted, written, passes, failed}
-use Rattle.slots.specs.Lists.{copied}
-use Rattle.groups.specs.Cutoff.{houseDefault, inForce}
-use Rattle.groups.specs.Layout.{byFactor}
-use Rattle.groups.specs.Splitting.{isDone, stuck, rootsAt, slotsDone, slotsStuck, slotsStepped, slotsRoots}
-use Rattle.groups.specs.Demand.{Demand3, groupsAfter}
-use Rattle.groups.proofs.HouseDefault.{inForce-least, inForce-most}
-use Rattle.groups.proofs.Layouts.{byFactor-lawful}
-use Rattle.groups.proofs.Soundness.{done-encode, stuck-encode}
-use Rattle.groups.proofs.Demand.{demand-3, begin-slots}
-use Rattle.groups.specs.Limit.{limit, slots}
-use Rattle.judging.specs.Verdicts.{stepTests}
-use Rattle.beginning.specs.Calls.{beginTests, beginMemory, Begins}
-use Rattle.beginning.specs.declared.Begun.{Begun}
-use Rattle.beginning.specs.declared.Begun.the-variants.{Ready}
-use Rattle.beginning.proofs.Coincide.{begun-told}
-use Rattle.splitter.specs.Calls.{stepOutcome, stepMemory, paperStepped, Steps}
-use Rattle.splitter.specs.declared.Stepped.{Stepped}
-use Rattle.splitter.specs.declared.Stepped.the-variants.{Taken, Done}
-use Rattle.splitter.proofs.Coincide.{stepped-told}
-use Rattle.finishing.specs.Calls.{finishTests, finishOutcome, finishMemory}
-use Rattle.finishing.specs.declared.Finished.the-variants.{Listed}
-use Rattle.finishing.proofs.Coincide.{finished-told}
-use Rattle.finder.specs.declared.Solved.the-variants.{Found}
-use Rattle.finder.proofs.Coincide.{solved-told}
-use Rattle.groups.specs.Polynomials.{PolynomialIn}
-use Rattle.groups.proofs.Polynomials.{polynomial-told, passed-more, passed-first, passed-rest}
-use Rattle.groups.specs.Demand.{stepsAt}
-use Rattle.finder.specs.Calls.{solveTests}
-use Rattle.finder.specs.Solving.{begunAfter, Stepping}
-use Rattle.finder.proofs.Running.{taken-at, begun-after, long-now, run-on, run-count, out-roots}
+use Rattle.slices.specs.Lists.{copied}
+use Rattle.table_rules.specs.Cutoff.{houseDefault, inForce}
+use Rattle.table_rules.specs.Layout.{byFactor}
+use Rattle.table_rules.specs.Splitting.{isDone, stuck, rootsAt, slotsDone, slotsStuck, slotsStepped, slotsRoots}
+use Rattle.table_rules.specs.Demand.{Demand3, groupsAfter}
+use Rattle.table_rules.proofs.HouseDefault.{inForce-least, inForce-most}
+use Rattle.table_rules.proofs.Layouts.{byFactor-lawful}
+use Rattle.table_rules.proofs.Soundness.{done-encode, stuck-encode}
+use Rattle.table_rules.proofs.Demand.{demand-3, begin-slots}
+use Rattle.table_rules.specs.Limit.{limit, slots}
+use Rattle.table_check.specs.Verdicts.{stepTests}
+use Rattle.table_begin.specs.Calls.{beginTests, beginMemory, Begins}
+use Rattle.table_begin.specs.declared.Begun.{Begun}
+use Rattle.table_begin.specs.declared.Begun.the-variants.{Ready}
+use Rattle.table_begin.proofs.Coincide.{begun-told}
+use Rattle.table_step.specs.Calls.{stepOutcome, stepMemory, paperStepped, Steps}
+use Rattle.table_step.specs.declared.Stepped.{Stepped}
+use Rattle.table_step.specs.declared.Stepped.the-variants.{Taken, Done}
+use Rattle.table_step.proofs.Coincide.{stepped-told}
+use Rattle.table_finish.specs.Calls.{finishTests, finishOutcome, finishMemory}
+use Rattle.table_finish.specs.declared.Finished.the-variants.{Listed}
+use Rattle.table_finish.proofs.Coincide.{finished-told}
+use Rattle.find_solve.specs.declared.Solved.the-variants.{Found}
+use Rattle.find_solve.proofs.Coincide.{solved-told}
+use Rattle.table_rules.specs.Polynomials.{PolynomialIn}
+use Rattle.table_rules.proofs.Polynomials.{polynomial-told, passed-more, passed-first, passed-rest}
+use Rattle.table_rules.specs.Demand.{stepsAt}
+use Rattle.find_solve.specs.Calls.{solveTests}
+use Rattle.find_solve.specs.Solving.{begunAfter, Stepping}
+use Rattle.find_solve.proofs.Running.{taken-at, begun-after, long-now, run-on, run-count, out-roots}
 use Rattle.demands.specs.Demand3.{After, Followed}
 use Rattle.demands.specs.Demand3.After.{start, call}
 

@@ -14,35 +14,35 @@ use mathlib.Core.Logic.{_↔_}
 use Prim.Native.Nat.{ℕ, suc, _+_, _≤_, _<_}
 use lib.ListN.{length, drop}
 use Rattle.refusals.specs.Order.{Given, Passed}
-use Rattle.slots.specs.Lists.{copied}
+use Rattle.slices.specs.Lists.{copied}
 use Rattle.field.specs.Field.{fieldAt, mul, inverse}
 use Rattle.field.specs.Quadratics.{paperRoots, rootsOfQuadratic}
 use Rattle.field.specs.declared.solver.Quadratic.{Quadratic}
-use Rattle.elements.specs.declared.Answer.{Answer}
-use Rattle.elements.specs.Calls.{paper, pairTests, nonzeroTests, positionTests, positionUnder}
-use Rattle.elements.specs.Calls.{TellsProduct, TellsInverse, TellsPosition, TellsQuadratic}
-use Rattle.groups.specs.Cutoff.{inForce}
-use Rattle.groups.specs.Demand.{stepsAt}
-use Rattle.groups.specs.Layout.{byFactor}
-use Rattle.groups.specs.Limit.{slots}
-use Rattle.groups.specs.Splitting.{rootsAt, slotsDone, slotsStepped, slotsBegun, slotsRoots}
-use Rattle.beginning.specs.Calls.{beginTests, paperBegun, Begins}
-use Rattle.beginning.specs.declared.Begun.{Begun}
-use Rattle.judging.specs.Verdicts.{stepTests}
-use Rattle.splitter.specs.Calls.{paperStepped, Steps}
-use Rattle.splitter.specs.declared.Stepped.{Stepped}
-use Rattle.finishing.specs.Calls.{finishTests, paperFinished, Finishes}
-use Rattle.finishing.specs.declared.Finished.{Finished}
-use Rattle.finder.specs.Calls.{solveTests, paperSolved, Solves}
-use Rattle.finder.specs.declared.Solved.{Solved}
-use Rattle.searching.specs.Calls.{searchTests, paperSearched, Searches}
-use Rattle.searching.specs.declared.Searched.{Searched}
-use Rattle.records.specs.Layout.{recordLength}
-use Rattle.records.specs.Reading.{Outcome, startTests, recordTests, ReadsAt, HandsBack, Stands}
-use Rattle.records.specs.Reading.{paper as paperRead}
-use Rattle.records.specs.declared.Read.{Read}
-use Rattle.jobs.specs.Printing.{TurnedBy}
-use Rattle.jobs.specs.declared.Turn.{Turn}
+use Rattle.field_elements.specs.declared.Answer.{Answer}
+use Rattle.field_elements.specs.Calls.{paper, pairTests, nonzeroTests, positionTests, positionUnder}
+use Rattle.field_elements.specs.Calls.{TellsProduct, TellsInverse, TellsPosition, TellsQuadratic}
+use Rattle.table_rules.specs.Cutoff.{inForce}
+use Rattle.table_rules.specs.Demand.{stepsAt}
+use Rattle.table_rules.specs.Layout.{byFactor}
+use Rattle.table_rules.specs.Limit.{slots}
+use Rattle.table_rules.specs.Splitting.{rootsAt, slotsDone, slotsStepped, slotsBegun, slotsRoots}
+use Rattle.table_begin.specs.Calls.{beginTests, paperBegun, Begins}
+use Rattle.table_begin.specs.declared.Begun.{Begun}
+use Rattle.table_check.specs.Verdicts.{stepTests}
+use Rattle.table_step.specs.Calls.{paperStepped, Steps}
+use Rattle.table_step.specs.declared.Stepped.{Stepped}
+use Rattle.table_finish.specs.Calls.{finishTests, paperFinished, Finishes}
+use Rattle.table_finish.specs.declared.Finished.{Finished}
+use Rattle.find_solve.specs.Calls.{solveTests, paperSolved, Solves}
+use Rattle.find_solve.specs.declared.Solved.{Solved}
+use Rattle.find_search.specs.Calls.{searchTests, paperSearched, Searches}
+use Rattle.find_search.specs.declared.Searched.{Searched}
+use Rattle.job_records.specs.Layout.{recordLength}
+use Rattle.job_records.specs.Reading.{Outcome, startTests, recordTests, ReadsAt, HandsBack, Stands}
+use Rattle.job_records.specs.Reading.{paper as paperRead}
+use Rattle.job_records.specs.declared.Read.{Read}
+use Rattle.job_lines.specs.Printing.{TurnedBy}
+use Rattle.job_lines.specs.declared.Turn.{Turn}
 use Rattle.corrector.specs.Correcting.{IsBlock, IsStrength, Within, distance, Corrects, paperCorrected}
 use Rattle.corrector.specs.declared.Corrected.{Corrected}
 

@@ -13,15 +13,15 @@ use lib.ListN.{length, take, drop}
 use Rattle.algebra.specs.Trial.{Ascending, Distinct}
 use Rattle.algebra.specs.Polynomial.{eval}
 use Rattle.field.specs.Field.{numbers, fieldAt}
-use Rattle.groups.specs.Splitting.{rootsAt}
-use Rattle.groups.specs.Limit.{limit}
-use Rattle.groups.specs.Demand.{stepsAt}
-use Rattle.finder.specs.Calls.{Solves}
-use Rattle.finder.specs.declared.Solved.{Solved}
-use Rattle.finder.specs.declared.Solved.the-variants.{Found}
-use Rattle.searching.specs.Calls.{Searches}
-use Rattle.searching.specs.declared.Searched.{Searched}
-use Rattle.searching.specs.declared.Searched.the-variants.{Seen}
+use Rattle.table_rules.specs.Splitting.{rootsAt}
+use Rattle.table_rules.specs.Limit.{limit}
+use Rattle.table_rules.specs.Demand.{stepsAt}
+use Rattle.find_solve.specs.Calls.{Solves}
+use Rattle.find_solve.specs.declared.Solved.{Solved}
+use Rattle.find_solve.specs.declared.Solved.the-variants.{Found}
+use Rattle.find_search.specs.Calls.{Searches}
+use Rattle.find_search.specs.declared.Searched.{Searched}
+use Rattle.find_search.specs.declared.Searched.the-variants.{Seen}
 
 abbrev pub valueAt : ℕ → List ℕ → ℕ → ℕ
 valueAt m f x = eval (numbers (fieldAt m)) f x

@@ -9,23 +9,23 @@ use mathlib.Core.Path.{_≡_}
 use mathlib.Core.List.{List}
 use Prim.Native.Nat.{ℕ, suc, _*_, _/_, _<_, _≤_}
 use lib.ListN.{length}
-use Rattle.slots.specs.Lists.{copied}
-use Rattle.groups.specs.Cutoff.{inForce}
-use Rattle.groups.specs.Layout.{byFactor}
-use Rattle.groups.specs.Table.{encode}
-use Rattle.groups.specs.Splitting.{rootsAt}
-use Rattle.groups.specs.Demand.{Demand3, groupsAfter}
-use Rattle.groups.specs.Limit.{limit, slots}
-use Rattle.groups.specs.Demand.{stepsAt}
-use Rattle.splitter.specs.Calls.{Steps}
-use Rattle.splitter.specs.declared.Stepped.{Stepped}
-use Rattle.splitter.specs.declared.Stepped.the-variants.{Taken, Done}
-use Rattle.finishing.specs.Calls.{Finishes}
-use Rattle.finishing.specs.declared.Finished.{Finished}
-use Rattle.finishing.specs.declared.Finished.the-variants.{Listed}
-use Rattle.finder.specs.Calls.{Solves}
-use Rattle.finder.specs.declared.Solved.{Solved}
-use Rattle.finder.specs.declared.Solved.the-variants.{Found}
+use Rattle.slices.specs.Lists.{copied}
+use Rattle.table_rules.specs.Cutoff.{inForce}
+use Rattle.table_rules.specs.Layout.{byFactor}
+use Rattle.table_rules.specs.Table.{encode}
+use Rattle.table_rules.specs.Splitting.{rootsAt}
+use Rattle.table_rules.specs.Demand.{Demand3, groupsAfter}
+use Rattle.table_rules.specs.Limit.{limit, slots}
+use Rattle.table_rules.specs.Demand.{stepsAt}
+use Rattle.table_step.specs.Calls.{Steps}
+use Rattle.table_step.specs.declared.Stepped.{Stepped}
+use Rattle.table_step.specs.declared.Stepped.the-variants.{Taken, Done}
+use Rattle.table_finish.specs.Calls.{Finishes}
+use Rattle.table_finish.specs.declared.Finished.{Finished}
+use Rattle.table_finish.specs.declared.Finished.the-variants.{Listed}
+use Rattle.find_solve.specs.Calls.{Solves}
+use Rattle.find_solve.specs.declared.Solved.{Solved}
+use Rattle.find_solve.specs.declared.Solved.the-variants.{Found}
 
 -- t is what n calls of step leave of the table: each is one that the contract of step admits
 pub data After (table : List ℕ) : ℕ → List ℕ → Type 0 where

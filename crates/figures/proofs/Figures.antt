@@ -20,18 +20,18 @@ use Rattle.algebra.proofs.RootList.{rootsOf-top, rootsOf-pair, other-root}
 use Rattle.refusals.specs.Order.{decide}
 use Rattle.refusals.specs.Rows.{knownIn, polyIn}
 use Rattle.refusals.proofs.Rows.{listed}
-use Rattle.slots.specs.Bounded.{allBelow}
+use Rattle.slices.specs.Bounded.{allBelow}
 use Rattle.field.specs.Field.{mul, inverse, numbers, fieldAt}
 use Rattle.field.proofs.Instance.{known-numbers}
-use Rattle.groups.specs.Cutoff.{inForceBy}
-use Rattle.groups.specs.Entries.{unlessEmpty, parts, splitAt, firstAbove, done, step, steps}
-use Rattle.groups.specs.Groups.{words, groupsAt, groupCount, sumBelow, agrees}
-use Rattle.groups.specs.Layout.{blocks, readBlocks, restBlocks}
-use Rattle.groups.specs.Table.{encode, decode}
-use Rattle.groups.specs.Splitting.{isDone, rootsAt, slotsBegun, slotsStepped, slotsAfter}
-use Rattle.groups.specs.Demand.{stepCount, groupsAfter}
-use Rattle.groups.proofs.Demand.{demand-3, steps-to-done}
-use Rattle.finder.specs.Calls.{solveOutcome}
+use Rattle.table_rules.specs.Cutoff.{inForceBy}
+use Rattle.table_rules.specs.Entries.{unlessEmpty, parts, splitAt, firstAbove, done, step, steps}
+use Rattle.table_rules.specs.Groups.{words, groupsAt, groupCount, sumBelow, agrees}
+use Rattle.table_rules.specs.Layout.{blocks, readBlocks, restBlocks}
+use Rattle.table_rules.specs.Table.{encode, decode}
+use Rattle.table_rules.specs.Splitting.{isDone, rootsAt, slotsBegun, slotsStepped, slotsAfter}
+use Rattle.table_rules.specs.Demand.{stepCount, groupsAfter}
+use Rattle.table_rules.proofs.Demand.{demand-3, steps-to-done}
+use Rattle.find_solve.specs.Calls.{solveOutcome}
 use Rattle.figures.specs.Figures.{Figure, Right, StartsWith, figures, accepted, refused, values, afterSteps}
 
 -- ---- field 11: z^2 + z, with a zero at the top. Its roots are 0 and 1, as it is 0 at 0 and the other root is 0 + 1

@@ -14,11 +14,11 @@ use Prim.Native.Nat.{ℕ, _-_}
 use lib.Dec.{eqb}
 use lib.ListN.{length, replicate}
 use Rattle.algebra.specs.Trial.{All}
-use Rattle.groups.specs.Cutoff.{inForce}
-use Rattle.groups.specs.Layout.{byFactor}
-use Rattle.groups.specs.Splitting.{rootsAt, slotsBegun, slotsAfter}
-use Rattle.groups.specs.Limit.{slots}
-use Rattle.finder.specs.Calls.{solveOutcome}
+use Rattle.table_rules.specs.Cutoff.{inForce}
+use Rattle.table_rules.specs.Layout.{byFactor}
+use Rattle.table_rules.specs.Splitting.{rootsAt, slotsBegun, slotsAfter}
+use Rattle.table_rules.specs.Limit.{slots}
+use Rattle.find_solve.specs.Calls.{solveOutcome}
 
 pub record Figure : Type 0 where
   pub m : ℕ

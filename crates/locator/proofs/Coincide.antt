@@ -5,12 +5,12 @@
 use mathlib.Core.Path.{_≡_, sym, ap, _∙_}
 use mathlib.Core.List.{List}
 use Prim.Native.Nat.{ℕ}
-use Rattle.elements.proofs.Coincide.{product-coincide, inverse-coincide, position-coincide, quadratic-coincide}
-use Rattle.finder.proofs.Coincide.{solve-coincide}
-use Rattle.searching.proofs.Coincide.{search-coincide}
-use Rattle.beginning.proofs.Coincide.{begin-coincide}
-use Rattle.splitter.proofs.Coincide.{step-coincide}
-use Rattle.finishing.proofs.Coincide.{finish-coincide}
+use Rattle.field_elements.proofs.Coincide.{product-coincide, inverse-coincide, position-coincide, quadratic-coincide}
+use Rattle.find_solve.proofs.Coincide.{solve-coincide}
+use Rattle.find_search.proofs.Coincide.{search-coincide}
+use Rattle.table_begin.proofs.Coincide.{begin-coincide}
+use Rattle.table_step.proofs.Coincide.{step-coincide}
+use Rattle.table_finish.proofs.Coincide.{finish-coincide}
 use Rattle.corrector.proofs.Coincide.{correct-coincide}
 use Rattle.locator.specs.Calls.{As, ProductAs, InverseAs, PositionAs, QuadraticAs, SolvesAs, SearchesAs, BeginsAs, StepsAs, FinishesAs, CorrectsAs}
 use Rattle.locator.specs.declared.LocatorValue.{LocatorValue}

@@ -11,24 +11,24 @@ use Rattle.refusals.proofs.Told.{told}
 use Rattle.field.specs.Quadratics.{paperRoots}
 use Rattle.field.specs.declared.solver.Quadratic.{Quadratic}
 use Rattle.field.specs.declared.solver.Quadratic.the-variants.{Refused as Turned, NoRoot, One, Two}
-use Rattle.elements.specs.Calls.{paper}
-use Rattle.elements.specs.declared.Answer.{Answer}
-use Rattle.elements.specs.declared.Answer.the-variants.{Value, Refused}
-use Rattle.finder.specs.Calls.{paperSolved}
-use Rattle.searching.specs.Calls.{paperSearched}
-use Rattle.finder.specs.declared.Solved.{Solved}
-use Rattle.finder.specs.declared.Solved.the-variants.{Found, NotSolved}
-use Rattle.searching.specs.declared.Searched.{Searched}
-use Rattle.searching.specs.declared.Searched.the-variants.{Seen, NotSearched}
-use Rattle.beginning.specs.Calls.{paperBegun}
-use Rattle.splitter.specs.Calls.{paperStepped}
-use Rattle.finishing.specs.Calls.{paperFinished}
-use Rattle.beginning.specs.declared.Begun.{Begun}
-use Rattle.beginning.specs.declared.Begun.the-variants.{Ready, NotBegun}
-use Rattle.splitter.specs.declared.Stepped.{Stepped}
-use Rattle.splitter.specs.declared.Stepped.the-variants.{Taken, Done, NotStepped}
-use Rattle.finishing.specs.declared.Finished.{Finished}
-use Rattle.finishing.specs.declared.Finished.the-variants.{Listed, NotFinished}
+use Rattle.field_elements.specs.Calls.{paper}
+use Rattle.field_elements.specs.declared.Answer.{Answer}
+use Rattle.field_elements.specs.declared.Answer.the-variants.{Value, Refused}
+use Rattle.find_solve.specs.Calls.{paperSolved}
+use Rattle.find_search.specs.Calls.{paperSearched}
+use Rattle.find_solve.specs.declared.Solved.{Solved}
+use Rattle.find_solve.specs.declared.Solved.the-variants.{Found, NotSolved}
+use Rattle.find_search.specs.declared.Searched.{Searched}
+use Rattle.find_search.specs.declared.Searched.the-variants.{Seen, NotSearched}
+use Rattle.table_begin.specs.Calls.{paperBegun}
+use Rattle.table_step.specs.Calls.{paperStepped}
+use Rattle.table_finish.specs.Calls.{paperFinished}
+use Rattle.table_begin.specs.declared.Begun.{Begun}
+use Rattle.table_begin.specs.declared.Begun.the-variants.{Ready, NotBegun}
+use Rattle.table_step.specs.declared.Stepped.{Stepped}
+use Rattle.table_step.specs.declared.Stepped.the-variants.{Taken, Done, NotStepped}
+use Rattle.table_finish.specs.declared.Finished.{Finished}
+use Rattle.table_finish.specs.declared.Finished.the-variants.{Listed, NotFinished}
 use Rattle.corrector.specs.Correcting.{paperCorrected}
 use Rattle.corrector.specs.declared.Corrected.{Corrected}
 use Rattle.corrector.specs.declared.Corrected.the-variants.{Flips, NotCorrected}

@@ -19,12 +19,12 @@ use Rattle.locator.specs.declared.LocatorFound.{LocatorFound}
 use Rattle.locator.specs.declared.LocatorStepped.{LocatorStepped}
 use Rattle.locator.specs.declared.LocatorCorrected.{LocatorCorrected}
 use Rattle.field.specs.Quadratics.{paperRoots}
-use Rattle.elements.specs.Calls.{paper, TellsProduct, TellsInverse, TellsPosition, TellsQuadratic}
-use Rattle.finder.specs.Calls.{paperSolved, Solves}
-use Rattle.searching.specs.Calls.{paperSearched, Searches}
-use Rattle.beginning.specs.Calls.{paperBegun, Begins}
-use Rattle.splitter.specs.Calls.{paperStepped, Steps}
-use Rattle.finishing.specs.Calls.{paperFinished, Finishes}
+use Rattle.field_elements.specs.Calls.{paper, TellsProduct, TellsInverse, TellsPosition, TellsQuadratic}
+use Rattle.find_solve.specs.Calls.{paperSolved, Solves}
+use Rattle.find_search.specs.Calls.{paperSearched, Searches}
+use Rattle.table_begin.specs.Calls.{paperBegun, Begins}
+use Rattle.table_step.specs.Calls.{paperStepped, Steps}
+use Rattle.table_finish.specs.Calls.{paperFinished, Finishes}
 use Rattle.corrector.specs.Correcting.{paperCorrected, Corrects}
 
 -- the value at place i of an outcome, or 0

@@ -1,12 +1,12 @@
 // What the calls answer, as the structs of the C face.
 ghost use mathlib.Core.Path.{_≡_};
 ghost use Rattle.field.specs.Quadratics.{paperRoots};
-ghost use Rattle.elements.specs.Calls.{paper};
-ghost use Rattle.finder.specs.Calls.{paperSolved};
-ghost use Rattle.searching.specs.Calls.{paperSearched};
-ghost use Rattle.beginning.specs.Calls.{paperBegun};
-ghost use Rattle.splitter.specs.Calls.{paperStepped};
-ghost use Rattle.finishing.specs.Calls.{paperFinished};
+ghost use Rattle.field_elements.specs.Calls.{paper};
+ghost use Rattle.find_solve.specs.Calls.{paperSolved};
+ghost use Rattle.find_search.specs.Calls.{paperSearched};
+ghost use Rattle.table_begin.specs.Calls.{paperBegun};
+ghost use Rattle.table_step.specs.Calls.{paperStepped};
+ghost use Rattle.table_finish.specs.Calls.{paperFinished};
 ghost use Rattle.corrector.specs.Correcting.{paperCorrected};
 ghost use Rattle.locator.specs.Calls.{asValue, asPair, asFound, asStepped, asCorrected};
 use crate::LocatorCorrected;
@@ -14,15 +14,15 @@ use crate::LocatorFound;
 use crate::LocatorPair;
 use crate::LocatorStepped;
 use crate::LocatorValue;
-use beginning::Begun;
 use corrector::Corrected;
-use elements::Answer;
 use field::solver::Quadratic;
-use finder::Solved;
-use finishing::Finished;
+use field_elements::Answer;
+use find_search::Searched;
+use find_solve::Solved;
 use refusals::number;
-use searching::Searched;
-use splitter::Stepped;
+use table_begin::Begun;
+use table_finish::Finished;
+use table_step::Stepped;
 
 // Of an element call.
 pub fn value_of(a: Answer) -> LocatorValue

@@ -49,7 +49,7 @@ pub struct LocatorCorrected {
 pub extern "C" fn locator_product(m: u16, a: u16, b: u16) -> LocatorValue
     ensures { λ r. ⌜ ProductAs m a b r ⌝ }
 {
-    answers::value_of(elements::product(m, a, b))
+    answers::value_of(field_elements::product(m, a, b))
 }
 
 // The inverse of a in the field of degree m.
@@ -57,7 +57,7 @@ pub extern "C" fn locator_product(m: u16, a: u16, b: u16) -> LocatorValue
 pub extern "C" fn locator_inverse(m: u16, a: u16) -> LocatorValue
     ensures { λ r. ⌜ InverseAs m a r ⌝ }
 {
-    answers::value_of(elements::inverse(m, a))
+    answers::value_of(field_elements::inverse(m, a))
 }
 
 // The position of a root r in the field of degree m: where the bad bit stands, under a convention.
@@ -65,7 +65,7 @@ pub extern "C" fn locator_inverse(m: u16, a: u16) -> LocatorValue
 pub extern "C" fn locator_position(m: u16, r: u16, convention: u16) -> LocatorValue
     ensures { λ j. ⌜ PositionAs m r convention j ⌝ }
 {
-    answers::value_of(elements::position(m, r, convention))
+    answers::value_of(field_elements::position(m, r, convention))
 }
 
 // The roots of z^2 + az + b in the field of degree m.
@@ -73,7 +73,7 @@ pub extern "C" fn locator_position(m: u16, r: u16, convention: u16) -> LocatorVa
 pub extern "C" fn locator_quadratic(m: u16, a: u16, b: u16) -> LocatorPair
     ensures { λ r. ⌜ QuadraticAs m a b r ⌝ }
 {
-    answers::pair_of(elements::quadratic(m, a, b))
+    answers::pair_of(field_elements::quadratic(m, a, b))
 }
 
 // The whole call.
@@ -86,7 +86,7 @@ pub extern "C" fn locator_solve(
 ) -> LocatorFound
     ensures { λ r. ⌜ SolvesAs m cutoff (now (coeffs .entry)) (now (roots .entry)) r (now (roots .exit)) ⌝ }
 {
-    answers::solved_of(finder::solve(m, coeffs, cutoff, roots))
+    answers::solved_of(find_solve::solve(m, coeffs, cutoff, roots))
 }
 
 // The plain search.
@@ -94,7 +94,7 @@ pub extern "C" fn locator_solve(
 pub extern "C" fn locator_search(m: u16, coeffs: &[u16], roots: &mut [u16]) -> LocatorFound
     ensures { λ r. ⌜ SearchesAs m (now (coeffs .entry)) (now (roots .entry)) r (now (roots .exit)) ⌝ }
 {
-    answers::searched_of(searching::search(m, coeffs, roots))
+    answers::searched_of(find_search::search(m, coeffs, roots))
 }
 
 // Begins a table: the paper's number alone.
@@ -102,7 +102,7 @@ pub extern "C" fn locator_search(m: u16, coeffs: &[u16], roots: &mut [u16]) -> L
 pub extern "C" fn locator_begin(m: u16, coeffs: &[u16], cutoff: u16, table: &mut [u16]) -> u16
     ensures { λ r. ⌜ BeginsAs m cutoff (now (coeffs .entry)) (now (table .entry)) r (now (table .exit)) ⌝ }
 {
-    answers::begun_of(beginning::begin(m, coeffs, cutoff, table))
+    answers::begun_of(table_begin::begin(m, coeffs, cutoff, table))
 }
 
 // One step of a table.
@@ -110,7 +110,7 @@ pub extern "C" fn locator_begin(m: u16, coeffs: &[u16], cutoff: u16, table: &mut
 pub extern "C" fn locator_step(table: &mut [u16]) -> LocatorStepped
     ensures { λ r. ⌜ StepsAs (now (table .entry)) r (now (table .exit)) ⌝ }
 {
-    answers::stepped_of(splitter::step(table))
+    answers::stepped_of(table_step::step(table))
 }
 
 // Finishes a table that is done.
@@ -118,7 +118,7 @@ pub extern "C" fn locator_step(table: &mut [u16]) -> LocatorStepped
 pub extern "C" fn locator_finish(table: &[u16], roots: &mut [u16]) -> LocatorFound
     ensures { λ r. ⌜ FinishesAs (now (table .entry)) (now (roots .entry)) r (now (roots .exit)) ⌝ }
 {
-    answers::finished_of(finishing::finish(table, roots))
+    answers::finished_of(table_finish::finish(table, roots))
 }
 
 // The block corrector.

@@ -15,8 +15,8 @@ use lib.Seq.{paste, length-paste, getD-take, getD-drop, take-at, drop-at}
 use borrow.Rule.Slice.PartMut.{putMid}
 use mathlib.Core.Bool.{true}
 use Rattle.algebra.specs.Polynomial.{Below}
-use Rattle.slots.specs.Bounded.{allZero}
-use Rattle.slots.proofs.Bounded.{allZero-exactly}
+use Rattle.slices.specs.Bounded.{allZero}
+use Rattle.slices.proofs.Bounded.{allZero-exactly}
 use Rattle.poly_values.proofs.Tail.{lent, back}
 use Rattle.poly_values.proofs.Image.{all-take}
 use Rattle.field.specs.Field.{Field, mul, numbers}

@@ -417,7 +417,7 @@ fn start(g: &[u64], x: [u64; 11], a: &[u16], p: &mut [u64], k: usize, n: usize)
     if k > 0 {
         let h = n / 2;
         let above = h + 1;
-        if slots::all_zero(&a[above..]) {
+        if slices::all_zero(&a[above..]) {
             let mid = h * 11;
             let one: usize = 11;
             let e = vector(g, 0);

@@ -3,13 +3,13 @@
 ghost use Prim.Native.Nat.{_+_, _≤_, _<_, _^_};
 ghost use lib.ListN.{length};
 ghost use Rattle.io.specs.Counts.{Counts};
-ghost use Rattle.records.specs.Reading.{Stands};
-ghost use Rattle.jobs.specs.Printing.{Ahead};
-use jobs::Next;
+ghost use Rattle.job_records.specs.Reading.{Stands};
+ghost use Rattle.job_lines.specs.Printing.{Ahead};
+use job_lines::Next;
+use job_records::Read;
 use libc::STDERR_FILENO;
 use libc::STDIN_FILENO;
 use libc::STDOUT_FILENO;
-use records::Read;
 
 // Places past the end of any file: reading is over, and a line could not be printed.
 const OVER: usize = usize::MAX - 1;
@@ -52,7 +52,7 @@ fn print_turn(read: Read, bytes: &[u8], k: u32) -> usize
     ensures { λ n. ⌜ Ahead read (now (bytes .entry)) n ⌝ }
 {
     let mut out = [0u8; 221];
-    let turn = jobs::take_turn(read, bytes, k, &mut out);
+    let turn = job_lines::take_turn(read, bytes, k, &mut out);
     let len = turn.len;
     if !print(&out[..len]) {
         return FAILED;
@@ -70,14 +70,14 @@ fn run(file: &[u8]) -> usize
     requires { ⌜ length (now file) ≤ 65536 ⌝ }
     ensures { λ n. ⌜ length (now (file .entry)) ≤ n ⌝ }
 {
-    let mut reader = records::held::new(file, 0);
+    let mut reader = job_records::held::new(file, 0);
     let mut at = 0;
     let mut k = 1;
     while at < file.len() {
-        let read = records::held::next(reader);
-        let bytes = records::held::bytes(reader, read);
+        let read = job_records::held::next(reader);
+        let bytes = job_records::held::bytes(reader, read);
         at = print_turn(read, bytes, k);
-        reader = records::held::moved(reader, at);
+        reader = job_records::held::moved(reader, at);
         k += 1;
     }
     at

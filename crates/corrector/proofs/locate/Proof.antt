@@ -9,10 +9,10 @@ use Rattle.corrector.proofs.locate.Tie as tie
 use Rattle.corrector.proofs.agree.Reads as agree-reads
 use Rattle.corrector.proofs.nowhere.Reads as nowhere-reads
 use Rattle.corrector.proofs.spots_of.Reads as spots-of-reads
-use Rattle.locating.proofs.all_sums.Reads as all-sums-reads
-use Rattle.locating.proofs.key.Reads as key-reads
-use Rattle.tables.proofs.named.logs11.Reads as logs11-reads
-use Rattle.tables.proofs.named.powers11.Reads as powers11-reads
+use Rattle.corrector_locator.proofs.all_sums.Reads as all-sums-reads
+use Rattle.corrector_locator.proofs.key.Reads as key-reads
+use Rattle.field_tables.proofs.constants.logs11.Reads as logs11-reads
+use Rattle.field_tables.proofs.constants.powers11.Reads as powers11-reads
 
 logs11-requires : tie.Need-logs11-requires
 logs11-requires c κs = search needs

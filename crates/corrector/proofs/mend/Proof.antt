@@ -2,7 +2,7 @@
 -- Assumes nothing.
 use denote.Ref.{now}
 use borrow.Author.Tests.{eqb-true}
-use Rattle.syndromes.proofs.Dividing.{rest-small}
+use Rattle.corrector_syndromes.proofs.Dividing.{rest-small}
 use Rattle.corrector.proofs.Outcomes.{odd-under, located-yes, clean, spotless, flipped, refused}
 use borrow.Author.Needs.{needs}
 use Rattle.corrector.proofs.mend.Statement.{statement}
@@ -10,8 +10,8 @@ use Rattle.corrector.proofs.mend.Tie as tie
 use Rattle.corrector.proofs.flip.Reads as flip-reads
 use Rattle.corrector.proofs.locate.Reads as locate-reads
 use Rattle.corrector.proofs.none.Reads as none-reads
-use Rattle.syndromes.proofs.odd_values.Reads as odd-values-reads
-use Rattle.syndromes.proofs.word_rest.Reads as word-rest-reads
+use Rattle.corrector_syndromes.proofs.odd_values.Reads as odd-values-reads
+use Rattle.corrector_syndromes.proofs.word_rest.Reads as word-rest-reads
 
 word-rest-requires : tie.Need-word-rest-requires
 word-rest-requires c κs = search needs

@@ -6,7 +6,7 @@ use Rattle.corrector.proofs.Calling.{place-value, place-never}
 use borrow.Author.Needs.{needs}
 use Rattle.corrector.proofs.place.Statement.{statement}
 use Rattle.corrector.proofs.place.Tie as tie
-use Rattle.elements.proofs.position.Reads as position-reads
+use Rattle.field_elements.proofs.position.Reads as position-reads
 
 position-requires : tie.Need-position-requires
 position-requires c κs = search needs

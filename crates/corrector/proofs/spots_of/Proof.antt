@@ -10,7 +10,7 @@ use Rattle.corrector.proofs.spots_of.Statement.{statement}
 use Rattle.corrector.proofs.spots_of.Tie as tie
 use Rattle.corrector.proofs.nowhere.Reads as nowhere-reads
 use Rattle.corrector.proofs.places_of.Reads as places-of-reads
-use Rattle.searching.proofs.search.Reads as search-reads
+use Rattle.find_search.proofs.search.Reads as search-reads
 
 slice-aggregate-search : tie.Need-slice-aggregate-search
 slice-aggregate-search c = search needs

@@ -22,7 +22,7 @@ use Rattle.poly_values.proofs.put.Reads as put-reads
 use Rattle.poly_values.proofs.spread.Reads as spread-reads
 use Rattle.poly_values.proofs.sum.Reads as sum-reads
 use Rattle.poly_values.proofs.vector.Reads as vector-reads
-use Rattle.slots.proofs.all_zero.Reads as all-zero-reads
+use Rattle.slices.proofs.all_zero.Reads as all-zero-reads
 use Rattle.poly_values.proofs.+start.{statement}
 use Rattle.poly_values.proofs.+start.Tie.{close}
 

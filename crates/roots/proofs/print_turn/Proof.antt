@@ -4,7 +4,7 @@ use mathlib.Core.Path.{sym}
 use native.Mathlib.Omega.{arith}
 use lib.Seq.{length-take-le}
 use borrow.Author.Needs.{needs}
-use Rattle.jobs.proofs.Turning.{turn-fits, turn-on}
+use Rattle.job_lines.proofs.Turning.{turn-fits, turn-on}
 use Rattle.roots.proofs.print_turn.Statement.{statement}
 use Rattle.roots.proofs.print_turn.Tie as tie
 

@@ -50,30 +50,30 @@ use denote.Triple.Table.{entered, cited}
 use denote.Triple.Walked.{says, needs, Stays, stay-none-slice, walkOf, goes-none-slice, Walks, ends-at, walked, walk-meets}
 use denote.Exit.{yes}
 use denote.Triple.Clauses.{ensured, lasts}
-use Rattle.records.specs.Reading.{paper, readAt, bytesOf, Stands}
-use Rattle.records.specs.declared.held.Reader.{Reader}
-use Rattle.records.specs.declared.Read.{Read}
-use Rattle.jobs.specs.Printing.{Ahead}
-use Rattle.records.proofs.held.Reader as T
-use Rattle.records.proofs.held.Reader.Laws as T′
-use Rattle.records.proofs.Read as S
-use Rattle.records.proofs.Read.Laws as S′
-use Rattle.records.proofs.held.new as new
-use Rattle.records.proofs.held.new.Symbol as new-def
-use Rattle.records.proofs.held.new.Symbol.{name as #records·held·new}
-use Rattle.records.proofs.held.new.Met as new-thm
-use Rattle.records.proofs.held.next as next
-use Rattle.records.proofs.held.next.Symbol as next-def
-use Rattle.records.proofs.held.next.Symbol.{name as #records·held·next}
-use Rattle.records.proofs.held.next.Met as next-thm
-use Rattle.records.proofs.held.bytes as bytes
-use Rattle.records.proofs.held.bytes.Symbol as bytes-def
-use Rattle.records.proofs.held.bytes.Symbol.{name as #records·held·bytes}
-use Rattle.records.proofs.held.bytes.Met as bytes-thm
-use Rattle.records.proofs.held.moved as moved
-use Rattle.records.proofs.held.moved.Symbol as moved-def
-use Rattle.records.proofs.held.moved.Symbol.{name as #records·held·moved}
-use Rattle.records.proofs.held.moved.Met as moved-thm
+use Rattle.job_records.specs.Reading.{paper, readAt, bytesOf, Stands}
+use Rattle.job_records.specs.declared.held.Reader.{Reader}
+use Rattle.job_records.specs.declared.Read.{Read}
+use Rattle.job_lines.specs.Printing.{Ahead}
+use Rattle.job_records.proofs.held.Reader as T
+use Rattle.job_records.proofs.held.Reader.Laws as T′
+use Rattle.job_records.proofs.Read as S
+use Rattle.job_records.proofs.Read.Laws as S′
+use Rattle.job_records.proofs.held.new as new
+use Rattle.job_records.proofs.held.new.Symbol as new-def
+use Rattle.job_records.proofs.held.new.Symbol.{name as #job-records·held·new}
+use Rattle.job_records.proofs.held.new.Met as new-thm
+use Rattle.job_records.proofs.held.next as next
+use Rattle.job_records.proofs.held.next.Symbol as next-def
+use Rattle.job_records.proofs.held.next.Symbol.{name as #job-records·held·next}
+use Rattle.job_records.proofs.held.next.Met as next-thm
+use Rattle.job_records.proofs.held.bytes as bytes
+use Rattle.job_records.proofs.held.bytes.Symbol as bytes-def
+use Rattle.job_records.proofs.held.bytes.Symbol.{name as #job-records·held·bytes}
+use Rattle.job_records.proofs.held.bytes.Met as bytes-thm
+use Rattle.job_records.proofs.held.moved as moved
+use Rattle.job_records.proofs.held.moved.Symbol as moved-def
+use Rattle.job_records.proofs.held.moved.Symbol.{name as #job-records·held·moved}
+use Rattle.job_records.proofs.held.moved.Met as moved-thm
 use Rattle.roots.proofs.print_turn as print
 use Rattle.roots.proofs.print_turn.Symbol as print-def
 use Rattle.roots.proofs.print_turn.Symbol.{name as #roots·print-turn}
@@ -102,12 +102,12 @@ turn = seq (assign (place 7 []) (rvOpd (copy (place 1 (field 1 ∷ [])))))
     (seq (assign (place 8 []) (op2 (lt unsigned) (copy (place 3 [])) (copy (place 7 []))))
     (seq (cond (copy (place 8 [])) skipᴹ (exit 1))
     (seq (assign (place 9 []) (rvOpd (copy (place 2 []))))
-    (seq (call #records·held·next (copy (place 9 []) ∷ []) (place 5 []))
+    (seq (call #job-records·held·next (copy (place 9 []) ∷ []) (place 5 []))
     (seq (assign (place 10 []) (rvOpd (copy (place 2 []))))
-    (seq (call #records·held·bytes (copy (place 10 []) ∷ copy (place 5 []) ∷ []) (place 6 []))
+    (seq (call #job-records·held·bytes (copy (place 10 []) ∷ copy (place 5 []) ∷ []) (place 6 []))
     (seq (call #roots·print-turn (copy (place 5 []) ∷ copy (place 6 []) ∷ copy (place 4 []) ∷ []) (place 3 []))
     (seq (assign (place 11 []) (rvOpd (copy (place 2 []))))
-    (seq (call #records·held·moved (copy (place 11 []) ∷ copy (place 3 []) ∷ []) (place 2 []))
+    (seq (call #job-records·held·moved (copy (place 11 []) ∷ copy (place 3 []) ∷ []) (place 2 []))
     (assign (place 4 []) (op2 (add unsigned) (copy (place 4 [])) (int w32 1))))))))))))
 
 abbrev rest : Code
@@ -121,7 +121,7 @@ function = record {
   params = 1;
   locals = local word valueLocal ∷ local slice valueLocal ∷ local reader valueLocal ∷ local word valueLocal ∷ local (tyInt w32) valueLocal ∷ local S′.mir valueLocal ∷ local part valueLocal ∷ local word valueLocal
       ∷ local tyBool valueLocal ∷ local reader valueLocal ∷ local reader valueLocal ∷ local reader valueLocal ∷ [];
-  body = seq (call #records·held·new (copy (place 1 []) ∷ int w64 0 ∷ []) (place 2 [])) (seq (assign (place 3 []) (rvOpd (int w64 0))) (seq (assign (place 4 []) (rvOpd (int w32 1))) (seq (block (loop turn)) rest)));
+  body = seq (call #job-records·held·new (copy (place 1 []) ∷ int w64 0 ∷ []) (place 2 [])) (seq (assign (place 3 []) (rvOpd (int w64 0))) (seq (assign (place 4 []) (rvOpd (int w32 1))) (seq (block (loop turn)) rest)));
 }
 
 same : code.function ≡ function
@@ -248,8 +248,8 @@ module _ {M : Type 1} (𝓤 : URA M) (H : Heap 𝓤) (A : Atoms 𝓤) (W : Given
       frame ! $ nothing ! $ move ! (1 ∷ 0 ∷ []) $ fjoin ! $ frame ! $ owned ! usize (Is usize) (uint-makes 𝓤 H A W w64) n _ (refl, fits) $ done !
 
   -- ---- the loop
-  module _ (𝓣 : Tables 𝓤 H) (fm : FmC 𝓤 H (W .laws) (𝓣 .C)) (known-next : Triple 𝓤 (𝓣 .C #records·held·next) (Next 𝓤 H A mem run)) (known-bytes : Triple 𝓤 (𝓣 .C #records·held·bytes) (Bytes 𝓤 H A mem run))
-      (known-print : Triple 𝓤 (𝓣 .C #roots·print-turn) (Print 𝓤 H A mem run)) (known-moved : Triple 𝓤 (𝓣 .C #records·held·moved) (Moved 𝓤 H A mem run))
+  module _ (𝓣 : Tables 𝓤 H) (fm : FmC 𝓤 H (W .laws) (𝓣 .C)) (known-next : Triple 𝓤 (𝓣 .C #job-records·held·next) (Next 𝓤 H A mem run)) (known-bytes : Triple 𝓤 (𝓣 .C #job-records·held·bytes) (Bytes 𝓤 H A mem run))
+      (known-print : Triple 𝓤 (𝓣 .C #roots·print-turn) (Print 𝓤 H A mem run)) (known-moved : Triple 𝓤 (𝓣 .C #job-records·held·moved) (Moved 𝓤 H A mem run))
       (pt : Holds (hasTy slice v) × WT v) (small : len ≤ 65536) (l₀ l₁ l₂ l₃ l₄ l₅ l₆ l₇ l₈ l₉ l₁₀ l₁₁ : ℕ) where
     abbrev C : Calls 𝓤 H
     C = 𝓣 .C
@@ -396,8 +396,8 @@ module _ {M : Type 1} (𝓤 : URA M) (H : Heap 𝓤) (A : Atoms 𝓤) (W : Given
         (loop-rule 𝓤 H (W .laws) 𝓣 _<_ (Nat·lt-wfRel .wf) En turn Left Inv turns len)
 
   -- the MIR, up to the loop
-  walk : (𝓣 : Tables 𝓤 H) → FmC 𝓤 H (W .laws) (𝓣 .C) → Triple 𝓤 (𝓣 .C #records·held·new) (New 𝓤 H A mem run) → Triple 𝓤 (𝓣 .C #records·held·next) (Next 𝓤 H A mem run) → Triple 𝓤 (𝓣 .C #records·held·bytes) (Bytes 𝓤 H A mem run)
-      → Triple 𝓤 (𝓣 .C #roots·print-turn) (Print 𝓤 H A mem run) → Triple 𝓤 (𝓣 .C #records·held·moved) (Moved 𝓤 H A mem run) → Is P s (v ∷ []) → len ≤ 65536
+  walk : (𝓣 : Tables 𝓤 H) → FmC 𝓤 H (W .laws) (𝓣 .C) → Triple 𝓤 (𝓣 .C #job-records·held·new) (New 𝓤 H A mem run) → Triple 𝓤 (𝓣 .C #job-records·held·next) (Next 𝓤 H A mem run) → Triple 𝓤 (𝓣 .C #job-records·held·bytes) (Bytes 𝓤 H A mem run)
+      → Triple 𝓤 (𝓣 .C #roots·print-turn) (Print 𝓤 H A mem run) → Triple 𝓤 (𝓣 .C #job-records·held·moved) (Moved 𝓤 H A mem run) → Is P s (v ∷ []) → len ≤ 65536
       → ent 𝓤 (onEntry 𝓤 H A ran.signature (κ, tt) (q, tt) (s, tt) at) (WpFn 𝓤 H (𝓣 .C) (𝓣 .Λ) function (v ∷ []) Post)
   walk 𝓣 fm known-new known-next known-bytes known-print known-moved p small =
       qed W (raw (onEntry 𝓤 H A ran.signature (κ, tt) (q, tt) (s, tt) at) ∷ []) ∵ enter ! (𝓣 .C) (𝓣 .Λ) function (v ∷ []) _ $
@@ -414,9 +414,9 @@ module _ {M : Type 1} (𝓤 : URA M) (H : Heap 𝓤) (A : Atoms 𝓤) (W : Given
       keep ! (0 ∷ 1 ∷ 2 ∷ 21 ∷ 19 ∷ 17 ∷ 23 ∷ 15 ∷ 13 ∷ 11 ∷ 9 ∷ 7 ∷ 5 ∷ 3 ∷ 25 ∷ 26 ∷ 24 ∷ 22 ∷ 20 ∷ 18 ∷ 16 ∷ 14 ∷ 12 ∷ 10 ∷ 8 ∷ 6 ∷ 4 ∷ []) $
       by ! (loops 𝓣 fm known-next known-bytes known-print known-moved (shr-slice-lawful 𝓤 H A W (named 0) κ u8 .typed s (v ∷ []) p .0) small l₀ l₁ l₂ l₃ l₄ l₅ l₆ l₇ l₈ l₉ l₁₀ l₁₁ r u e)))))))))))))))))
 
-module _ {M : Type 1} (𝓤 : URA M) (H : Heap 𝓤) (A : Atoms 𝓤) (W : Given 𝓤 H A) (mem : Memory → SProp 𝓤) (run : Routine → Fun 𝓤) (𝓣 : Tables 𝓤 H) (known-new : Triple 𝓤 (𝓣 .C #records·held·new) (New 𝓤 H A mem run))
-    (known-next : Triple 𝓤 (𝓣 .C #records·held·next) (Next 𝓤 H A mem run)) (known-bytes : Triple 𝓤 (𝓣 .C #records·held·bytes) (Bytes 𝓤 H A mem run)) (known-print : Triple 𝓤 (𝓣 .C #roots·print-turn) (Print 𝓤 H A mem run))
-    (known-moved : Triple 𝓤 (𝓣 .C #records·held·moved) (Moved 𝓤 H A mem run)) where
+module _ {M : Type 1} (𝓤 : URA M) (H : Heap 𝓤) (A : Atoms 𝓤) (W : Given 𝓤 H A) (mem : Memory → SProp 𝓤) (run : Routine → Fun 𝓤) (𝓣 : Tables 𝓤 H) (known-new : Triple 𝓤 (𝓣 .C #job-records·held·new) (New 𝓤 H A mem run))
+    (known-next : Triple 𝓤 (𝓣 .C #job-records·held·next) (Next 𝓤 H A mem run)) (known-bytes : Triple 𝓤 (𝓣 .C #job-records·held·bytes) (Bytes 𝓤 H A mem run)) (known-print : Triple 𝓤 (𝓣 .C #roots·print-turn) (Print 𝓤 H A mem run))
+    (known-moved : Triple 𝓤 (𝓣 .C #job-records·held·moved) (Moved 𝓤 H A mem run)) where
   run-walks : Walks 𝓤 H A ran.ended stayed (WpFn 𝓤 H (𝓣 .C) (𝓣 .Λ) function) (ran.clauses 𝓤 H A mem run)
   run-walks = walked 𝓤 H A ran.ended stayed (ran.clauses 𝓤 H A mem run) (WpFn 𝓤 H (𝓣 .C) (𝓣 .Λ) function) (λ κs. (slice-vals, tt)) (λ κs. (shr-slice-tells (named 0) (κs .0) u8, tt))
       (λ κs qs bounds a g are. needs 𝓤 (length (now (a .0)) ≤ 65536) _ (λ small.
@@ -434,8 +434,8 @@ run-spec 𝓤 H 𝓜 𝓖 𝓡 =
     entered 𝓤 H (tripleOf 𝓤 H (𝓖 .A) ran.signature (ran.spec 𝓤 H (𝓖 .A) (𝓜 .mem) (𝓡 .run)))
     (tables 𝓤 H 𝓜 𝓡 code.env .C) (tables 𝓤 H 𝓜 𝓡 code.env .Λ) #roots·run code.function (code.unfolded 𝓤 H 𝓜 𝓡)
     (run-meets 𝓤 H (𝓖 .A) (givenOf 𝓤 H 𝓜 𝓖) (𝓜 .mem) (𝓡 .run) (tablesOf 𝓤 H 𝓜 (tables 𝓤 H 𝓜 𝓡 code.env))
-    (cited 𝓤 H (New 𝓤 H (𝓖 .A) (𝓜 .mem) (𝓡 .run)) 𝓜 𝓡 code.env #records·held·new new-def.routine code.calls-records·held·new (new-thm.met 𝓤 H 𝓜 𝓖 𝓡))
-    (cited 𝓤 H (Next 𝓤 H (𝓖 .A) (𝓜 .mem) (𝓡 .run)) 𝓜 𝓡 code.env #records·held·next next-def.routine code.calls-records·held·next (next-thm.met 𝓤 H 𝓜 𝓖 𝓡))
-    (cited 𝓤 H (Bytes 𝓤 H (𝓖 .A) (𝓜 .mem) (𝓡 .run)) 𝓜 𝓡 code.env #records·held·bytes bytes-def.routine code.calls-records·held·bytes (bytes-thm.met 𝓤 H 𝓜 𝓖 𝓡))
+    (cited 𝓤 H (New 𝓤 H (𝓖 .A) (𝓜 .mem) (𝓡 .run)) 𝓜 𝓡 code.env #job-records·held·new new-def.routine code.calls-job-records·held·new (new-thm.met 𝓤 H 𝓜 𝓖 𝓡))
+    (cited 𝓤 H (Next 𝓤 H (𝓖 .A) (𝓜 .mem) (𝓡 .run)) 𝓜 𝓡 code.env #job-records·held·next next-def.routine code.calls-job-records·held·next (next-thm.met 𝓤 H 𝓜 𝓖 𝓡))
+    (cited 𝓤 H (Bytes 𝓤 H (𝓖 .A) (𝓜 .mem) (𝓡 .run)) 𝓜 𝓡 code.env #job-records·held·bytes bytes-def.routine code.calls-job-records·held·bytes (bytes-thm.met 𝓤 H 𝓜 𝓖 𝓡))
     (cited 𝓤 H (Print 𝓤 H (𝓖 .A) (𝓜 .mem) (𝓡 .run)) 𝓜 𝓡 code.env #roots·print-turn print-def.routine code.calls-roots·print-turn (print-thm.met 𝓤 H 𝓜 𝓖 𝓡))
-    (cited 𝓤 H (Moved 𝓤 H (𝓖 .A) (𝓜 .mem) (𝓡 .run)) 𝓜 𝓡 code.env #records·held·moved moved-def.routine code.calls-records·held·moved (moved-thm.met 𝓤 H 𝓜 𝓖 𝓡)))
+    (cited 𝓤 H (Moved 𝓤 H (𝓖 .A) (𝓜 .mem) (𝓡 .run)) 𝓜 𝓡 code.env #job-records·held·moved moved-def.routine code.calls-job-records·held·moved (moved-thm.met 𝓤 H 𝓜 𝓖 𝓡)))

@@ -3,8 +3,8 @@
 use mathlib.Core.Path.{sym, ap, _∙_}
 use mathlib.Core.List.{[]}
 use Prim.Native.Nat.{ℕ}
-use Rattle.finishing.specs.Calls.{paperFinished}
-use Rattle.finishing.specs.declared.Finished.{Finished}
+use Rattle.table_finish.specs.Calls.{paperFinished}
+use Rattle.table_finish.specs.declared.Finished.{Finished}
 use Rattle.locator.specs.Calls.{asFound}
 use borrow.Author.Needs.{needs}
 use Rattle.locator.proofs.answers.finished_of.Statement.{statement}

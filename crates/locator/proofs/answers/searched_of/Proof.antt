@@ -3,8 +3,8 @@
 use mathlib.Core.Path.{sym, ap, _∙_}
 use mathlib.Core.List.{[]}
 use Prim.Native.Nat.{ℕ}
-use Rattle.searching.specs.Calls.{paperSearched}
-use Rattle.searching.specs.declared.Searched.{Searched}
+use Rattle.find_search.specs.Calls.{paperSearched}
+use Rattle.find_search.specs.declared.Searched.{Searched}
 use Rattle.locator.specs.Calls.{asFound}
 use borrow.Author.Needs.{needs}
 use Rattle.locator.proofs.answers.searched_of.Statement.{statement}

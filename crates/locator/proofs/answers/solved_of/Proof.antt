@@ -3,8 +3,8 @@
 use mathlib.Core.Path.{sym, ap, _∙_}
 use mathlib.Core.List.{[]}
 use Prim.Native.Nat.{ℕ}
-use Rattle.finder.specs.Calls.{paperSolved}
-use Rattle.finder.specs.declared.Solved.{Solved}
+use Rattle.find_solve.specs.Calls.{paperSolved}
+use Rattle.find_solve.specs.declared.Solved.{Solved}
 use Rattle.locator.specs.Calls.{asFound}
 use borrow.Author.Needs.{needs}
 use Rattle.locator.proofs.answers.solved_of.Statement.{statement}

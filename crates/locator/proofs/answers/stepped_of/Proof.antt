@@ -3,8 +3,8 @@
 use mathlib.Core.Path.{sym, ap, _∙_}
 use mathlib.Core.List.{[]}
 use Prim.Native.Nat.{ℕ}
-use Rattle.splitter.specs.Calls.{paperStepped}
-use Rattle.splitter.specs.declared.Stepped.{Stepped}
+use Rattle.table_step.specs.Calls.{paperStepped}
+use Rattle.table_step.specs.declared.Stepped.{Stepped}
 use Rattle.locator.specs.Calls.{asStepped}
 use borrow.Author.Needs.{needs}
 use Rattle.locator.proofs.answers.stepped_of.Statement.{statement}

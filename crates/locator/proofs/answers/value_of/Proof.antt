@@ -3,8 +3,8 @@
 use mathlib.Core.Path.{sym, ap, _∙_}
 use mathlib.Core.List.{[]}
 use Prim.Native.Nat.{ℕ}
-use Rattle.elements.specs.Calls.{paper}
-use Rattle.elements.specs.declared.Answer.{Answer}
+use Rattle.field_elements.specs.Calls.{paper}
+use Rattle.field_elements.specs.declared.Answer.{Answer}
 use Rattle.locator.specs.Calls.{asValue}
 use borrow.Author.Needs.{needs}
 use Rattle.locator.proofs.answers.value_of.Statement.{statement}

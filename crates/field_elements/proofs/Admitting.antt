@@ -1,0 +1,116 @@
+-- The tests of the element calls: which refusal the code's tests show, and what is known where all pass.
+--   pair-outside, pair-in, pair-told   the tests on two elements
+--   row-field                          the field of a row
+--   one-outside, one-zero, one-in, one-told   the tests on one element that must not be 0
+--   place-tests, place-told            the tests of a position
+-- Assumes nothing.
+use mathlib.Core.Path.{_≡_, refl, sym, ap, subst, _∙_}
+use mathlib.Core.Bool.{Bool, true, false, not, _||_}
+use mathlib.Core.List.{List, [], _∷_}
+use mathlib.Core.Logic.{_⊎_, inl, inr}
+use Prim.Native.Nat.{ℕ, _≤_, _<_, _^_}
+use native.Mathlib.Omega.{arith}
+use borrow.Author.Tests.{le-leb, lt-leb, leb-false, eq-eqb, ne-eqb, eqb-false, not-false}
+use lib.Dec.{eqb, leb, ltb}
+use Rattle.refusals.specs.Order.{Given, Passed}
+use Rattle.refusals.specs.Order.Passed.{none}
+use Rattle.refusals.specs.Rows.{known, IsRow}
+use Rattle.refusals.specs.Admitting.{Admits, behind}
+use Rattle.refusals.specs.declared.Row.{Row}
+use Rattle.refusals.specs.declared.Refusal.the-variants.{Element, OfZero, Convention}
+use Rattle.refusals.specs.declared.Admission.{Admission}
+use Rattle.refusals.specs.declared.Admission.the-variants.{In}
+use Rattle.refusals.proofs.Order.{holds, fails, passes, failed, others}
+use Rattle.refusals.proofs.Admitting.{listed-on, admits-also}
+use Rattle.field.specs.Field.{fieldOf, fieldAt}
+use Rattle.field_elements.specs.Calls.{outside, pairTests, nonzeroTests, positionTests}
+
+outside-on : {m a : ℕ} {row : Row} → IsRow m row → row .size ≤ a → outside m a ≡ true
+outside-on {m} {a} i h = le-leb (2 ^ m) a (subst (λ (n : ℕ). n ≤ a) (i .size) h)
+
+inside-on : {m a : ℕ} {row : Row} → IsRow m row → (a < row .size) → outside m a ≡ false
+inside-on {m} {a} i h = lt-leb (2 ^ m) a (subst (λ (n : ℕ). a < n) (i .size) h)
+
+-- one of two that hold, and two that fail
+or-left : {b : Bool} (c : Bool) → b ≡ true → (b || c) ≡ true
+or-left c e = rw e refl
+
+or-second : {b c : Bool} (d : Bool) → b ≡ false → c ≡ d → (b || c) ≡ d
+or-second d e f = rw e f
+
+or-failed : (b c : Bool) → (b || c) ≡ false → (b ≡ false) × (c ≡ false)
+or-failed true c e = absurd (let z : _≡_ {A = Bool} true false = e in let n : _≡_ {A = ℕ} 0 1 = cc in let x : ⊥ = omega arith in x)
+or-failed false c e = (refl, e)
+
+-- ---- two elements
+pub pair-outside : {m a b : ℕ} {row : Row} → IsRow m row → (row .size ≤ a) ⊎ ((a < row .size) × (row .size ≤ b)) → Given 4 (pairTests m a b)
+pair-outside i (inl h) = fails (listed-on i) (holds (or-left _ (outside-on i h)))
+pair-outside i (inr h) = fails (listed-on i) (holds (or-second true (inside-on i (h .0)) (outside-on i (h .1))))
+
+pub pair-in : {m a b : ℕ} {row : Row} → IsRow m row → (a < row .size) → (b < row .size) → Passed (pairTests m a b)
+pair-in i h k = passes (listed-on i) (passes (or-second false (inside-on i h) (inside-on i k)) none)
+
+-- what is known of two elements that were let in
+pub record PairIn (m a b : ℕ) : Type 0 where
+  pub field : known m ≡ true
+  pub first : a < 2 ^ m
+  pub second : b < 2 ^ m
+
+pub pair-told : {m a b : ℕ} → Passed (pairTests m a b) → PairIn m a b
+pair-told {m} {a} {b} p =
+    let o = or-failed (outside m a) (outside m b) (failed (others p)) in
+    record { field = not-false (known m) (failed p); first = leb-false (2 ^ m) a (o .0); second = leb-false (2 ^ m) b (o .1) }
+
+-- ---- one element that must not be 0
+pub one-outside : {m a : ℕ} {row : Row} → IsRow m row → row .size ≤ a → Given 4 (nonzeroTests m a)
+one-outside i h = fails (listed-on i) (holds (outside-on i h))
+
+pub one-zero : {m a : ℕ} {row : Row} → IsRow m row → (a < row .size) → a ≡ 0 → Given 13 (nonzeroTests m a)
+one-zero {a = a} i h z = fails (listed-on i) (fails (inside-on i h) (holds (eq-eqb a 0 z)))
+
+pub one-in : {m a : ℕ} {row : Row} → IsRow m row → (a < row .size) → (a ≡ 0 → ⊥) → Passed (nonzeroTests m a)
+one-in {a = a} i h z = passes (listed-on i) (passes (inside-on i h) (passes (ne-eqb a 0 z) none))
+
+-- what is known of an element that was let in
+pub record OneIn (m a : ℕ) : Type 0 where
+  pub field : known m ≡ true
+  pub positive : 0 < a
+  pub below : a < 2 ^ m
+
+pub one-told : {m a : ℕ} → Passed (nonzeroTests m a) → OneIn m a
+one-told {m} {a} p =
+    record {
+      field = not-false (known m) (failed p);
+      positive = let n = eqb-false a 0 (failed (others (others p))) in omega arith;
+      below = leb-false (2 ^ m) a (failed (others p));
+    }
+
+-- ---- a position
+-- the tests behind that of the field, as the code makes them
+pub place-tests : {m : ℕ} (r v : ℕ) {row : Row} {told within all : Admission} → IsRow m row
+    → told ≡ behind (In row) (ltb 1 v) Convention
+    → within ≡ behind told (leb (row .size) r) Element
+    → all ≡ behind within (eqb r 0) OfZero
+    → Admits (positionTests m r v) m all
+place-tests {m} r v {row} {told} {within} i f g h =
+    let one : List (ℕ × Bool) = (1, not (known m)) ∷ [] in
+    let two : List (ℕ × Bool) = (1, not (known m)) ∷ (21, ltb 1 v) ∷ [] in
+    let three : List (ℕ × Bool) = (1, not (known m)) ∷ (21, ltb 1 v) ∷ (4, outside m r) ∷ [] in
+    let size = ap (λ (n : ℕ). behind told (leb n r) Element) (i .size) in
+    let first : Admits one m (In row) = (passes (listed-on i) none, i) in
+    let second = admits-also one m (In row) (ltb 1 v) Convention f first in
+    let third = admits-also two m told (outside m r) Element (g ∙ size) second in
+    admits-also three m within (eqb r 0) OfZero h third
+
+-- what is known of an element and a convention that were let in
+pub place-told : {m a : ℕ} (v : ℕ) → Passed (positionTests m a v) → OneIn m a
+place-told {m} {a} v p =
+    record {
+      field = not-false (known m) (failed p);
+      positive = let n = eqb-false a 0 (failed (others (others (others p)))) in omega arith;
+      below = leb-false (2 ^ m) a (failed (others (others p)));
+    }
+
+-- the field of a row is that of its degree
+pub row-field : {m : ℕ} {row : Row} → IsRow m row → fieldOf m (row .poly) ≡ fieldAt m
+row-field {m} i = ap (fieldOf m) (sym (i .list .poly))

@@ -1,0 +1,59 @@
+-- Two outcomes that a contract of an element call admits coincide: an answer is told by the paper's number and values.
+--   answer-told, roots-told   two answers with one number and one list of values are one
+--   product-coincide ..       so for each call
+-- Assumes nothing.
+use mathlib.Core.Path.{_≡_, sym, _∙_}
+use mathlib.Core.List.{List, [], _∷_}
+use Prim.Native.Nat.{ℕ}
+use lib.ListN.{getD}
+use Rattle.refusals.proofs.Numbers.{by-number, refused-back, accepted-back}
+use Rattle.refusals.proofs.Told.{told}
+use Rattle.field.specs.Quadratics.{paperRoots}
+use Rattle.field_elements.specs.Calls.{paper, TellsProduct, TellsInverse, TellsPosition, TellsQuadratic}
+use Rattle.field_elements.specs.declared.Answer.{Answer}
+use Rattle.field_elements.specs.declared.Answer.the-variants.{Value, Refused}
+use Rattle.field.specs.declared.solver.Quadratic.{Quadratic}
+use Rattle.field.specs.declared.solver.Quadratic.the-variants.{Refused as Turned, NoRoot, One, Two}
+
+-- the answer that the paper's number and values stand for
+answerOf : ℕ × List ℕ → Answer
+answerOf o = by-number Refused (Value (getD (o .1) 0 0)) (o .0)
+
+answer-back : (r : Answer) → answerOf (paper r) ≡ r
+unfolding answerOf
+answer-back (Value v) = accepted-back Refused (Value v)
+answer-back (Refused k) = refused-back Refused (Value 0) k
+
+pub answer-told : (r s : Answer) → paper r ≡ paper s → r ≡ s
+answer-told = told paper answerOf answer-back
+
+rootsFrom : List ℕ → Quadratic
+rootsFrom [] = NoRoot
+rootsFrom (x ∷ []) = One x
+rootsFrom (x ∷ y ∷ l) = Two x y
+
+rootsAnswer : ℕ × List ℕ → Quadratic
+rootsAnswer o = by-number Turned (rootsFrom (o .1)) (o .0)
+
+roots-back : (r : Quadratic) → rootsAnswer (paperRoots r) ≡ r
+unfolding rootsAnswer rootsFrom
+roots-back (Turned k) = refused-back Turned NoRoot k
+roots-back NoRoot = accepted-back Turned NoRoot
+roots-back (One x) = accepted-back Turned (One x)
+roots-back (Two x y) = accepted-back Turned (Two x y)
+
+pub roots-told : (r s : Quadratic) → paperRoots r ≡ paperRoots s → r ≡ s
+roots-told = told paperRoots rootsAnswer roots-back
+
+pub product-coincide : (m a b : ℕ) (r s : Answer) → TellsProduct m a b r → TellsProduct m a b s → r ≡ s
+product-coincide m a b r s h k = answer-told r s (h ∙ sym k)
+
+pub inverse-coincide : (m a : ℕ) (r s : Answer) → TellsInverse m a r → TellsInverse m a s → r ≡ s
+inverse-coincide m a r s h k = answer-told r s (h ∙ sym k)
+
+pub position-coincide : (m x convention : ℕ) (r s : Answer)
+    → TellsPosition m x convention r → TellsPosition m x convention s → r ≡ s
+position-coincide m x convention r s h k = answer-told r s (h ∙ sym k)
+
+pub quadratic-coincide : (m a b : ℕ) (r s : Quadratic) → TellsQuadratic m a b r → TellsQuadratic m a b s → r ≡ s
+quadratic-coincide m a b r s h k = roots-told r s (h ∙ sym k)

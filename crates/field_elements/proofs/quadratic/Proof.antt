@@ -1,0 +1,32 @@
+-- `field_elements::quadratic` meets its contract: the tests decide, and the value is that of the shared routine.
+-- Assumes nothing.
+use mathlib.Core.Path.{sym, _∙_}
+use borrow.Author.Needs.{needs}
+use Rattle.refusals.proofs.Admitting.{let-in, turned-away}
+use Rattle.field_elements.proofs.Admitting.{pair-told}
+use Rattle.refusals.proofs.Order.{refused, accepted}
+use Rattle.field_elements.proofs.quadratic.Statement.{statement}
+use Rattle.field_elements.proofs.quadratic.Tie as tie
+
+admit-pair-requires : tie.Need-admit-pair-requires
+admit-pair-requires c κs = search needs
+
+enum-known-k : tie.Need-enum-known-k
+enum-known-k c = search needs
+
+enum-told : tie.Need-enum-told
+enum-told c = search needs
+
+roots-in-requires : tie.Need-roots-in-requires
+roots-in-requires c κs =
+    let i = let-in (c .before .before .admit-pair .ensures) (c .enum-told .given .1) in let t = pair-told (i .0) in (t .field, t .first, t .second)
+
+returns : tie.Need-returns
+returns c = sym (refused _ (turned-away _ (c .before .before .before .admit-pair .ensures) (c .before .k .given .1)))
+
+returns-2 : tie.Need-returns-2
+returns-2 c =
+    let i = let-in (c .before .before .before .admit-pair .ensures) (c .before .enum-told .given .1) in c .roots-in .ensures ∙ sym (accepted _ (i .0))
+
+pub quadratic-spec : {M : Type 1} → statement M
+quadratic-spec = tie.close (tie.spec admit-pair-requires enum-known-k enum-told roots-in-requires returns returns-2)

@@ -1,0 +1,117 @@
+// The public element calls: product, inverse, position, quadratic. Each answers every input.
+ghost use Rattle.field_elements.specs.Calls.{TellsProduct, TellsInverse, TellsPosition, TellsQuadratic};
+ghost use Rattle.field_elements.specs.Calls.{pairTests, nonzeroTests, positionTests};
+ghost use Rattle.refusals.specs.Admitting.{Admits};
+use field::solver::Quadratic;
+use field_tables::field_types::inverse_in;
+use field_tables::field_types::position_in;
+use field_tables::field_types::product_in;
+use field_tables::field_types::roots_in;
+use refusals::Admission;
+use refusals::Found;
+use refusals::Refusal;
+use refusals::also;
+
+// What an element call answers: a value, or what is turned away.
+pub enum Answer {
+    Value(u16),
+    Refused(Refusal),
+}
+
+// The tests of the calls on two elements.
+fn admit_pair(m: u16, a: u16, b: u16) -> Admission
+    ensures { λ r. ⌜ Admits (pairTests m a b) m r ⌝ }
+{
+    let found = refusals::row_of(m);
+    let Found::At(row) = found else {
+        return Admission::Out(Refusal::Field);
+    };
+    if row.size <= a {
+        return Admission::Out(Refusal::Element);
+    }
+    if row.size <= b {
+        return Admission::Out(Refusal::Element);
+    }
+    Admission::In(row)
+}
+
+// The tests of the calls on one element that must not be 0.
+fn admit_nonzero(m: u16, a: u16) -> Admission
+    ensures { λ r. ⌜ Admits (nonzeroTests m a) m r ⌝ }
+{
+    let found = refusals::row_of(m);
+    let Found::At(row) = found else {
+        return Admission::Out(Refusal::Field);
+    };
+    if row.size <= a {
+        return Admission::Out(Refusal::Element);
+    }
+    if a == 0 {
+        return Admission::Out(Refusal::OfZero);
+    }
+    Admission::In(row)
+}
+
+// The product of a and b in the field of degree m.
+pub fn product(m: u16, a: u16, b: u16) -> Answer
+    ensures { λ r. ⌜ TellsProduct m a b r ⌝ }
+{
+    match admit_pair(m, a, b) {
+        Admission::Out(k) => Answer::Refused(k),
+        Admission::In(_) => Answer::Value(product_in(m, a, b)),
+    }
+}
+
+// The inverse of a in the field of degree m.
+pub fn inverse(m: u16, a: u16) -> Answer
+    ensures { λ r. ⌜ TellsInverse m a r ⌝ }
+{
+    match admit_nonzero(m, a) {
+        Admission::Out(k) => Answer::Refused(k),
+        Admission::In(_) => Answer::Value(inverse_in(m, a)),
+    }
+}
+
+// The tests of the position call, each behind those before it.
+fn admit_position(m: u16, r: u16, convention: u16) -> Admission
+    ensures { λ a. ⌜ Admits (positionTests m r convention) m a ⌝ }
+{
+    let found = refusals::row_of(m);
+    let Found::At(row) = found else {
+        return Admission::Out(Refusal::Field);
+    };
+    let size = row.size;
+    let told = also(Admission::In(row), 1 < convention, Refusal::Convention);
+    let within = also(told, size <= r, Refusal::Element);
+    also(within, r == 0, Refusal::OfZero)
+}
+
+// The position of a root r in the field of degree m: where the bad bit stands. Under convention 0 (Goppa locators,
+// products of z + X) the root 2^j stands for place j; under 1 (recorders, products of 1 + X z) for its mirror image
+// among the 2^m - 1 places, and place 0 stays 0.
+pub fn position(m: u16, r: u16, convention: u16) -> Answer
+    ensures { λ j. ⌜ TellsPosition m r convention j ⌝ }
+{
+    match admit_position(m, r, convention) {
+        Admission::Out(k) => Answer::Refused(k),
+        Admission::In(row) => {
+            let j = position_in(m, r);
+            if convention == 0 {
+                return Answer::Value(j);
+            }
+            let size = row.size;
+            let order = size - 1;
+            Answer::Value((order - j) % order)
+        }
+    }
+}
+
+// The roots of z^2 + az + b in the field of degree m.
+pub fn quadratic(m: u16, a: u16, b: u16) -> Quadratic
+    ensures { λ r. ⌜ TellsQuadratic m a b r ⌝ }
+{
+    match admit_pair(m, a, b) {
+        Admission::Out(k) => Quadratic::Refused(k),
+        Admission::In(_) => roots_in(m, a, b),
+    }
+}

@@ -1,0 +1,15 @@
+-- `field_tables::constants::logs11` meets its contract: one test over the whole table.
+-- Assumes nothing.
+use Rattle.refusals.specs.Rows.{polyIn}
+use Rattle.refusals.proofs.Rows.{row11}
+use Rattle.field.proofs.Generator.{generated}
+use Rattle.field.proofs.Logarithms.{logTest, logs-hold}
+use Rattle.field_tables.proofs.constants.logs11.Statement.{statement}
+use Rattle.field_tables.proofs.constants.logs11.Tie as tie
+
+returns : tie.Need-returns
+unfolding polyIn logTest
+returns c = logs-hold _ (generated row11) _ tt
+
+pub logs11-spec : {M : Type 1} → statement M
+logs11-spec = tie.close (tie.spec returns)

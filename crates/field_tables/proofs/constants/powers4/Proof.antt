@@ -1,0 +1,15 @@
+-- `field_tables::constants::powers4` meets its contract: one test over the whole table.
+-- Assumes nothing.
+use Rattle.refusals.specs.Rows.{polyIn}
+use Rattle.refusals.proofs.Rows.{row4}
+use Rattle.field.proofs.Generator.{generated}
+use Rattle.field.proofs.Logarithms.{powerTest, powers-hold}
+use Rattle.field_tables.proofs.constants.powers4.Statement.{statement}
+use Rattle.field_tables.proofs.constants.powers4.Tie as tie
+
+returns : tie.Need-returns
+unfolding polyIn powerTest
+returns c = powers-hold _ (generated row4) _ tt
+
+pub powers4-spec : {M : Type 1} → statement M
+powers4-spec = tie.close (tie.spec returns)

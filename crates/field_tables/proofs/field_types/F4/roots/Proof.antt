@@ -1,0 +1,24 @@
+-- `field_tables::field_types::F4::roots` meets its contract: the table is the quadratic table.
+-- Assumes nothing.
+use borrow.Author.Needs.{needs}
+use Rattle.refusals.specs.Rows.{polyIn}
+use Rattle.refusals.proofs.Rows.{row4}
+use Rattle.field_tables.proofs.field_types.F4.roots.Statement.{statement}
+use Rattle.field_tables.proofs.field_types.F4.roots.Tie as tie
+
+halves4-requires : tie.Need-halves4-requires
+halves4-requires c κs = search needs
+
+slice-aggregate-quadratic-of : tie.Need-slice-aggregate-quadratic-of
+slice-aggregate-quadratic-of c = search needs
+
+quadratic-of-requires : tie.Need-quadratic-of-requires
+unfolding polyIn
+quadratic-of-requires c κs = (row4, c .before .halves4 .ensures, c .before .before .pre .0, c .before .before .pre .1)
+
+returns : tie.Need-returns
+unfolding polyIn
+returns c = c .quadratic-of .ensures
+
+pub roots-spec : {M : Type 1} → statement M
+roots-spec = tie.close (tie.spec halves4-requires slice-aggregate-quadratic-of quadratic-of-requires returns)

@@ -1,0 +1,150 @@
+// The plain search: the value of the polynomial at every element. In field 11 the values are found on bit planes by an additive transform (poly_values);
+// in the small fields the polynomial is evaluated at four elements side by side, so that their chains of table loads overlap.
+ghost use mathlib.Core.Path.{_≡_};
+ghost use Prim.Native.Nat.{_+_, _-_, _*_, _≤_, _<_};
+ghost use lib.ListN.{length};
+ghost use Rattle.find_search.specs.Calls.{Searches};
+ghost use Rattle.find_search.specs.Searching.{Searchable, SearchedOut, Tried, Noted, LetIn, Wordable, Planed};
+use find_admit::admit_room;
+use poly::values::evaluate;
+use poly::values::evaluate_four;
+use refusals::Admission;
+use refusals::Refusal;
+use table_rules::LIMIT;
+
+// What the plain search answers: the number of roots, or what is turned away.
+pub enum Searched {
+    Seen(u16),
+    NotSearched(Refusal),
+}
+
+// Puts the element x behind the k roots at the front of the list where its value v is 0. Returns how many there are then.
+fn note(v: u16, x: u16, roots: &mut [u16], k: u16) -> u16
+    requires { ⌜ (v ≡ 0 → k < length (now roots)) × (k < 65535) ⌝ }
+    ensures { λ j. ⌜ Noted v x k (now (roots .entry)) j (now (roots .exit)) ⌝ }
+{
+    if v == 0 {
+        roots[k as usize] = x;
+        return k + 1;
+    }
+    k
+}
+
+// Tries the first four elements.
+fn try_first(m: u16, logs: &[u16], antilogs: &[u16], f: &[u16], roots: &mut [u16]) -> u16
+    requires { ⌜ Searchable m (now logs) (now antilogs) (now f) (now roots) ⌝ }
+    ensures { λ k. ⌜ Tried m (now (f .entry)) (now (roots .entry)) 4 k (now (roots .exit)) ⌝ }
+{
+    let mut k: u16 = 0;
+    let mut x: u16 = 0;
+    while x < 4 {
+        let v = evaluate(m, logs, antilogs, f, x);
+        k = note(v, x, roots, k);
+        x += 1;
+    }
+    k
+}
+
+// Lists every element at which f is 0 at the front of the roots, ascending. Returns how many there are.
+pub fn search_lent(m: u16, logs: &[u16], antilogs: &[u16], f: &[u16], roots: &mut [u16]) -> u16
+    requires { ⌜ Searchable m (now logs) (now antilogs) (now f) (now roots) ⌝ }
+    ensures { λ k. ⌜ SearchedOut m (now (f .entry)) (now (roots .entry)) k (now (roots .exit)) ⌝ }
+{
+    let size = logs.len() as u16;
+    let mut k = try_first(m, logs, antilogs, f, roots);
+    let mut x: u16 = 4;
+    while x < size {
+        let v = evaluate_four(m, logs, antilogs, f, x);
+        k = note(v.a, x, roots, k);
+        k = note(v.b, x + 1, roots, k);
+        k = note(v.c, x + 2, roots, k);
+        k = note(v.d, x + 3, roots, k);
+        x += 4;
+    }
+    k
+}
+
+// The roots of an accepted polynomial, in a field of `size` elements, whose tables are lent into rooms that hold them.
+fn search_over(
+    m: u16,
+    size: usize,
+    logs: &mut [u16],
+    antilogs: &mut [u16],
+    f: &[u16],
+    roots: &mut [u16],
+) -> u16
+    requires { ⌜ LetIn m size (now f) (now roots)
+        × (size ≤ length (now logs))
+        × (3 * (size - 1) ≤ length (now antilogs)) ⌝ }
+    ensures { λ k. ⌜ SearchedOut m (now (f .entry)) (now (roots .entry)) k (now (roots .exit)) ⌝ }
+{
+    field_tables::lending::logs(m, logs);
+    field_tables::lending::antilogs(m, antilogs);
+    let end = 3 * (size - 1);
+    search_lent(m, &logs[..size], &antilogs[..end], f, roots)
+}
+
+// Puts the elements x + l, for the set digits l of free, behind the k roots at the front of the list. Returns how many there are then.
+fn note_word(f: &[u16], free: u64, x: u16, roots: &mut [u16], k: u16) -> u16
+    requires { ⌜ Wordable (now f) free x k (now roots) ⌝ }
+    ensures { λ j. ⌜ Tried 11 (now (f .entry)) (now (roots .entry)) (x + 64) j (now (roots .exit)) ⌝ }
+{
+    let mut rest = free;
+    let mut at = x;
+    let mut n = k;
+    while rest != 0 {
+        let t = u64::trailing_zeros(rest);
+        at = at + t as u16;
+        roots[n as usize] = at;
+        n += 1;
+        at += 1;
+        rest = (rest >> t) / 2;
+    }
+    n
+}
+
+// The roots in field 11, by the values at every element on bit planes: 64 elements a word.
+fn search11(f: &[u16], roots: &mut [u16]) -> u16
+    requires { ⌜ Planed (now f) (now roots) ⌝ }
+    ensures { λ k. ⌜ SearchedOut 11 (now (f .entry)) (now (roots .entry)) k (now (roots .exit)) ⌝ }
+{
+    // any number fills the room: zeros would be a call of memset, which is slower
+    let mut p = [1u64; 352];
+    poly_values::values11(f, &mut p);
+    let mut k: u16 = 0;
+    let mut w: usize = 0;
+    while w < 32 {
+        let z = poly_values::occupied11(&p, w);
+        k = note_word(f, z ^ 18446744073709551615, (w * 64) as u16, roots, k);
+        w += 1;
+    }
+    k
+}
+
+// The same: in the small fields element by element, with rooms of the field's size, and in field 11 by words.
+fn search_in(m: u16, size: usize, f: &[u16], roots: &mut [u16]) -> u16
+    requires { ⌜ LetIn m size (now f) (now roots) ⌝ }
+    ensures { λ k. ⌜ SearchedOut m (now (f .entry)) (now (roots .entry)) k (now (roots .exit)) ⌝ }
+{
+    if size <= 16 {
+        let mut few = [0u16; 16];
+        let mut powers = [0u16; 45];
+        return search_over(m, size, &mut few, &mut powers, f, roots);
+    }
+    if size <= 256 {
+        let mut logs = [0u16; 256];
+        let mut antilogs = [0u16; 765];
+        return search_over(m, size, &mut logs, &mut antilogs, f, roots);
+    }
+    search11(f, roots)
+}
+
+// The plain search: every element is tried, the distinct roots stand ascending at the front of the list, and their number is returned.
+pub fn search(m: u16, coeffs: &[u16], roots: &mut [u16]) -> Searched
+    ensures { λ r. ⌜ Searches m (now (coeffs .entry)) (now (roots .entry)) r (now (roots .exit)) ⌝ }
+{
+    match admit_room(m, coeffs, roots.len() < LIMIT) {
+        Admission::Out(k) => Searched::NotSearched(k),
+        Admission::In(row) => Searched::Seen(search_in(m, row.size as usize, coeffs, roots)),
+    }
+}

@@ -1,0 +1,88 @@
+-- `find_solve::solve_lent` meets its contract: a table is begun and stepped to its end, and what finish lists of it is the roots.
+-- Assumes nothing.
+use mathlib.Core.Path.{refl, sym, ap, _∙_}
+use mathlib.Core.List.{List}
+use Prim.Native.Nat.{ℕ}
+use native.Mathlib.Omega.{arith}
+use denote.Ref.{now}
+use lib.ListN.{length}
+use lib.Seq.{length-take-le}
+use Rattle.slices.specs.Lists.{copied}
+use Rattle.find_solve.proofs.Admitting.{solve-begins, begun-stepping}
+use Rattle.find_solve.proofs.Running.{out-taken, out-asks, out-roots}
+use Rattle.find_solve.proofs.Tracing.{powered-fit, powers-of}
+use borrow.Author.Needs.{needs}
+use Rattle.find_solve.proofs.solve_lent.Statement.{statement}
+use Rattle.find_solve.proofs.solve_lent.Tie as tie
+
+slice-aggregate-begin-lent : tie.Need-slice-aggregate-begin-lent
+slice-aggregate-begin-lent c = search needs
+
+slice-aggregate-begin-lent-2 : tie.Need-slice-aggregate-begin-lent-2
+slice-aggregate-begin-lent-2 c = search needs
+
+begin-lent-requires : tie.Need-begin-lent-requires
+begin-lent-requires c κs = solve-begins (c .before .before .before .before .before .before .before .pre) refl (omega arith)
+
+mul-e : tie.Need-mul-e
+mul-e c = let h = powered-fit (c .before .before .before .before .before .before .before .before .before .before .pre) (c .before .before .begin-lent .ensures .1) in omega arith
+
+array-share-prefix-rows : tie.Need-array-share-prefix-rows
+array-share-prefix-rows c = let h = powered-fit (c .before .before .before .before .before .before .before .before .before .before .pre) (c .before .before .begin-lent .ensures .1) in search needs
+
+slice-aggregate-run : tie.Need-slice-aggregate-run
+slice-aggregate-run c = let h = powered-fit (c .before .before .before .before .before .before .before .before .before .before .before .pre) (c .before .before .before .begin-lent .ensures .1) in sym (length-take-le _ _ (search needs))
+
+slice-aggregate-run-2 : tie.Need-slice-aggregate-run-2
+slice-aggregate-run-2 c = search needs
+
+slice-aggregate-run-3 : tie.Need-slice-aggregate-run-3
+slice-aggregate-run-3 c = search needs
+
+run-requires : tie.Need-run-requires
+run-requires c κs = record { tables = c .before .before .before .before .before .before .before .before .before .before .before .before .before .pre .tables; polynomial = c .before .before .before .before .before .before .before .before .before .before .before .before .before .pre .polynomial; powers = powers-of (c .before .before .before .before .before .begin-lent .ensures .1); zeros = refl; stepping = begun-stepping (c .before .before .before .before .before .before .before .before .before .before .before .before .before .pre) (c .before .before .before .before .before .begin-lent .ensures .0) }
+
+slice-aggregate-finish-lent : tie.Need-slice-aggregate-finish-lent
+slice-aggregate-finish-lent c = search needs
+
+finish-lent-requires : tie.Need-finish-lent-requires
+finish-lent-requires c κs = let g = c .before .before .before .before .before .before .before .before .before .before .before .before .before .before .before .before .before .before .pre in out-asks g (begun-stepping g (c .before .before .before .before .before .before .before .before .before .before .begin-lent .ensures .0)) (c .before .before .before .before .run .ensures)
+
+cast-t30 : tie.Need-cast-t30
+cast-t30 c = search needs
+
+array-read-t33 : tie.Need-array-read-t33
+array-read-t33 c = search needs
+
+same-length : tie.Need-same-length
+same-length c = search needs
+
+returns : tie.Need-returns
+returns c = let s = begun-stepping (c .before .before .before .before .before .before .before .before .before .before .before .before .before .before .before .before .before .before .before .before .before .pre) (c .before .before .before .before .before .before .before .before .before .before .before .before .before .begin-lent .ensures .0) in
+    let r = c .before .before .before .before .before .before .before .run .ensures in
+    let f = c .before .before .finish-lent .ensures in
+    record {
+      count = f .count ∙ ap length (out-roots s r);
+      steps = out-taken r;
+      slots-are = f .slots ∙ ap (λ (l : List ℕ). copied l (now (c .before .before .before .before .before .before .before .before .before .before .before .before .before .before .before .before .before .before .before .before .before .args .roots))) (out-roots s r);
+    }
+
+pub solve-lent-spec : {M : Type 1} → statement M
+solve-lent-spec =
+    tie.close
+    (tie.spec
+    slice-aggregate-begin-lent
+    slice-aggregate-begin-lent-2
+    begin-lent-requires
+    mul-e
+    array-share-prefix-rows
+    slice-aggregate-run
+    slice-aggregate-run-2
+    slice-aggregate-run-3
+    run-requires
+    slice-aggregate-finish-lent
+    finish-lent-requires
+    cast-t30
+    array-read-t33
+    same-length
+    returns)

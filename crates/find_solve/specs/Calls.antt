@@ -1,0 +1,35 @@
+-- What the whole call answers, for every input. The lent root list's front is then the roots, ascending.
+--   solveTests     its tests in their order, each behind its number
+--   solveOutcome   its outcome: the numbers of roots and of steps
+--   paperSolved    the number and the values of its answer
+--   Solves         THE CONTRACT: the answers and lists that the whole call admits
+-- Assumes nothing.
+use mathlib.Core.Bool.{Bool}
+use mathlib.Core.List.{List, [], _∷_}
+use Prim.Native.Nat.{ℕ}
+use lib.Dec.{ltb}
+use lib.ListN.{length}
+use Rattle.refusals.specs.Order.{outcome, Answers}
+use Rattle.refusals.specs.Numbers.{numberOf}
+use Rattle.slices.specs.Lists.{copied}
+use Rattle.table_rules.specs.Splitting.{rootsAt}
+use Rattle.table_rules.specs.Demand.{stepsAt}
+use Rattle.table_rules.specs.Limit.{limit}
+use Rattle.table_rules.specs.Polynomials.{polynomialTests}
+use Rattle.find_solve.specs.declared.Solved.{Solved}
+use Rattle.find_solve.specs.declared.Solved.the-variants.{Found, NotSolved}
+
+abbrev pub solveTests : ℕ → ℕ → List ℕ → List ℕ → List (ℕ × Bool)
+solveTests m c cs list = polynomialTests m cs ((6, ltb 3 c) ∷ (7, ltb (length list) limit) ∷ [])
+
+abbrev pub solveOutcome : ℕ → ℕ → List ℕ → List ℕ → ℕ × List ℕ
+solveOutcome m c cs list = outcome (solveTests m c cs list) (length (rootsAt m cs) ∷ stepsAt m c cs ∷ [])
+
+abbrev pub paperSolved : Solved → ℕ × List ℕ
+paperSolved (Found s steps) = (0, s ∷ steps ∷ [])
+paperSolved (NotSolved k) = (numberOf k, [])
+
+-- the contract: an answer, and the lent list afterwards
+abbrev pub Solves : ℕ → ℕ → List ℕ → List ℕ → Solved → List ℕ → Type 0
+Solves m c cs list r after =
+    Answers (solveTests m c cs list) (length (rootsAt m cs) ∷ stepsAt m c cs ∷ []) (copied (rootsAt m cs) list) list (paperSolved r) after

@@ -1,0 +1,44 @@
+-- Two answers that the reader's contract admits coincide: an answer is told by the paper's number and values.
+--   read-back       the answer that an outcome stands for, taken back
+--   read-told       two answers with one outcome are one
+--   read-coincide   so for `read_record`
+--   spelled-once    two outcomes of `coefficients` are one
+-- Assumes nothing.
+use mathlib.Core.Path.{_≡_, refl, sym, ap, _∙_}
+use mathlib.Core.List.{List, [], _∷_}
+use Prim.Native.Nat.{ℕ}
+use Rattle.refusals.proofs.Numbers.{by-number, refused-back}
+use Rattle.refusals.proofs.Told.{told}
+use Rattle.job_records.specs.Reading.{Outcome, paper, ReadsAt, Spelled}
+use Rattle.job_records.proofs.Cutoffs.{cutoffFrom, cutoff-back}
+use Rattle.job_records.specs.declared.Read.{Read}
+use Rattle.job_records.specs.declared.Read.the-variants.{End, Record, Refused, Stopped}
+
+-- the answer that a number and its values stand for
+answerFrom : ℕ → List ℕ → Read
+answerFrom k [] = by-number Stopped End k
+answerFrom k (next ∷ []) = by-number (λ r. Refused r next) End k
+answerFrom k (next ∷ m ∷ []) = End
+answerFrom k (next ∷ m ∷ start ∷ []) = End
+answerFrom k (next ∷ m ∷ start ∷ len ∷ cs) = Record (record { m = m; cutoff = cutoffFrom cs; start = start; len = len; next = next })
+
+answerOf : Outcome → Read
+answerOf Outcome.ends = End
+answerOf (Outcome.gives k values) = answerFrom k values
+
+read-back : (r : Read) → answerOf (paper r) ≡ r
+unfolding answerOf answerFrom
+read-back End = refl
+read-back (Record j) =
+    ap (λ c. Record (record { m = j .m; cutoff = c; start = j .start; len = j .len; next = j .next })) (cutoff-back (j .cutoff))
+read-back (Refused k next) = refused-back (λ r. Refused r next) End k
+read-back (Stopped k) = refused-back Stopped End k
+
+pub read-told : (r s : Read) → paper r ≡ paper s → r ≡ s
+read-told = told paper answerOf read-back
+
+pub read-coincide : (file : List ℕ) (at : ℕ) (r s : Read) → ReadsAt file at r → ReadsAt file at s → r ≡ s
+read-coincide file at r s h k = read-told r s (h ∙ sym k)
+
+pub spelled-once : {bytes room : List ℕ} {n m : ℕ} {s t : List ℕ} → Spelled bytes room n s → Spelled bytes room m t → (n ≡ m) × (s ≡ t)
+spelled-once p q = (p .count ∙ sym (q .count), p .slots ∙ sym (q .slots))

@@ -1,0 +1,67 @@
+-- `job_records::largest` meets its contract: at each turn all words are below a bound if `top` and those ahead are.
+-- Assumes nothing.
+use Prim.Native.Nat.{_-_}
+use native.Mathlib.Omega.{arith}
+use mathlib.Core.Logic.{⊎-elim}
+use borrow.Author.Needs.{needs}
+use Rattle.job_records.proofs.Spelling.{Seeking, seek-from, seek-raise, seek-keep, seek-end}
+use Rattle.job_records.proofs.largest.Statement.{statement}
+use Rattle.job_records.proofs.largest.Tie as tie
+
+abbrev Inv-loop : tie.InvT-loop
+Inv-loop bytes n top₀ k₀ top k = Seeking bytes top k
+
+abbrev μ-loop : tie.MeasureT-loop
+μ-loop bytes n top₀ k₀ top k = n - k
+
+loop-holds : tie.Need-loop-holds Inv-loop μ-loop
+loop-holds c = seek-from _
+
+mul-i : tie.Need-mul-i Inv-loop μ-loop
+mul-i c = search needs
+
+shared-slice-read-word : tie.Need-shared-slice-read-word Inv-loop μ-loop
+shared-slice-read-word c = search needs
+
+add-word : tie.Need-add-word Inv-loop μ-loop
+add-word c = search needs
+
+shared-slice-read-word-2 : tie.Need-shared-slice-read-word-2 Inv-loop μ-loop
+shared-slice-read-word-2 c = search needs
+
+word-requires : tie.Need-word-requires Inv-loop μ-loop
+word-requires c κs = search needs
+
+add-k : tie.Need-add-k Inv-loop μ-loop
+add-k c = search needs
+
+loop-less : tie.Need-loop-less Inv-loop μ-loop
+loop-less c = search needs
+
+loop-again : tie.Need-loop-again Inv-loop μ-loop
+loop-again c =
+    let s = c .before .before .before .before .before .loop .inv in
+    ⊎-elim
+    (λ w. rw (w .1) (seek-raise s (omega arith) (c .before .word .ensures) (w .0 .taken)))
+    (λ w. rw (w .1) (seek-keep s (omega arith) (c .before .word .ensures) (w .0 .left)))
+    (c .if1 .came)
+
+returns : tie.Need-returns Inv-loop μ-loop
+returns c = seek-end (c .before .loop .inv) (omega arith)
+
+pub largest-spec : {M : Type 1} → statement M
+largest-spec =
+    tie.close
+    (tie.spec
+    Inv-loop
+    μ-loop
+    loop-holds
+    mul-i
+    shared-slice-read-word
+    add-word
+    shared-slice-read-word-2
+    word-requires
+    add-k
+    loop-less
+    loop-again
+    returns)

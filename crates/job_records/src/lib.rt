@@ -1,0 +1,221 @@
+// Job records: a place by value over a lent file, an enum for what stands there, and a part of the file handed back.
+ghost use mathlib.Core.Path.{_≡_};
+ghost use Prim.Native.Nat.{_+_, _*_, _≤_, _<_, _^_};
+ghost use lib.ListN.{length};
+ghost use Rattle.job_records.specs.Layout.{word, words, part};
+ghost use Rattle.job_records.specs.Cutoffs.{stated, statedBy, resolved};
+ghost use Rattle.job_records.specs.Reading.{paper, answered, bytesOf, readHere, ReadsAt, callTests, valueTests};
+ghost use Rattle.job_records.specs.Reading.{Judges, Largest, Spelled};
+use refusals::Found;
+use refusals::Refusal;
+use table_rules::HOUSE_DEFAULT;
+
+pub mod held; // a reader that holds the file
+
+// What every record begins with.
+const MARK: [u8; 2] = [0x4C, 0x52];
+
+// Above this a cutoff is refused.
+const HIGHEST_CUTOFF: u8 = 3;
+
+// The cutoff as a record states it.
+pub enum Cutoff {
+    House,
+    Stated(u8),
+}
+
+// A record that the whole call accepts: its coefficient bytes are `len` bytes of the file from `start` on, and `next` is the place behind it.
+pub struct Job {
+    pub m: u8,
+    pub cutoff: Cutoff,
+    pub start: usize,
+    pub len: usize,
+    pub next: usize,
+}
+
+// What stands at a place: no more, a record, one that is refused with the place to go on, or something at which reading stops.
+pub enum Read {
+    End,
+    Record(Job),
+    Refused { refusal: Refusal, next: usize },
+    Stopped(Refusal),
+}
+
+// What the whole call's tests find.
+pub enum Verdict {
+    Accepted,
+    Turned(Refusal),
+}
+
+// The number that two bytes spell.
+pub fn word(low: u8, high: u8) -> u16
+    ensures { λ r. ⌜ r ≡ word low high ⌝ }
+{
+    (low as u16) + 256 * (high as u16)
+}
+
+// House default or stated number.
+pub fn cutoff_of(c: u8) -> Cutoff
+    ensures { λ r. ⌜ statedBy r ≡ stated c ⌝ }
+{
+    if c == 0 {
+        Cutoff::House
+    } else {
+        Cutoff::Stated(c)
+    }
+}
+
+// The cutoff in force.
+pub fn resolve(cutoff: Cutoff) -> u16
+    ensures { λ r. ⌜ r ≡ resolved cutoff ⌝ }
+{
+    match cutoff {
+        Cutoff::House => HOUSE_DEFAULT,
+        Cutoff::Stated(c) => c as u16,
+    }
+}
+
+// The largest of the coefficients that the bytes spell, or 0 where there are none.
+fn largest(bytes: &[u8]) -> u16
+    ensures { λ r. ⌜ Largest (words (now (bytes .entry))) r ⌝ }
+{
+    let n = bytes.len() / 2;
+    let mut top = 0;
+    for k in 0..n {
+        let i = 2 * k;
+        let w = word(bytes[i], bytes[i + 1]);
+        if top < w {
+            top = w;
+        }
+    }
+    top
+}
+
+// Tests 4, 5 and 6: a coefficient of `size` or more, none but zeros, a cutoff above the highest.
+fn judge_values(size: u16, c: u8, bytes: &[u8]) -> Verdict
+    requires { ⌜ 0 < size ⌝ }
+    ensures { λ r. ⌜ Judges (valueTests size c (words (now (bytes .entry)))) r ⌝ }
+{
+    let top = largest(bytes);
+    if size <= top {
+        return Verdict::Turned(Refusal::Element);
+    }
+    if top == 0 {
+        return Verdict::Turned(Refusal::AllZero);
+    }
+    if HIGHEST_CUTOFF < c {
+        return Verdict::Turned(Refusal::Cutoff);
+    }
+    Verdict::Accepted
+}
+
+// Tests 1 to 6 on the fields of a complete record.
+fn judge(m: u8, c: u8, n: u8, bytes: &[u8]) -> Verdict
+    requires { ⌜ length (now bytes) ≡ 2 * n ⌝ }
+    ensures { λ r. ⌜ Judges (callTests m c (words (now (bytes .entry)))) r ⌝ }
+{
+    let found = refusals::row_of(m as u16);
+    let Found::At(row) = found else {
+        return Verdict::Turned(Refusal::Field);
+    };
+    match n {
+        0 => Verdict::Turned(Refusal::Empty),
+        1..=33 => judge_values(row.size, c, bytes),
+        34..=255 => Verdict::Turned(Refusal::Long),
+    }
+}
+
+// The answer for a complete record at a place: where it is refused, the place to go on.
+fn answer(at: usize, m: u8, cutoff: Cutoff, len: usize, verdict: Verdict) -> Read
+    requires { ⌜ at + 5 + len < 2 ^ 64 ⌝ }
+    ensures { λ r. ⌜ r ≡ answered at m cutoff len verdict ⌝ }
+{
+    let start = at + 5;
+    let next = start + len;
+    match verdict {
+        Verdict::Turned(refusal) => Read::Refused { refusal, next },
+        Verdict::Accepted => Read::Record(Job {
+            m,
+            cutoff,
+            start,
+            len,
+            next,
+        }),
+    }
+}
+
+// What the bytes from a place on begin with; there is at least one.
+fn read_here(at: usize, rest: &[u8]) -> Read
+    requires { ⌜ (0 < length (now rest)) × (at + length (now rest) < 2 ^ 64) ⌝ }
+    ensures { λ r. ⌜ paper r ≡ readHere at (now (rest .entry)) ⌝ }
+{
+    if rest.len() < 2 {
+        return Read::Stopped(Refusal::Short); // one byte remains
+    }
+    if rest[0] != MARK[0] {
+        return Read::Stopped(Refusal::Mark);
+    }
+    if rest[1] != MARK[1] {
+        return Read::Stopped(Refusal::Mark);
+    }
+    if rest.len() < 5 {
+        return Read::Stopped(Refusal::Short); // the head is short
+    }
+    let m = rest[2];
+    let c = rest[3];
+    let n = rest[4];
+    let len = 2 * (n as usize);
+    let all = 5 + len;
+    if rest.len() < all {
+        return Read::Stopped(Refusal::Short); // the coefficients are short
+    }
+    answer(at, m, cutoff_of(c), len, judge(m, c, n, &rest[5..all]))
+}
+
+// What stands at a place of the file.
+pub fn read_record(file: &[u8], at: usize) -> Read
+    ensures { λ r. ⌜ ReadsAt (now (file .entry)) at r ⌝ }
+{
+    if file.len() <= at {
+        return Read::End;
+    }
+    read_here(at, &file[at..])
+}
+
+// A part of the file, for the coefficient bytes of a record; it ends where the file ends.
+pub fn body(file: &[u8], start: usize, len: usize) -> &[u8]
+    ensures { λ r. ⌜ now r ≡ part (now (file .entry)) start len ⌝ }
+{
+    if file.len() <= start {
+        return &file[..0];
+    }
+    if len <= file.len() - start {
+        return &file[start..start + len];
+    }
+    &file[start..]
+}
+
+// The coefficient bytes of what was read, as that part of the file; none where no record was accepted.
+pub fn body_of(file: &[u8], read: Read) -> &[u8]
+    ensures { λ b. ⌜ now b ≡ bytesOf (now (file .entry)) read ⌝ }
+{
+    match read {
+        Read::Record(job) => body(file, job.start, job.len),
+        Read::End => &file[..0],
+        Read::Refused { .. } => &file[..0],
+        Read::Stopped(_) => &file[..0],
+    }
+}
+
+// The coefficients that the bytes spell, to the front of the room; their number.
+pub fn coefficients(bytes: &[u8], room: &mut [u16]) -> usize
+    requires { ⌜ length (words (now bytes)) ≤ length (now room) ⌝ }
+    ensures { λ n. ⌜ Spelled (now (bytes .entry)) (now (room .entry)) n (now (room .exit)) ⌝ }
+{
+    let n = bytes.len() / 2;
+    for k in 0..n {
+        let i = 2 * k;
+        room[k] = word(bytes[i], bytes[i + 1]);
+    }
+    n
+}

@@ -1,0 +1,169 @@
+-- Texts written one behind the other.
+--   wrote-byte     a byte that is stored is a text of one
+--   wrote-then     a text, and then another behind it, are both
+--   wrote-long     nothing gets longer
+--   wrote-small, wrote-large        the digits of a number, as they are written
+--   wrote-spaced, spaced-append     a number behind a space, and numbers one behind the other;  spaced-end: at most six bytes for each
+--   Rowing         the first i roots stand in the list;  row-from, row-on, row-end
+--   line-refused, line-accepted     the line from its parts
+-- Assumes nothing.
+use mathlib.Core.Path.{_≡_, refl, sym, ap, ap₂, _∙_, subst}
+use mathlib.Core.List.{List, [], _∷_, _++_, append-nil, append-assoc}
+use Prim.Native.Nat.{ℕ, suc, _+_, _*_, _/_, _%_, _≤_, _<_}
+use native.Mathlib.Nat.{add-assoc, add-zero}
+use native.Mathlib.Numerals.{add-one}
+use native.Mathlib.Omega.{arith}
+use borrow.Author.Tests.{eq-eqb, ne-eqb}
+use lib.ListN.{length, getD, take, drop, set, length-append, take-append-drop}
+use lib.Seq.{set-split, take-suc, drop-append-add, drop-drop, length-take-le}
+use Rattle.slices.specs.Lists.{pasted}
+use Rattle.slices.proofs.Lists.{length-pasted, pasted-front}
+use Rattle.job_text.specs.Lines.{digit, space, lineFeed, decimal, spaced, lineOf, Wrote}
+use Rattle.job_text.proofs.Digits.{decimal-short, decimal-small, decimal-large}
+
+-- what is behind a text is as it was
+pasted-behind : (at j : ℕ) (w s : List ℕ) → at ≤ length s → drop (at + length w + j) (pasted at w s) ≡ drop (at + length w + j) s
+unfolding pasted
+pasted-behind at j w s h =
+    let n : length (take at s) ≡ at = length-take-le at s h in
+    let e : at + length w + j ≡ length (take at s) + (length w + j) = omega arith in
+    ap (λ i. drop i (take at s ++ (w ++ drop (at + length w) s))) e
+    ∙ drop-append-add (take at s) (w ++ drop (at + length w) s) (length w + j)
+    ∙ drop-append-add w (drop (at + length w) s) j
+    ∙ drop-drop j (at + length w) s
+
+-- what stands before a text, the text, and what stands behind it
+joined-up : (at : ℕ) (v w s : List ℕ) → (take at s ++ v) ++ (w ++ drop (at + length v + length w) s) ≡ pasted at (v ++ w) s
+unfolding pasted
+joined-up at v w s = rw (length-append, ← add-assoc) (simp append-assoc)
+
+opened : (at : ℕ) (w s : List ℕ) → pasted at w s ≡ take at s ++ (w ++ drop (at + length w) s)
+unfolding pasted
+opened at w s = refl
+
+-- one text behind the other is both
+pasted-then : (at : ℕ) (v w s : List ℕ) → at ≤ length s → pasted (at + length v) w (pasted at v s) ≡ pasted at (v ++ w) s
+pasted-then at v w s h =
+    opened (at + length v) w (pasted at v s)
+    ∙ ap₂ (λ x y. x ++ (w ++ y)) (pasted-front at v s h) (pasted-behind at (length w) v s h)
+    ∙ joined-up at v w s
+
+pub wrote-byte : {at b : ℕ} {s : List ℕ} → at + 1 ≤ length s → Wrote (b ∷ []) at s (at + 1) (set s at b)
+unfolding pasted
+wrote-byte {at} {b} {s} h = record { ended = refl; bytes = set-split s at b (omega arith) ∙ rw add-one }
+
+pub wrote-then : {v w : List ℕ} {at end end′ : ℕ} {s s′ s″ : List ℕ} → at ≤ length s → Wrote v at s end s′ → Wrote w end s′ end′ s″
+    → Wrote (v ++ w) at s end′ s″
+wrote-then {v} {w} {at} {end} {end′} {s} {s′} {s″} h p q = record {
+  ended = q .ended ∙ omega (arith, p .ended, length-append v w);
+  bytes = q .bytes ∙ ap₂ (λ i l. pasted i w l) (p .ended) (p .bytes) ∙ pasted-then at v w s h;
+}
+
+pub wrote-long : {v : List ℕ} {at end : ℕ} {s s′ : List ℕ} → at + length v ≤ length s → Wrote v at s end s′ → length s′ ≡ length s
+wrote-long {v} {at} {end} {s} h p = ap length (p .bytes) ∙ length-pasted at v s h
+
+-- ---- `decimal`
+
+pub small-long : (x : ℕ) → x < 10 → length (decimal x) ≡ 1
+small-long x h = ap length (decimal-small x h)
+
+pub large-long : (x : ℕ) → 10 ≤ x → length (decimal x) ≡ length (decimal (x / 10)) + 1
+large-long x h = ap length (decimal-large x h) ∙ length-append (decimal (x / 10)) (digit (x % 10) ∷ [])
+
+pub wrote-small : {x at : ℕ} {s : List ℕ} → x < 10 → at + length (decimal x) ≤ length s → Wrote (decimal x) at s (at + 1) (set s at (digit x))
+wrote-small {x} h l = rw (decimal-small x h) (wrote-byte (omega (arith, small-long x h)))
+
+pub wrote-large : {x at end : ℕ} {s s′ : List ℕ} → 10 ≤ x → at + length (decimal x) ≤ length s → Wrote (decimal (x / 10)) at s end s′
+    → Wrote (decimal x) at s (end + 1) (set s′ end (digit (x % 10)))
+wrote-large {x} {at} {end} {s} {s′} h l p =
+    let n = large-long x h in
+    let e : length s′ ≡ length s = wrote-long (omega arith) p in
+    let q : end ≡ at + length (decimal (x / 10)) = p .ended in
+    let b : end + 1 ≤ length s′ = omega arith in
+    rw (decimal-large x h) (wrote-then (omega arith) p (wrote-byte b))
+
+-- ---- numbers behind a space
+
+pub spaced-append : (xs ys : List ℕ) → spaced (xs ++ ys) ≡ spaced xs ++ spaced ys
+unfolding spaced
+spaced-append [] ys = refl
+spaced-append (x ∷ xs) ys = ap (λ l. space ∷ l) (ap (λ l. decimal x ++ l) (spaced-append xs ys) ∙ sym (append-assoc (decimal x) (spaced xs) (spaced ys)))
+
+pub spaced-one : (x : ℕ) → spaced (x ∷ []) ≡ space ∷ decimal x
+unfolding spaced
+spaced-one x = ap (λ l. space ∷ l) (append-nil (decimal x))
+
+-- a number of 16 bits has at most 5 digits, and one of 32 bits at most 10
+pub five-digits : (x : ℕ) → x < 65536 → length (decimal x) ≤ 5
+five-digits x h = decimal-short 4 x (omega arith)
+
+pub ten-digits : (x : ℕ) → x < 4294967296 → length (decimal x) ≤ 10
+ten-digits x h = decimal-short 9 x (omega arith)
+
+pub wrote-spaced : (x : ℕ) {at end end′ : ℕ} {s s′ s″ : List ℕ} → at ≤ length s → Wrote (space ∷ []) at s end s′ → Wrote (decimal x) end s′ end′ s″
+    → Wrote (spaced (x ∷ [])) at s end′ s″
+wrote-spaced x h p q = rw (spaced-one x) (wrote-then h p q)
+
+pub spaced-end : {x at end : ℕ} {s s′ : List ℕ} → x < 65536 → Wrote (spaced (x ∷ [])) at s end s′ → end ≤ at + 6
+spaced-end {x} h p =
+    let n : length (spaced (x ∷ [])) ≡ suc (length (decimal x)) = ap length (spaced-one x) in
+    omega (arith, p .ended, five-digits x h)
+
+-- ---- `put_roots`
+
+-- the first i roots stand in the list
+pub record Rowing (s : ℕ) (roots : List ℕ) (at : ℕ) (old new : List ℕ) (end i : ℕ) : Type 0 where
+  pub within : i ≤ s
+  pub listed : s ≤ length roots
+  pub fits : at + 6 * s ≤ length old
+  pub long : length new ≡ length old
+  pub room : end ≤ at + 6 * i
+  pub done : Wrote (spaced (take i roots)) at old end new
+
+wrote-nothing : {at : ℕ} {s : List ℕ} → at ≤ length s → Wrote [] at s at s
+unfolding pasted
+wrote-nothing {at} {s} h = record { ended = omega arith; bytes = rw add-zero (sym (take-append-drop at s)) }
+
+pub row-from : (s : ℕ) (roots : List ℕ) (at : ℕ) (old : List ℕ) → s ≤ length roots → at + 6 * s ≤ length old → Rowing s roots at old old at 0
+unfolding spaced
+row-from s roots at old h k =
+    record { within = omega arith; listed = h; fits = k; long = refl; room = omega arith; done = wrote-nothing (omega arith) }
+
+pub row-on : {s at end end′ i : ℕ} {roots old new new′ : List ℕ} → Rowing s roots at old new end i → i < s → getD roots i 0 < 65536
+    → length new′ ≡ length new → Wrote (spaced (getD roots i 0 ∷ [])) end new end′ new′ → Rowing s roots at old new′ end′ (i + 1)
+row-on {s} {at} {end} {end′} {i} {roots} {old} {new} {new′} r h b k w =
+    let l : i < length roots = omega (arith, r .listed) in
+    let e : spaced (take (i + 1) roots) ≡ spaced (take i roots) ++ spaced (getD roots i 0 ∷ []) =
+    rw (add-one, take-suc roots i 0) (spaced-append (take i roots) (getD roots i 0 ∷ [])) in
+    record {
+      within = omega arith;
+      listed = r .listed;
+      fits = r .fits;
+      long = k ∙ r .long;
+      room = omega (arith, r .room, spaced-end b w);
+      done = rw e (wrote-then (omega (arith, r .fits)) (r .done) w);
+    }
+
+pub row-end : {s at end i : ℕ} {roots old new : List ℕ} → Rowing s roots at old new end i → s ≤ i → Wrote (spaced (take s roots)) at old end new × (end ≤ at + 6 * s)
+row-end {s} {at} {end} {i} {roots} {old} {new} r h =
+    let e : i ≡ s = omega (arith, r .within) in
+    (subst (λ n. Wrote (spaced (take n roots)) at old end new) e (r .done), omega (arith, r .room))
+
+-- ---- `line`
+
+module _ (k outcome steps : ℕ) (roots : List ℕ) {a b : ℕ} {s s₁ s₂ : List ℕ}
+    (p : Wrote (decimal k) 0 s a s₁) (q : Wrote (spaced (outcome ∷ [])) a s₁ b s₂) where
+  pub line-refused : {e : ℕ} {s₃ : List ℕ} → (outcome ≡ 0 → ⊥) → Wrote (lineFeed ∷ []) b s₂ e s₃ → Wrote (lineOf k outcome steps roots) 0 s e s₃
+  line-refused n f =
+      rw (ne-eqb outcome 0 n, ← append-assoc) (wrote-then (omega arith) (wrote-then (omega arith) p q) f)
+
+  pub line-accepted : {c d e end : ℕ} {s₃ s₄ s₅ s₆ : List ℕ} → outcome ≡ 0 → Wrote (spaced (length roots ∷ [])) b s₂ c s₃
+      → Wrote (spaced (steps ∷ [])) c s₃ d s₄ → Wrote (spaced roots) d s₄ e s₅ → Wrote (lineFeed ∷ []) e s₅ end s₆
+      → Wrote (lineOf k outcome steps roots) 0 s end s₆
+  line-accepted {end = end} {s₆ = s₆} z f g h l =
+      subst (λ t. Wrote t 0 s end s₆) (sym apart)
+      (wrote-then (omega arith) (wrote-then (omega arith) (wrote-then (omega arith) (wrote-then (omega arith) (wrote-then (omega arith) p q) f) g) h) l)
+    where
+      apart : lineOf k outcome steps roots
+          ≡ ((((decimal k ++ spaced (outcome ∷ [])) ++ spaced (length roots ∷ [])) ++ spaced (steps ∷ [])) ++ spaced roots) ++ (lineFeed ∷ [])
+      apart = rw (eq-eqb outcome 0 z, spaced-append (outcome ∷ []) (length roots ∷ steps ∷ roots), spaced-append (length roots ∷ []) (steps ∷ roots), spaced-append (steps ∷ []) roots) (simp append-assoc)

@@ -1,0 +1,60 @@
+-- `job_text::put_roots` meets its contract: at each turn the first i roots stand in the list.
+-- Assumes nothing.
+use Prim.Native.Nat.{_-_}
+use native.Mathlib.Omega.{arith}
+use Rattle.job_text.proofs.Writing.{Rowing, row-from, row-on, row-end}
+use borrow.Author.Needs.{needs}
+use Rattle.job_text.proofs.put_roots.Statement.{statement}
+use Rattle.job_text.proofs.put_roots.Tie as tie
+
+abbrev Inv-loop : tie.InvT-loop
+Inv-loop s roots at out₀ end₀ i₀ out end i = Rowing s roots at out₀ out end i
+
+abbrev μ-loop : tie.MeasureT-loop
+μ-loop s roots at out₀ end₀ i₀ out end i = s - i
+
+loop-holds : tie.Need-loop-holds Inv-loop μ-loop
+loop-holds c = row-from _ _ _ _ (search needs) (search needs)
+
+mul-put-spaced : tie.Need-mul-put-spaced Inv-loop μ-loop
+mul-put-spaced c = search needs
+
+shared-slice-read-put-spaced : tie.Need-shared-slice-read-put-spaced Inv-loop μ-loop
+shared-slice-read-put-spaced c = search needs
+
+put-spaced-requires : tie.Need-put-spaced-requires Inv-loop μ-loop
+put-spaced-requires c κs = search needs
+
+add-i : tie.Need-add-i Inv-loop μ-loop
+add-i c = search needs
+
+loop-less : tie.Need-loop-less Inv-loop μ-loop
+loop-less c = search needs
+
+loop-again : tie.Need-loop-again Inv-loop μ-loop
+loop-again c =
+    let p = c .before .before .put-spaced in
+    let l = c .before .before .before .before .before .before .loop in
+    row-on (l .inv) (omega arith) (omega (arith, c .before .before .before .before .shared-slice-known2 .given (l .i))) (p .kept .1 .1 .0) (p .ensures)
+
+same-length : tie.Need-same-length Inv-loop μ-loop
+same-length c = search needs
+
+returns : tie.Need-returns Inv-loop μ-loop
+returns c = row-end (c .before .loop .inv) (omega arith)
+
+pub put-roots-spec : {M : Type 1} → statement M
+put-roots-spec =
+    tie.close
+    (tie.spec
+    Inv-loop
+    μ-loop
+    loop-holds
+    mul-put-spaced
+    shared-slice-read-put-spaced
+    put-spaced-requires
+    add-i
+    loop-less
+    loop-again
+    same-length
+    returns)

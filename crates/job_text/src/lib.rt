@@ -1,0 +1,68 @@
+// The text of a line: numbers in decimal with one space between, ended by a line feed.
+ghost use Prim.Native.Nat.{_+_, _*_, _≤_};
+ghost use mathlib.Core.List.{[], _∷_};
+ghost use lib.ListN.{length, take};
+ghost use Rattle.job_text.specs.Lines.{decimal, spaced, lineOf, Wrote};
+
+// Writes x in decimal to out from `at` on; the place behind it.
+pub fn decimal(x: u32, at: usize, out: &mut [u8]) -> usize
+    requires { ⌜ at + length (decimal x) ≤ length (now out) ⌝ }
+    ensures { λ r. ⌜ Wrote (decimal x) at (now (out .entry)) r (now (out .exit)) ⌝ }
+{
+    if x < 10 {
+        out[at] = 48 + (x as u8);
+        return at + 1;
+    }
+    let end = decimal(x / 10, at, out);
+    out[end] = 48 + ((x % 10) as u8);
+    end + 1
+}
+
+// Writes a byte to out at `at`; the place behind it.
+fn put(b: u8, at: usize, out: &mut [u8]) -> usize
+    requires { ⌜ at + 1 ≤ length (now out) ⌝ }
+    ensures { λ r. ⌜ Wrote (b ∷ []) at (now (out .entry)) r (now (out .exit)) ⌝ }
+{
+    out[at] = b;
+    at + 1
+}
+
+// Writes a space and x in decimal to out from `at` on; the place behind them.
+fn put_spaced(x: u16, at: usize, out: &mut [u8]) -> usize
+    requires { ⌜ at + 6 ≤ length (now out) ⌝ }
+    ensures { λ r. ⌜ Wrote (spaced (x ∷ [])) at (now (out .entry)) r (now (out .exit)) ⌝ }
+{
+    let behind = put(32, at, out);
+    decimal(x as u32, behind, out)
+}
+
+// Writes the first s of the roots, each behind a space, to out from `at` on; the place behind them.
+fn put_roots(s: usize, roots: &[u16], at: usize, out: &mut [u8]) -> usize
+    requires { ⌜ (s ≤ length (now roots)) × (at + 6 * s ≤ length (now out)) ⌝ }
+    ensures { λ r. ⌜ Wrote (spaced (take s (now (roots .entry)))) at (now (out .entry)) r (now (out .exit))
+        × (r ≤ at + 6 * s) ⌝ }
+{
+    let mut end = at;
+    for i in 0..s {
+        end = put_spaced(roots[i], end, out);
+    }
+    end
+}
+
+// Writes the line of a record to the front of out: its number k, its outcome and, where that is 0, s, the steps and the first s of the roots.
+// Its length. With 32 roots it has at most 221 bytes.
+pub fn line(k: u32, outcome: u16, s: u16, steps: u16, roots: &[u16], out: &mut [u8]) -> usize
+    requires { ⌜ (s ≤ length (now roots)) × (29 + 6 * s ≤ length (now out)) ⌝ }
+    ensures { λ n. ⌜ Wrote (lineOf k outcome steps (take s (now (roots .entry))))
+        0 (now (out .entry)) n (now (out .exit)) ⌝ }
+{
+    let first = decimal(k, 0, out);
+    let second = put_spaced(outcome, first, out);
+    if outcome != 0 {
+        return put(10, second, out);
+    }
+    let third = put_spaced(s, second, out);
+    let fourth = put_spaced(steps, third, out);
+    let end = put_roots(s as usize, roots, fourth, out);
+    put(10, end, out)
+}

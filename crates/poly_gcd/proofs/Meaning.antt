@@ -1,0 +1,37 @@
+-- What the outcomes of the routines mean, in the words of the theory.
+--   gcd-means        what `gcd` leaves divides both, and what divides both divides it
+--   gcd-below        and its coefficients are elements
+--   monic-means      what `make_monic` leaves, times the leading coefficient, is what it was given
+--   monic-vanishes   where it returns 0, all coefficients were 0
+-- Assumes nothing.
+use mathlib.Core.Path.{_≡_, sym, _∙_, subst}
+use mathlib.Core.Logic.{_≢_}
+use mathlib.Core.List.{List}
+use Prim.Native.Nat.{ℕ, _-_, _^_}
+use lib.ListN.{take, getD}
+use Rattle.algebra.specs.Polynomial.{Below, IsGcdBelow}
+use Rattle.algebra.specs.Routines.{monic}
+use Rattle.algebra.proofs.StaysBelow as S
+use Rattle.algebra.proofs.NumberDivision.{gcd-right}
+use Rattle.algebra.proofs.NumberMonic.{Made, norm-made, norm-none}
+use Rattle.poly.specs.Lent.{G, Lent}
+use Rattle.poly.specs.Monic.{MadeMonic}
+use Rattle.poly_gcd.specs.Euclid.{Turnable, GcdIs}
+use Rattle.poly.proofs.Logs.{numbers-of}
+use Rattle.poly_gcd.proofs.EuclidLoops.{front-some, front-none}
+
+module _ {m : ℕ} {ls ts row a : List ℕ} {n : ℕ} {b : List ℕ} {k g : ℕ} {a′ : List ℕ} (t : Turnable m ls ts row a n b k) (d : GcdIs m a n b k g a′) where
+  pub gcd-means : IsGcdBelow (G m) (2 ^ m) (monic (G m) (take n a)) (take k b) (monic (G m) (take g a′))
+  gcd-means =
+      subst (λ u. IsGcdBelow (G m) (2 ^ m) (monic (G m) (take n a)) (take k b) (monic (G m) u)) (sym (d .low))
+      (gcd-right (numbers-of (t .tables)) (take n a) (take k b) (t .small-a) (t .small-b))
+
+  pub gcd-below : Below (2 ^ m) (take g a′)
+  gcd-below = subst (Below (2 ^ m)) (sym (d .low)) (S.gcd-below (numbers-of (t .tables)) (take n a) (take k b) (t .small-a) (t .small-b))
+
+module _ {m : ℕ} {ls ts r : List ℕ} {j : ℕ} {r′ : List ℕ} (l : Lent m ls ts) (b : Below (2 ^ m) r) (d : MadeMonic m r j r′) where
+  pub monic-means : j ≢ 0 → Made (G m) (2 ^ m) r (take (j - 1) r′)
+  monic-means h = norm-made (numbers-of l) r b (d .made ∙ front-some j r′ h)
+
+  pub monic-vanishes : j ≡ 0 → (i : ℕ) → getD r i 0 ≡ 0
+  monic-vanishes z = norm-none (numbers-of l) r b (d .made ∙ front-none j r′ z)

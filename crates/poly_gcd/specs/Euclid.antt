@@ -1,0 +1,63 @@
+-- Euclid's loop on two slices, and the cofactor.
+--   Turnable      the monic polynomial with the n low coefficients at the front of a can divide the one with the k coefficients at the front of b
+--   Reducing      the remainder of the first k coefficients of b by monic p can be left at the front of b
+--   LeftIn        so it is left
+--   Turned        one division is done: the monic divisor stands in a with its 1, and the remainder, made monic, at the front of b
+--   GcdIs         the first g coefficients of a are the monic greatest common divisor's
+--   Cofactorable  monic p can be divided by monic g
+-- Assumes nothing.
+use mathlib.Core.Path.{_≡_}
+use mathlib.Core.List.{List}
+use Prim.Native.Nat.{ℕ, _+_, _-_, _^_, _≤_, _<_}
+use lib.ListN.{length, take}
+use Rattle.algebra.specs.Polynomial.{Below}
+use Rattle.algebra.specs.Routines.{monic, rem, norm, gcd}
+use Rattle.poly.specs.Lent.{G, Lent}
+use Rattle.poly.specs.Monic.{front}
+
+-- with room for the divisor's leading 1, for a remainder as long as the divisor, and for a row
+pub record Turnable (m : ℕ) (ls ts row a : List ℕ) (n : ℕ) (b : List ℕ) (k : ℕ) : Type 0 where
+  pub tables : Lent m ls ts
+  pub room-row : n ≤ length row
+  pub room-a : n < length a
+  pub room-b : n ≤ length b
+  pub within : k ≤ length b
+  pub small-a : Below (2 ^ m) (take n a)
+  pub small-b : Below (2 ^ m) (take k b)
+
+-- the remainder by monic p
+pub record Reducing (m : ℕ) (ls ts p row b : List ℕ) (k : ℕ) : Type 0 where
+  pub tables : Lent m ls ts
+  pub room-row : length p ≤ length row
+  pub room-b : length p ≤ length b
+  pub within : k ≤ length b
+  pub small-p : Below (2 ^ m) p
+  pub small-b : Below (2 ^ m) (take k b)
+
+-- as long as p, and b stays as long as it is
+pub record LeftIn (m : ℕ) (p b : List ℕ) (k : ℕ) (b′ : List ℕ) : Type 0 where
+  pub low : take (length p) b′ ≡ rem (G m) p (take k b)
+  pub long : length b′ ≡ length b
+
+-- one division
+pub record Turned (m : ℕ) (a : List ℕ) (n : ℕ) (b : List ℕ) (k j : ℕ) (a′ b′ : List ℕ) : Type 0 where
+  pub fewer : j ≤ n
+  pub long-a : length a′ ≡ length a
+  pub long-b : length b′ ≡ length b
+  pub lead : take (n + 1) a′ ≡ monic (G m) (take n a)
+  pub made : norm (G m) n (rem (G m) (take n a) (take k b)) ≡ front j b′
+
+-- the outcome
+pub record GcdIs (m : ℕ) (a : List ℕ) (n : ℕ) (b : List ℕ) (k g : ℕ) (a′ : List ℕ) : Type 0 where
+  pub count : g ≤ n
+  pub low : take g a′ ≡ gcd (G m) (take n a) (take k b)
+
+-- with work as long as p and its 1
+pub record Cofactorable (m : ℕ) (ls ts p g row f h : List ℕ) : Type 0 where
+  pub tables : Lent m ls ts
+  pub small-p : Below (2 ^ m) p
+  pub small-g : Below (2 ^ m) g
+  pub shorter : length g ≤ length p
+  pub room-row : length g ≡ length row
+  pub room-f : length f ≡ length p + 1
+  pub room-h : length h ≡ length p - length g

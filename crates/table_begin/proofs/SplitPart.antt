@@ -1,0 +1,257 @@
+-- From a polynomial to the part of it that splits.
+--   field-run-top    z^(2^m) + z may be reduced by p as the power alone, with zeros on top, and z added
+--   residue-asks, residue-long, residue-is
+--                    `residue`: what the power asks, and what is left
+--   split-asks, split-some, split-residual, split-powered, split-turnable, split-is
+--                    `split_part`: what each routine asks, and what is left
+-- Assumes nothing.
+use mathlib.Core.Path.{_≡_, refl, sym, ap, ap₂, _∙_, subst}
+use mathlib.Core.Bool.{Bool, true, false}
+use mathlib.Core.Option.{none, some}
+use mathlib.Core.List.{List, [], _∷_, _++_, map-append}
+use Prim.Native.Nat.{ℕ, zero, suc, _+_, _-_, _*_, _^_, _≤_, _<_}
+use native.Mathlib.Nat.{le-trans, mul-le-mul-left}
+use native.Mathlib.Decide.{decLt}
+use native.Mathlib.Omega.{arith}
+use lib.Bits.{bitXor, xor-zero-r}
+use lib.ListN.{length, getD, take, drop, set, replicate, length-append, length-set, length-replicate}
+use lib.Seq.{length-take-le, length-front, take-append-le, take-all}
+use Rattle.algebra.specs.Field.{Ops, Laws, OnNumbers}
+use Rattle.algebra.specs.Polynomial.{Below, coef, add, linear, frobenius, fieldPoly, rootsOf}
+use Rattle.algebra.specs.Routines.{monic, rem, gcd, norm, frobeniusMod, monicRoots}
+use Rattle.algebra.proofs.Series.{plus}
+use Rattle.algebra.proofs.Coefficients.{coef-top}
+use Rattle.algebra.proofs.Congruence.{Cong, cong-refl, cong-add}
+use Rattle.algebra.proofs.Division.{rem-cong}
+use Rattle.algebra.proofs.Euclid.{gcd-reduced}
+use Rattle.algebra.proofs.Modular.{frobenius-mod}
+use Rattle.algebra.proofs.Lengths.{length-rem, length-frobeniusMod, length-monicRoots}
+use Rattle.algebra.proofs.Crossing.{Elem, elems, laws, low, by-elements, low-add, low-gcd, low-rem, low-fieldPoly, low-frobeniusMod}
+use Rattle.algebra.proofs.StaysBelow.{append-below, replicate-below, take-below, below-from, add-below, rem-below, frobeniusMod-below, norm-below}
+use Rattle.algebra.proofs.NumberMonic.{norm-none}
+use Rattle.algebra.proofs.RootList.{split-part}
+use Rattle.algebra.specs.Polynomial.{Divides}
+use Rattle.slices.specs.Lists.{copied}
+use Rattle.slices.specs.Bounded.{allZero}
+use Rattle.slices.proofs.Lists.{copied-front, length-copied, drop-zeros}
+use Rattle.slices.proofs.Bounded.{allBelow-exactly}
+use Rattle.field.specs.Field.{fieldAt}
+use Rattle.field.proofs.Instance.{squared-size}
+use Rattle.poly.specs.Lent.{G, Lent}
+use Rattle.poly.specs.Monic.{front, MadeMonic}
+use Rattle.poly_powers.specs.Powers.{Startable, powerRows}
+use Rattle.poly_gcd.specs.Euclid.{Turnable, GcdIs}
+use Rattle.poly.proofs.Logs.{field-of, numbers-of}
+use Rattle.table_rules.specs.Limit.{limit}
+use Rattle.table_begin.specs.SplitPart.{Residual, Residue, Splittable, SplitOff, Powered}
+
+-- ---- z^(2^m) + z modulo p
+
+module _ {K : Type 0} {F : Ops K} (L : Laws F) where
+  -- over an abstract field
+  run-top : (m n : ℕ) (p : List K)
+      → gcd F p (fieldPoly F m) ≡ gcd F p (add F (frobeniusMod F p m (rem F p (linear F (F .zero))) ++ replicate n (F .zero)) (linear F (F .zero)))
+  run-top m n p =
+      let z : List K = linear F (F .zero) in
+      let w : List K = frobeniusMod F p m (rem F p z) in
+      let power : Cong F (monic F p) (frobenius F m z) w = frobenius-mod L p m z (rem F p z) (rem-cong L p z) in
+      let top : Cong F (monic F p) (frobenius F m z) (w ++ replicate n (F .zero)) =
+      subst (λ f. Divides F (monic F p) (plus F (coef F (frobenius F m z)) f)) (sym (coef-top L w n)) power in
+      gcd-reduced L p (fieldPoly F m) (add F (w ++ replicate n (F .zero)) z)
+      (cong-add L (frobenius F m z) (w ++ replicate n (F .zero)) z z top (cong-refl L (monic F p) z))
+
+module _ {H : Ops ℕ} {q : ℕ} (N : OnNumbers H q) where
+  -- zeros are zeros
+  low-zeros : (n : ℕ) → low N (replicate n (elems N .zero)) ≡ replicate n (H .zero)
+  low-zeros zero = refl
+  low-zeros (suc n) = ap (λ l. H .zero ∷ l) (low-zeros n)
+
+  -- and of numbers
+  pub field-run-top : (m n : ℕ) (p : List ℕ) → Below q p
+      → gcd H p (fieldPoly H m) ≡ gcd H p (add H (frobeniusMod H p m (rem H p (linear H (H .zero))) ++ replicate n (H .zero)) (linear H (H .zero)))
+  field-run-top m n =
+      by-elements N (λ p. gcd H p (fieldPoly H m) ≡ gcd H p (add H (frobeniusMod H p m (rem H p (linear H (H .zero))) ++ replicate n (H .zero)) (linear H (H .zero)))) λ u.
+      let z : List (Elem q) = linear (elems N) (elems N .zero) in
+      let w : List (Elem q) = frobeniusMod (elems N) u m (rem (elems N) u z) in
+      ap (gcd H (low N u)) (sym (low-fieldPoly N m))
+      ∙ sym (low-gcd N u (fieldPoly (elems N) m)) ∙ ap (low N) (run-top (laws N) m n u) ∙ low-gcd N u (add (elems N) (w ++ replicate n (elems N .zero)) z)
+      ∙ ap (gcd H (low N u)) (low-add N (w ++ replicate n (elems N .zero)) z
+      ∙ ap (λ l. add H l (linear H (H .zero))) (map-append (λ x. x .0) w (replicate n (elems N .zero))
+      ∙ ap₂ (λ a b. a ++ b) (low-frobeniusMod N u m (rem (elems N) u z) ∙ ap (frobeniusMod H (low N u) m) (low-rem N u z)) (low-zeros n)))
+
+-- ---- `residue`
+
+-- nothing added
+add-none : (m : ℕ) (f : List ℕ) → add (G m) f [] ≡ f
+unfolding add
+add-none m [] = refl
+add-none m (x ∷ f) = refl
+
+-- z is added at place 1
+add-z : (m : ℕ) (f : List ℕ) → 2 ≤ length f → set f 1 (bitXor (getD f 1 0) 1) ≡ add (G m) f (linear (G m) 0)
+unfolding add
+add-z m [] h = absurd (omega arith)
+add-z m (x ∷ []) h = absurd (omega arith)
+add-z m (x ∷ y ∷ f) h = ap₂ (λ a b. a ∷ bitXor y 1 ∷ b) (sym (xor-zero-r x)) (sym (add-none m f))
+
+module _ {m : ℕ} {ls ts p b rows : List ℕ} (g : Residual m ls ts p b rows) where
+  -- what the power asks
+  pub residue-asks : {b₁ : List ℕ} → b₁ ≡ replicate (length b) 0
+      → Startable m ls ts p (take (length p) (replicate limit 0)) (take (length p) b₁) (take (length p + length p) (replicate (limit + limit) 0))
+  residue-asks {b₁} e =
+      let few = g .few in
+      let room = g .room in
+      let long : length b₁ ≡ length b = ap length e ∙ length-replicate (length b) 0 in
+      record {
+        tables = g .tables;
+        small = g .small;
+        room-row = sym (length-take-le (length p) (replicate limit 0) (omega arith));
+        room-w = length-take-le (length p) b₁ (omega arith);
+        room-s = length-take-le (length p + length p) (replicate (limit + limit) 0) (omega arith);
+      }
+
+  -- b stays as long as it is
+  pub residue-long : {b₁ w : List ℕ} (x : ℕ) → b₁ ≡ replicate (length b) 0 → w ≡ frobeniusMod (G m) p m (rem (G m) p (0 ∷ 1 ∷ []))
+      → length (set (w ++ drop (length p) b₁) 1 x) ≡ length b
+  residue-long {b₁} {w} x e d =
+      let room = g .room in
+      let long : length b₁ ≡ length b = ap length e ∙ length-replicate (length b) 0 in
+      let low : length w ≡ length p = ap length d ∙ length-frobeniusMod (G m) p m (rem (G m) p (0 ∷ 1 ∷ [])) (length-rem (G m) p (0 ∷ 1 ∷ [])) in
+      length-set (w ++ drop (length p) b₁) 1 x ∙ length-front b₁ w (length p) (low ∙ sym (length-take-le (length p) b₁ (omega arith))) ∙ long
+
+  -- what is left
+  pub residue-is : {b₁ w : List ℕ} → b₁ ≡ replicate (length b) 0 → w ≡ frobeniusMod (G m) p m (rem (G m) p (0 ∷ 1 ∷ []))
+      → Residue m p (set (w ++ drop (length p) b₁) 1 (bitXor (getD (w ++ drop (length p) b₁) 1 0) 1))
+  residue-is {b₁} {w} e d =
+      let N : OnNumbers (G m) (2 ^ m) = numbers-of (g .tables) in
+      let z : List ℕ = 0 ∷ 1 ∷ [] in
+      let n : ℕ = length b - length p in
+      let zs : Below (2 ^ m) z = (N .zero-below, (N .one-below, tt)) in
+      let rest : drop (length p) b₁ ≡ replicate n 0 = ap (drop (length p)) e ∙ drop-zeros (length p) (length b) in
+      let long : length w ≡ length p = ap length d ∙ length-frobeniusMod (G m) p m (rem (G m) p z) (length-rem (G m) p z) in
+      let f : List ℕ = w ++ replicate n 0 in
+      let two : 2 ≤ length f = omega (arith, length-append w (replicate n 0), length-replicate {A = ℕ} n 0, g .two, g .room) in
+      let is : set (w ++ drop (length p) b₁) 1 (bitXor (getD (w ++ drop (length p) b₁) 1 0) 1) ≡ add (G m) f z =
+      ap (λ u. set (w ++ u) 1 (bitXor (getD (w ++ u) 1 0) 1)) rest ∙ add-z m f two in
+      let below : Below (2 ^ m) w = subst (Below (2 ^ m)) (sym d) (frobeniusMod-below N p m (rem (G m) p z) (g .small) (rem-below N p z (g .small) zs)) in
+      record {
+        small = subst (Below (2 ^ m)) (sym is) (add-below N f z (append-below (2 ^ m) w (replicate n 0) below (replicate-below (2 ^ m) n 0 (N .zero-below))) zs);
+        same = ap (gcd (G m) p) (is ∙ ap (λ u. add (G m) (u ++ replicate n 0) z) d) ∙ sym (field-run-top N m n p (g .small));
+      }
+
+-- ---- `split_part`
+
+module _ {m : ℕ} {ls ts cs out rows : List ℕ} (g : Splittable m ls ts cs out rows) {out₁ : List ℕ} (e : out₁ ≡ copied cs out) where
+  -- the coefficients stand in front
+  copy-front : take (length cs) out₁ ≡ cs
+  copy-front = ap (take (length cs)) e ∙ copied-front cs out refl
+
+  -- and the slice is as long as it was
+  copy-long : length out₁ ≡ length out
+  copy-long = ap length e ∙ length-copied cs out (g .room)
+
+  -- what making monic asks
+  pub split-asks : Lent m ls ts × Below (2 ^ m) (take (length cs) out₁)
+  split-asks = (g .tables, subst (Below (2 ^ m)) (sym copy-front) (g .small))
+
+  module _ {j : ℕ} {y : List ℕ} (d : MadeMonic m (take (length cs) out₁) j y) where
+    -- they were made monic
+    normed : norm (G m) (length cs) cs ≡ front j y
+    normed = subst (λ l. norm (G m) (length l) l ≡ front j y) copy-front (d .made)
+
+    -- with no more coefficients than there were
+    within : j ≤ length cs
+    within = subst (λ l. j ≤ length l) copy-front (d .within)
+
+    -- in as many places
+    long-y : length y ≡ length cs
+    long-y = d .long ∙ ap length copy-front
+
+    -- a polynomial that is not 0 has a leading coefficient
+    pub split-some : 0 < j
+    unfolding front
+    split-some = go (decLt 0 j)
+      where
+        go : Dec (0 < j) → 0 < j
+        go (yes p) = p
+        go (no n) =
+            let none-left : norm (G m) (length cs) cs ≡ none = normed ∙ ap (λ i. front i y) (let z : j ≡ 0 = omega arith in z) in
+            let zeros : allZero cs ≡ true =
+            allBelow-exactly 1 cs .1 (below-from 1 cs (λ i l. let z : getD cs i 0 ≡ 0 = norm-none (numbers-of (g .tables)) cs (g .small) none-left i in omega arith)) in
+            absurd (let b : _≡_ {A = Bool} true false = sym zeros ∙ g .nonzero in let o : _≡_ {A = ℕ} 0 1 = cc in let x : ⊥ = omega arith in x)
+
+    -- the low coefficients of the monic polynomial, where they stand
+    p : List ℕ
+    p = take (j - 1) (y ++ drop (length cs) out₁)
+
+    -- which the theory makes of all coefficients
+    lead : norm (G m) (length cs) cs ≡ some p
+    unfolding front p
+    lead =
+        let back : suc (j - 1) ≡ j = omega (arith, split-some) in
+        normed ∙ ap (λ i. front i y) (sym back) ∙ ap some (sym (take-append-le (j - 1) y (drop (length cs) out₁) (omega (arith, within, long-y))))
+
+    -- the slice is as long as it was
+    long-out : length (y ++ drop (length cs) out₁) ≡ length out
+    long-out = length-front out₁ y (length cs) (long-y ∙ sym (ap length copy-front)) ∙ copy-long
+
+    -- its degree is one less than its coefficients
+    long-p : length p ≡ j - 1
+    unfolding p
+    long-p = length-take-le (j - 1) (y ++ drop (length cs) out₁) (omega (arith, long-out, within, g .room))
+
+    -- and they are elements
+    small-p : Below (2 ^ m) p
+    small-p = norm-below (numbers-of (g .tables)) (length cs) cs (g .small) lead
+
+    -- they stand within the slice
+    pub split-room : j - 1 ≤ length (y ++ drop (length cs) out₁)
+    split-room = omega (arith, long-out, within, g .room)
+
+    -- what the power asks
+    pub split-residual : {b : List ℕ} → length b ≡ suc limit → Residual m ls ts (take (j - 1) (y ++ drop (length cs) out₁)) b rows
+    unfolding p
+    split-residual h = record {
+      tables = g .tables;
+      small = small-p;
+      few = omega (arith, long-p, within, split-some, g .few);
+      room = omega (arith, long-p, within, split-some, g .few);
+      two = omega arith;
+      room-rows = le-trans (mul-le-mul-left m (let k : length p ≤ limit = omega (arith, long-p, within, split-some, g .few) in k)) (g .room-rows);
+    }
+
+    -- the powers are those modulo the polynomial made monic
+    pub split-powered : {rows₁ : List ℕ} → take (m * length (take (j - 1) (y ++ drop (length cs) out₁))) rows₁
+        ≡ powerRows m (take (j - 1) (y ++ drop (length cs) out₁)) m (rem (G m) (take (j - 1) (y ++ drop (length cs) out₁)) (0 ∷ 1 ∷ [])) → Powered m cs (j - 1) rows₁
+    unfolding p
+    split-powered {rows₁} e = record { low = p; made = lead; long = long-p; rows-are = ap (λ k. take (m * k) rows₁) (sym long-p) ∙ e }
+
+    module _ {b : List ℕ} (r : Residue m (take (j - 1) (y ++ drop (length cs) out₁)) b) (h : length b ≡ suc limit) where
+      -- what the greatest common divisor asks
+      pub split-turnable : {row : List ℕ} {n : ℕ} → length row ≡ limit → n ≤ suc limit → Turnable m ls ts row (y ++ drop (length cs) out₁) (j - 1) b n
+      unfolding p
+      split-turnable {row} {n} k l = record {
+        tables = g .tables;
+        room-row = omega (arith, within, split-some, g .few);
+        room-a = omega (arith, long-out, within, split-some, g .room);
+        room-b = omega (arith, within, split-some, g .few);
+        within = omega arith;
+        small-a = small-p;
+        small-b = take-below (2 ^ m) n b (r .small);
+      }
+
+      -- what is left
+      pub split-is : {k : ℕ} {a : List ℕ} → length a ≡ length out → GcdIs m (y ++ drop (length cs) out₁) (j - 1) b (suc limit) k a → SplitOff m cs k a
+      unfolding p
+      split-is {k} {a} l i =
+          let N : OnNumbers (G m) (2 ^ m) = numbers-of (g .tables) in
+          let roots : List ℕ = rootsOf (G m) (2 ^ m) cs in
+          let fewer : k < length cs = omega (arith, i .count, within, split-some) in
+          let low : take k a ≡ monicRoots (G m) roots =
+          i .low ∙ ap (gcd (G m) p) (take-all (suc limit) b (omega arith)) ∙ r .same
+          ∙ split-part N m refl (N .one-below) (squared-size (fieldAt m) (field-of (g .tables))) cs (g .small) lead in
+          record {
+            count = sym (length-take-le k a (omega (arith, g .room))) ∙ ap length low ∙ length-monicRoots (G m) roots;
+            fewer = fewer;
+            low = low;
+          }

@@ -1,0 +1,49 @@
+-- `table_finish::finish` meets its contract: a refusal writes nothing, and else the list is made.
+-- Assumes nothing.
+use mathlib.Core.Path.{subst}
+use Rattle.table_finish.specs.Finishing.{Opens}
+use Rattle.table_finish.proofs.FinishTests.{closed-is, opened-asks, opened-is}
+use borrow.Author.Needs.{needs}
+use Rattle.table_finish.proofs.finish.Statement.{statement}
+use Rattle.table_finish.proofs.finish.Tie as tie
+
+admit-requires : tie.Need-admit-requires
+admit-requires c κs = search needs
+
+enum-known-k : tie.Need-enum-known-k
+enum-known-k c = search needs
+
+enum-told : tie.Need-enum-told
+enum-told c = search needs
+
+finish-at-requires : tie.Need-finish-at-requires
+finish-at-requires c κs = opened-asks (subst (Opens _ _) (c .before .enum-told .given .1) (c .before .before .before .admit .ensures))
+
+cast-t11 : tie.Need-cast-t11
+cast-t11 c = search needs
+
+same-length : tie.Need-same-length
+same-length c = search needs
+
+returns : tie.Need-returns
+returns c = closed-is (subst (Opens _ _) (c .before .k .given .1) (c .before .before .before .admit .ensures))
+
+same-length-2 : tie.Need-same-length-2
+same-length-2 c = search needs
+
+returns-2 : tie.Need-returns-2
+returns-2 c = opened-is (subst (Opens _ _) (c .before .before .before .before .enum-told .given .1) (c .before .before .before .before .before .before .admit .ensures)) (c .before .before .finish-at .ensures)
+
+pub finish-spec : {M : Type 1} → statement M
+finish-spec =
+    tie.close
+    (tie.spec
+    admit-requires
+    enum-known-k
+    enum-told
+    finish-at-requires
+    cast-t11
+    same-length
+    returns
+    same-length-2
+    returns-2)

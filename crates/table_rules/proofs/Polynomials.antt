@@ -1,0 +1,76 @@
+-- Which polynomials are accepted, and what is known of them.
+--   polynomial-told             what a polynomial that passed the five tests is
+--   roots-few                   it has no more roots than the limit
+--   passed-more                 where the five pass, the tests that follow decide: by a pass
+--   passed-first, passed-rest   and where all pass, the five and those that follow do
+-- Assumes nothing.
+use mathlib.Core.Path.{_≡_, refl, sym, _∙_}
+use mathlib.Core.Bool.{Bool, true, false}
+use mathlib.Core.Option.{Option, none, some}
+use mathlib.Core.List.{List, []}
+use Prim.Native.Nat.{ℕ, suc, _≤_, _^_}
+use native.Mathlib.Omega.{arith}
+use borrow.Author.Tests.{eqb-false, ltb-false, not-false}
+use lib.ListN.{length, getD}
+use Rattle.algebra.specs.Field.{OnNumbers}
+use Rattle.algebra.specs.Routines.{norm}
+use Rattle.algebra.proofs.NumberMonic.{norm-made, norm-none}
+use Rattle.algebra.proofs.RootList.{rootsOf-degree}
+use Rattle.algebra.proofs.StaysBelow.{below-from}
+use Rattle.slices.specs.Bounded.{allBelow, allZero}
+use Rattle.slices.proofs.Bounded.{allBelow-exactly}
+use Rattle.refusals.specs.Order.{Passed}
+use Rattle.refusals.specs.Order.Passed.{none as none-left}
+use Rattle.refusals.specs.Rows.{known}
+use Rattle.refusals.proofs.Order.{passes, failed, others, passed-both}
+use Rattle.field.specs.Field.{numbers, fieldAt}
+use Rattle.table_rules.specs.Limit.{limit}
+use Rattle.table_rules.specs.Polynomials.{polynomialTests, PolynomialIn}
+use Rattle.table_rules.specs.Splitting.{rootsAt}
+use Rattle.table_rules.proofs.Fields.{known-field}
+
+-- whatever tests follow
+pub polynomial-told : (m : ℕ) (cs : List ℕ) {us : List (ℕ × Bool)} → Passed (polynomialTests m cs us) → PolynomialIn m cs
+polynomial-told m cs p =
+    let second = others p in
+    let third = others second in
+    let fourth = others third in
+    record {
+      field = not-false (known m) (failed p);
+      some = let n = eqb-false (length cs) 0 (failed second) in omega arith;
+      few = ltb-false (suc limit) (length cs) (failed third);
+      small = allBelow-exactly (2 ^ m) cs .0 (not-false (allBelow (2 ^ m) cs) (failed fourth));
+      nonzero = failed (others fourth);
+    }
+
+-- no more than the limit
+pub roots-few : {m : ℕ} {f : List ℕ} → PolynomialIn m f → length (rootsAt m f) ≤ limit
+roots-few {m} {f} t = go (norm (numbers (fieldAt m)) (length f) f) refl
+  where
+    N : OnNumbers (numbers (fieldAt m)) (2 ^ m)
+    N = known-field m (t .field) .numbers
+
+    go : (o : Option (List ℕ)) → norm (numbers (fieldAt m)) (length f) f ≡ o → length (rootsAt m f) ≤ limit
+    go none e =
+        let zeros : allZero f ≡ true = allBelow-exactly 1 f .1 (below-from 1 f (λ i l. let z : getD f i 0 ≡ 0 = norm-none N f (t .small) e i in omega arith)) in
+        let b : _≡_ {A = Bool} true false = sym zeros ∙ t .nonzero in
+        let o : _≡_ {A = ℕ} 0 1 = cc in
+        absurd (let x : ⊥ = omega arith in x)
+    go (some s) e = omega (arith, rootsOf-degree N f (t .small) e, norm-made N f (t .small) e .shorter, t .few)
+
+-- ---- further tests behind the five
+
+-- where the five pass, what follows decides: by a pass
+pub passed-more : (m : ℕ) (cs : List ℕ) {us : List (ℕ × Bool)} → Passed (polynomialTests m cs []) → Passed us → Passed (polynomialTests m cs us)
+passed-more m cs p q = passed-both p q
+
+-- what the tests of a polynomial with others behind them say: the five pass, and so do the others
+pub passed-first : (m : ℕ) (cs : List ℕ) {us : List (ℕ × Bool)} → Passed (polynomialTests m cs us) → Passed (polynomialTests m cs [])
+passed-first m cs p =
+    let q = others p in
+    let r = others q in
+    let s = others r in
+    passes (failed p) (passes (failed q) (passes (failed r) (passes (failed s) (passes (failed (others s)) none-left))))
+
+pub passed-rest : (m : ℕ) (cs : List ℕ) {us : List (ℕ × Bool)} → Passed (polynomialTests m cs us) → Passed us
+passed-rest m cs p = others (others (others (others (others p))))

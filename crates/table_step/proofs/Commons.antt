@@ -1,0 +1,118 @@
+-- The first part of a factor, as the code finds it: the greatest common divisor with a polynomial that stands for Tr(a^i z), as the trace sum modulo the factor does.
+--   level-fits, level-power   the antilog of the level i is a^i
+--   traced, traced-long       the trace sum that the code makes is that of a^i z, as long as the factor
+--   traced-same               it has the greatest common divisor with the factor that Tr(a^i z) has
+--   gcd-asks, common-is       what Euclid's loop takes and leaves
+-- Assumes nothing.
+use mathlib.Core.Path.{_≡_, refl, sym, ap, ap₂, subst, _∙_}
+use mathlib.Core.Bool.{true}
+use mathlib.Core.List.{List, [], _∷_}
+use Prim.Native.Nat.{ℕ, suc, _-_, _*_, _^_, _≤_, _<_}
+use native.Mathlib.Omega.{arith}
+use borrow.Author.Tests.{lt-ltb}
+use lib.Dec.{lit<}
+use lib.ListN.{length, getD, take}
+use lib.Seq.{length-take-le}
+use Rattle.refusals.specs.Rows.{known}
+use Rattle.refusals.proofs.Rows.{by-row, listed}
+use Rattle.algebra.specs.Field.{power}
+use Rattle.algebra.specs.Polynomial.{Below}
+use Rattle.algebra.specs.Routines.{rem, traceMod, gcd}
+use Rattle.algebra.proofs.Lengths.{length-rem, length-traceMod}
+use Rattle.algebra.proofs.StaysBelow.{power-below, rem-below, traceMod-below}
+use Rattle.algebra.proofs.NumberSteps.{trace-run}
+use Rattle.field.specs.Field.{order, fieldAt}
+use Rattle.field.specs.Tables.{antilogOf}
+use Rattle.slices.specs.Lists.{copied}
+use Rattle.slices.proofs.Lists.{copied-front, length-copied}
+use Rattle.poly.specs.Lent.{G}
+use Rattle.poly_gcd.specs.Euclid.{Turnable, GcdIs}
+use Rattle.poly.proofs.Logs.{field-of, numbers-of}
+use Rattle.table_rules.specs.Splitting.{halvingAt}
+use Rattle.table_rules.specs.Limit.{limit}
+use Rattle.table_step.specs.Parting.{Splittable, Partable, IsCommon}
+
+-- a known degree is less than the size of its field
+degree-less : (m : ℕ) → known m ≡ true → m < 2 ^ m
+degree-less m k = by-row (λ n p. n < 2 ^ n) (lit< tt) (lit< tt) (lit< tt) (listed m k)
+
+module _ {m : ℕ} {ls ts p : List ℕ} {i : ℕ} (s : Splittable m ls ts p i) where
+  -- the level indexes the antilog table
+  pub level-fits : i < length ts
+  level-fits = omega (arith, s .level, s .tables .antilogs .entries, degree-less m (s .tables .degree))
+
+  -- and its entry there is a^i
+  pub level-power : getD ts i 0 ≡ power (G m) 2 i
+  unfolding antilogOf
+  level-power =
+      let h : i < 2 * order (fieldAt m) = omega (arith, s .level, degree-less m (s .tables .degree)) in
+      s .tables .antilogs .entry i (omega arith) ∙ rw (lt-ltb i (2 * order (fieldAt m)) h)
+
+  -- a^i is an element
+  pub power-small : power (G m) 2 i < 2 ^ m
+  power-small = power-below (numbers-of (s .tables)) 2 i (field-of (s .tables) .two)
+
+  -- so is the entry
+  pub level-small : getD ts i 0 < 2 ^ m
+  level-small = subst (λ b. b < 2 ^ m) (sym level-power) power-small
+
+  -- a^i z modulo the factor, and its trace sum
+  abbrev start : List ℕ
+  start = rem (G m) p (0 ∷ power (G m) 2 i ∷ [])
+
+  -- Tr(a^i z) modulo the factor
+  abbrev trace : List ℕ
+  trace = traceMod (G m) p m start
+
+  -- what the code sums up is that
+  pub traced : {t : List ℕ} → t ≡ traceMod (G m) p m (rem (G m) p (0 ∷ getD ts i 0 ∷ [])) → t ≡ trace
+  traced e = e ∙ ap (λ b. traceMod (G m) p m (rem (G m) p (0 ∷ b ∷ []))) level-power
+
+  -- it is as long as the factor
+  pub traced-long : {t : List ℕ} → t ≡ trace → length t ≡ length p
+  traced-long {t} e =
+      let j : m ≡ suc (m - 1) = omega (arith, s .level) in
+      ap length e ∙ ap (λ k. length (traceMod (G m) p k start)) j ∙ length-traceMod (G m) p (m - 1) start (length-rem (G m) p (0 ∷ power (G m) 2 i ∷ []))
+
+  -- its coefficients are elements
+  pub trace-small : Below (2 ^ m) trace
+  trace-small =
+      let n = numbers-of (s .tables) in
+      traceMod-below n p m start (s .small) (rem-below n p (0 ∷ power (G m) 2 i ∷ []) (s .small) (omega (arith, power-small), (power-small, tt)))
+
+  -- and it stands for Tr(a^i z)
+  pub traced-same : gcd (G m) p trace ≡ halvingAt m .low i p
+  traced-same = sym (trace-run (numbers-of (s .tables)) m (power (G m) 2 i) power-small p (s .small))
+
+-- ---- `common`
+
+module _ {m : ℕ} {ls ts p : List ℕ} {i : ℕ} {t : List ℕ} (s : Partable m ls ts p i t) {b g : List ℕ} (g₀ z : List ℕ) (e : b ≡ copied t z) (c : g ≡ copied p g₀)
+    (l : length p < length g₀) (n : length z ≡ limit) where
+  -- the copy of the factor
+  front-g : take (length p) g ≡ p
+  front-g = ap (take (length p)) c ∙ copied-front p g₀ refl
+
+  -- and of the polynomial
+  front-b : take (length t) b ≡ t
+  front-b = ap (take (length t)) e ∙ copied-front t z refl
+
+  long-b : length b ≡ limit
+  long-b = ap length e ∙ length-copied t z (omega (arith, s .few)) ∙ n
+
+  -- what Euclid's loop may take for granted
+  pub gcd-asks : {row : List ℕ} → length p ≤ length row → Turnable m ls ts row g (length p) b (length t)
+  gcd-asks r = record {
+    tables = s .splittable .tables;
+    room-row = r;
+    room-a = omega (arith, ap length c, length-copied p g₀ (omega arith));
+    room-b = omega (arith, long-b, s .splittable .few);
+    within = omega (arith, long-b, s .few);
+    small-a = subst (Below (2 ^ m)) (sym front-g) (s .splittable .small);
+    small-b = subst (Below (2 ^ m)) (sym front-b) (s .small);
+  }
+
+  -- what it leaves is the first part
+  pub common-is : {r : ℕ} {g′ : List ℕ} → GcdIs m g (length p) b (length t) r g′ → length p < length g′ → IsCommon m i p r g′
+  common-is {r} {g′} q h =
+      let low : take r g′ ≡ halvingAt m .low i p = q .low ∙ ap₂ (gcd (G m)) front-g front-b ∙ s .same in
+      record { degree = sym (length-take-le r g′ (omega (arith, q .count))) ∙ ap length low; low = low }

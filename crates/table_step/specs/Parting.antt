@@ -1,0 +1,79 @@
+-- What the routines of a step take and leave.
+--   Splittable   the factor p at a level can be split: the field's tables are lent, and it is within the rules and below level m
+--   Partable     the same with a polynomial t that has the greatest common divisor with p that Tr(a^i z) has
+--   Restable     g can be taken out of p, with the rest written to h
+--   IsCommon     the first r coefficients of g are the first part's: the monic greatest common divisor of p and Tr(a^i z)
+--   Appended     a factor was written to w at `at` unless it is constant, and r is the place behind it
+--   Parted       the parts of the factor p stand at the front of w, in r slots
+--   factorAt     the coefficients of the factor at o of a table
+--   Steppable    the factor at o of a table is the one that a step splits, and the field's tables are lent
+--   Ready        the same with such a polynomial t lent
+-- Assumes nothing.
+use mathlib.Core.Path.{_≡_}
+use mathlib.Core.List.{List}
+use Prim.Native.Nat.{ℕ, _+_, _-_, _^_, _≤_, _<_}
+use lib.ListN.{length, getD, take, drop}
+use Rattle.algebra.specs.Polynomial.{Below}
+use Rattle.algebra.specs.Routines.{gcd}
+use Rattle.poly.specs.Lent.{G, Lent}
+use Rattle.slices.specs.Lists.{pasted}
+use Rattle.table_rules.specs.Entries.{unlessEmpty, parts}
+use Rattle.table_rules.specs.Layout.{blocks}
+use Rattle.table_rules.specs.Splitting.{halvingAt}
+use Rattle.table_rules.specs.Limit.{limit}
+use Rattle.table_check.specs.Verdicts.{Chosen}
+
+-- over the field of degree m
+pub record Splittable (m : ℕ) (ls ts p : List ℕ) (i : ℕ) : Type 0 where
+  pub tables : Lent m ls ts
+  pub small : Below (2 ^ m) p
+  pub few : length p ≤ limit
+  pub level : i < m
+
+-- t stands for Tr(a^i z)
+pub record Partable (m : ℕ) (ls ts p : List ℕ) (i : ℕ) (t : List ℕ) : Type 0 where
+  pub splittable : Splittable m ls ts p i
+  pub small : Below (2 ^ m) t
+  pub few : length t ≤ limit
+  pub same : gcd (G m) p t ≡ halvingAt m .low i p
+
+-- g is no longer than p, and h as long as what is left
+pub record Restable (m : ℕ) (ls ts p g h : List ℕ) : Type 0 where
+  pub tables : Lent m ls ts
+  pub small-p : Below (2 ^ m) p
+  pub small-g : Below (2 ^ m) g
+  pub few : length p ≤ limit
+  pub shorter : length g ≤ length p
+  pub room : length h ≡ length p - length g
+
+-- the part that goes first
+pub record IsCommon (m i : ℕ) (p : List ℕ) (r : ℕ) (g : List ℕ) : Type 0 where
+  pub degree : r ≡ length (halvingAt m .low i p)
+  pub low : take r g ≡ halvingAt m .low i p
+
+-- its slots, and nothing else
+pub record Appended (at i : ℕ) (low w : List ℕ) (r : ℕ) (w′ : List ℕ) : Type 0 where
+  pub slots : w′ ≡ pasted at (blocks (unlessEmpty i low)) w
+  pub place : r ≡ at + length (blocks (unlessEmpty i low))
+
+-- one level further
+pub record Parted (m i : ℕ) (p : List ℕ) (r : ℕ) (w : List ℕ) : Type 0 where
+  pub slots : take r w ≡ blocks (parts (halvingAt m) (i, p))
+  pub count : r ≡ length (blocks (parts (halvingAt m) (i, p)))
+
+-- as many as its degree says
+abbrev pub factorAt : List ℕ → ℕ → List ℕ
+factorAt l o = take (getD l (o + 1) 0) (drop (o + 2) l)
+
+-- the field is that of slot 0
+pub record Steppable (l ls ts : List ℕ) (o : ℕ) : Type 0 where
+  pub chosen : Chosen l o
+  pub tables : Lent (getD l 0 0) ls ts
+
+-- the level is that of the factor
+pub record Ready (l ls ts : List ℕ) (o : ℕ) (t : List ℕ) : Type 0 where
+  pub chosen : Chosen l o
+  pub tables : Lent (getD l 0 0) ls ts
+  pub small : Below (2 ^ getD l 0 0) t
+  pub few : length t ≤ limit
+  pub same : gcd (G (getD l 0 0)) (factorAt l o) t ≡ halvingAt (getD l 0 0) .low (getD l o 0) (factorAt l o)
