@@ -1,4 +1,8 @@
 -- The natural numbers are a commutative ring under exclusive or and the carry-free product. No law has a bound.
+--   carryFree-step       the product by one digit more
+--   carryFree-zero-l ..  the product with 0, 1, a double or a digit; -l and -r say on which side
+--   carryFree-comm, carryFree-assoc     it is commutative and associative
+--   carryFree-xor-l, carryFree-xor-r    it distributes over the exclusive or
 -- Assumes nothing.
 use mathlib.Core.Path.{_≡_, refl, sym, ap, ap₂, _∙_}
 use Prim.Native.Nat.{ℕ, _*_, _/_, _%_}

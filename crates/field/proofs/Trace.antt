@@ -1,4 +1,10 @@
 -- The trace is additive, is 0 or 1, and its bits Tr(x), Tr(ax), .. tell any two elements apart.
+--   trace-xor       the trace is additive;  trace-lt  it is an element;  trace-bit  it is 0 or 1
+--   squared-power   n squarings are the power 2^n;  sum-term  the terms of the trace are x^(2^i)
+--   trace-of-square a square has the trace of its root
+--   power-low       below the degree, a^i is the number 2^i
+--   bits-apart      no two elements have the same trace bits, where some element has trace 1
+--   trace-bits      no two elements of a known field have the same trace bits Tr(x), Tr(ax), .., Tr(a^(m-1) x)
 -- Assumes nothing.
 use mathlib.Core.Path.{_≡_, refl, sym, ap, ap₂, _∙_, subst}
 use mathlib.Core.Logic.{_⊎_, inl, inr, ⊎-elim}

@@ -1,4 +1,6 @@
 -- What `run` does with its two halves.
+--   Halves, halves   what is known of the half of n = 2^k
+--   joined           what stands when both halves are back;  halved  the same with no butterflies before
 -- Assumes nothing.
 use mathlib.Core.Path.{_≡_, refl, sym, ap, ap₂, _∙_}
 use mathlib.Core.List.{List, _++_}
