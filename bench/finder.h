@@ -16,7 +16,7 @@ struct finder {
 
 extern const struct finder bch_finder, bch_fixed_finder, flint_finder;
 
-/* The field polynomials of document 01. */
+/* The field polynomials (RULES 1.1). */
 static inline unsigned field_polynomial(int m)
 {
     return m == 4 ? 19 : m == 8 ? 285 : 2053;

@@ -25,7 +25,7 @@ static void expect(int holds, const char *what)
 /* counts the call, and tells libFuzzer what came of it */
 static void note(int call, unsigned outcome, unsigned detail)
 {
-    expect(outcome < OUTCOMES, "an outcome that is no number of the papers");
+    expect(outcome < OUTCOMES, "an outcome that is no number of RULES 8.3");
     tally[call][outcome]++;
     reached[((unsigned)call * OUTCOMES + outcome) * DETAILS + detail % DETAILS] = 1;
 }

@@ -1,4 +1,4 @@
-/* The rules of document 01, and M-101 of document 02, in plain C, for the fuzz targets: the fields by shift and add,
+/* The rules of docs/RULES.md sections 1 to 6 in plain C, for the fuzz targets: the fields by shift and add,
    places by trial, refusals 1 to 6, roots by evaluation at every element, steps by counting groups. Nothing here is the
    product's. */
 #include <stddef.h>

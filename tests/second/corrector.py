@@ -1,4 +1,4 @@
-"""The block corrector of request M-102, by plain methods.
+"""The block corrector (docs/RULES.md section 7), by plain methods.
 
 A word is 256 bytes, bit j in byte j div 8 at weight 2^(j mod 8). Its value at
 a^i is the sum of a^(i j) over its bits. The places to flip come from Peterson's

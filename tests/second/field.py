@@ -1,4 +1,4 @@
-"""The three fields of document 01, by plain methods.
+"""The three fields (docs/RULES.md section 1), by plain methods.
 
 A product is a carry-free product and then a long division. Inverse, position
 and quadratic are found by trial. Nothing here refuses: see reference.py.
@@ -8,7 +8,7 @@ from array import array
 
 POLYNOMIALS = {4: 0b10011, 8: 0b100011101, 11: 0b100000000101}
 DEGREES = tuple(POLYNOMIALS)
-A = 2  # the element the paper calls "a"
+A = 2  # the element called a (RULES 1.2)
 NO_HALF = 65535  # the quadratic table's mark for "Tr(i) = 1"
 
 

@@ -1,6 +1,6 @@
-"""Document 01 by plain methods, with M-101 of document 02.
+"""Sections 1 to 6 of docs/RULES.md by plain methods.
 
-Every call returns (outcome, values, memory): the outcome is 0 or the paper's
+Every call returns (outcome, values, memory): the outcome is 0 or a refusal's
 number, or one of the words DONE, NONE, END, which have no number; the values
 are a tuple; the memory is the lent list or table as it stands afterwards
 (() where none is lent). Lent memory that comes in is never changed in place.
@@ -354,7 +354,7 @@ def begin(m, coefficients, cutoff, table):
 
 
 def split(m, level, p):
-    """g and h of the paper's step."""
+    """g and h of a step (RULES 4.3)."""
     g = gcd(m, p, remainder(m, trace_polynomial(m, level), p))
     h, rest = divide(m, p, g)
     if rest:

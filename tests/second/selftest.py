@@ -1,4 +1,4 @@
-"""Checks of the second program against the paper and against itself.
+"""Checks of the second program against docs/RULES.md and against itself.
 
     selftest.py [--seed S] [--count N]
 
@@ -107,8 +107,8 @@ def check_fields(rng, count):
                 roots = [] if j == 65535 else sorted((field.product(m, a, j), field.product(m, a, j ^ 1)))
                 single = len(roots) != 1
             check("quadratics by the table equal those by trial", single and roots == field.quadratic(m, a, b), m, a, b)
-    paper = [0, 6, 10, 12, 8, 14, 2, 4] + [65535] * 8
-    check("the paper's quadratic table for m = 4", field.half_table(4) == paper)
+    printed = [0, 6, 10, 12, 8, 14, 2, 4] + [65535] * 8
+    check("the quadratic table for m = 4, as RULES 2.3 has it", field.half_table(4) == printed)
 
 
 def check_elements():
@@ -152,7 +152,7 @@ def check_positions(rng):
                 check("the roots of a locator give back its places", found == places, m, convention, places)
 
 
-# The paper's figures.
+# The figures of docs/RULES.md section 10.
 
 
 def check_figures():
@@ -421,7 +421,7 @@ def check_tables(rng, count):
 def check_records(rng, count):
     example = records.EXAMPLE
     lines = ["1 0 3 4 1 2 3", "2 1", "3 0 3 2 1 6 7"]
-    check("the paper's input of three records", R.roots_lines(example) == lines)
+    check("the input of three records of RULES 6.4", R.roots_lines(example) == lines)
     check("no input, no line", R.roots_lines(b"") == [])
     for length in range(len(example) + 1):
         whole = [line for line, end in zip(lines, (13, 20, 33)) if end <= length]

@@ -32,7 +32,7 @@ import reference as R
 
 BEGIN, STEP, FINISH, WHOLE, SEARCH = range(5)
 OPS = ("begin", "step", "finish", "whole", "search")
-GOOD = [6, 7, 0, 1]  # the paper's first figure
+GOOD = [6, 7, 0, 1]  # the first figure of RULES 10
 
 
 def pack_numbers(numbers):
@@ -351,7 +351,7 @@ class Maker:
                 while outcome == 0:
                     yield from self.both(table)
                     outcome, _, table = R.step(table)
-        # the paper's own table with its followers, a full one, a few of each kind
+        # the table of the first figure with its followers, a full one, a few of each kind
         chosen = [t for c in (1, 2, 3) for t in self.begun(GOOD, c)]
         chosen += rng.sample(bases, min(3, count)) + rng.sample(foreign, min(3, count))
         chosen += [edges[1], edges[3]]

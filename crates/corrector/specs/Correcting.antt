@@ -1,4 +1,4 @@
--- THE BLOCK CORRECTOR, in the words of the request: all that the contract of `correct` rests on, and the contract.
+-- THE BLOCK CORRECTOR (docs/RULES.md section 7): all that the contract of `correct` rests on, and the contract.
 -- A word is 2047 bits in 256 bytes, bit j in byte j div 8 at weight 2^(j mod 8); the last bit is 0. As a polynomial it
 -- has bit j at x^j. Its values are taken in field 11, where a is the element 2.
 --   bitAt word j        bit j, 0 or 1

@@ -1,5 +1,5 @@
 // The remainder of a word by the generator, four bytes at a time, and the odd syndromes that it has. The remainder has
-// 88 binary digits; the 32 that leave at the top with four bytes more come back by the rows of the crate `generator`.
+// 88 binary digits; the 32 that leave at the top with four bytes more come back by the rows of corrector_generator.
 ghost use mathlib.Core.Path.{_≡_};
 ghost use Prim.Native.Nat.{_+_, _*_, _^_, _<_};
 ghost use lib.ListN.{length};

@@ -1,4 +1,4 @@
--- Two outcomes that a contract of an element call admits coincide: an answer is told by the paper's number and values.
+-- Two outcomes that a contract of an element call admits coincide: an answer is told by its number and values.
 --   answer-told, roots-told   two answers with one number and one list of values are one
 --   product-coincide ..       so for each call
 -- Assumes nothing.
@@ -15,7 +15,7 @@ use Rattle.field_elements.specs.declared.Answer.the-variants.{Value, Ref
 use Rattle.field.specs.declared.solver.Quadratic.{Quadratic}
 use Rattle.field.specs.declared.solver.Quadratic.the-variants.{Refused as Turned, NoRoot, One, Two}
 
--- the answer that the paper's number and values stand for
+-- the answer that a number and values stand for
 answerOf : ℕ × List ℕ → Answer
 answerOf o = by-number Refused (Value (getD (o .1) 0 0)) (o .0)
 

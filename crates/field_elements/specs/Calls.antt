@@ -1,4 +1,4 @@
--- What the public element calls answer: the paper's outcome of each, for every input.
+-- What the public element calls answer, for every input (docs/RULES.md section 2; the order of refusals is RULES 8.2).
 --   paper               the number and the value of an answer
 --   pairTests, nonzeroTests, positionTests   the tests in their order, each behind its number
 --   positionUnder       the position of a root under a convention

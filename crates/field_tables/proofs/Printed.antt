@@ -1,4 +1,4 @@
--- The quadratic table of field 4 reads as document 01 prints it.
+-- The quadratic table of field 4 reads as docs/RULES.md section 2.3 prints it.
 --   printed-rule    the printed list keeps the table's rule: one computed test
 --   halves4-reads   whatever keeps the rule in field 4, as what `constants::halves4` gives does, is the printed list
 -- Assumes nothing.

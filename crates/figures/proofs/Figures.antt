@@ -1,4 +1,4 @@
--- Every figure of document 01 that is marked P is right: one claim over the table, computed by antt from the definitions
+-- Every figure of docs/RULES.md section 10 is right: one claim over the table, computed by antt from the definitions
 -- that the contracts cite.
 --   figures-right   the claim
 --   roots-11, count-11   the roots and the steps of the figure in field 11, whose 2048 elements antt does not try

@@ -1,5 +1,5 @@
--- The bench figures of document 01 that are marked P, in one table: inputs of the whole call with an empty list of 32
--- slots, what it answers, and how the work table begins after so many steps, where the document says that.
+-- The figures of docs/RULES.md section 10, in one table: inputs of the whole call with an empty list of 32
+-- slots, what it answers, and how the work table begins after so many steps, where they say that.
 --   Figure   field degree, cutoff, coefficients; the outcome's number and values; the roots where it is accepted;
 --            work tables, each behind its steps
 --   wholeField   z^16 + z

@@ -1,1 +1,1 @@
-// Nothing to run: the crate holds the figures of document 01 that are marked P, and their proof.
+// Nothing to run: the crate holds the figures of docs/RULES.md section 10, and their proof.

@@ -1,4 +1,5 @@
--- What the plain search answers, for every input. The lent root list's front is then the roots, ascending.
+-- What the plain search answers, for every input (docs/RULES.md section 3.5). The lent root list's front is then the
+-- roots, ascending.
 --   searchTests     its tests in their order, each behind its number
 --   searchOutcome   its outcome: the number of roots
 --   paperSearched   the number and the value of its answer

@@ -1,4 +1,5 @@
--- What the whole call answers, for every input. The lent root list's front is then the roots, ascending.
+-- What the whole call answers, for every input (docs/RULES.md section 3.4). The lent root list's front is then the
+-- roots, ascending.
 --   solveTests     its tests in their order, each behind its number
 --   solveOutcome   its outcome: the numbers of roots and of steps
 --   paperSolved    the number and the values of its answer

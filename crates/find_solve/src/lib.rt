@@ -1,5 +1,14 @@
-// The whole call's engine: a polynomial is begun and its table stepped until it is done, over tables that are lent once. A step divides by the trace of its level
-// modulo the polynomial, not modulo the factor: the powers of z on begin's way to z^(2^m) are kept, and Tr(a^i z) is a sum of their multiples, taken once a level.
+// The whole call (docs/RULES.md section 3.4): Berlekamp's trace algorithm with small degrees solved directly.
+//   E. R. Berlekamp, "Factoring polynomials over large finite fields", Mathematics of Computation 24 (1970):
+//     the trace.
+//   B. Biswas and V. Herbert, "Efficient root finding of polynomials over fields of characteristic 2" (2009):
+//     splitting down to a small degree, and the quadratic by a table.
+//   C. Petit, "Finding roots in F_(p^n) with the successive resultants algorithm", LMS Journal of Computation and
+//     Mathematics 17 (2014): the part of a polynomial that splits into distinct factors.
+// A table is begun: the product over all distinct roots, as the greatest common divisor with z^(2^m) + z. Each step
+// parts a factor P by the roots' next trace bit: gcd(P, Tr(a^i z)), and the rest. Factors of degree at most the cutoff
+// are solved. A step divides by the trace of its level modulo the polynomial, not modulo the factor: the powers of z on
+// begin's way to z^(2^m) are kept, and Tr(a^i z) is a sum of their multiples, taken once a level.
 ghost use mathlib.Core.Path.{_≡_};
 ghost use Prim.Native.Nat.{_-_, _*_, _≤_};
 ghost use lib.ListN.{length};

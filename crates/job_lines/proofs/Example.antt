@@ -1,4 +1,4 @@
--- The three records of document 01: their lines are exactly those that it prints.
+-- The three records of docs/RULES.md section 6.4: their lines are exactly those that it prints.
 --   sample-text    1 0 3 4 1 2 3, 2 1 and 3 0 3 2 1 6 7, each ended by a line feed
 --   sample-lines   the law
 -- Assumes nothing.

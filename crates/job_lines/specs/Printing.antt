@@ -1,4 +1,4 @@
--- What is printed for a record, and for a file.
+-- What is printed for a record, and for a file (docs/RULES.md section 6).
 --   cutoffOf    the cutoff that a record asks for: what it states, or the house default
 --   turnedLine  the line of a record that is refused;  solvedLine  of one that is accepted: the roots and the steps of the whole call
 --   lineBy      the line of a number with the values that reading gave;  lineFor  of what reading gave

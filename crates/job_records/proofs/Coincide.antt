@@ -1,4 +1,4 @@
--- Two answers that the reader's contract admits coincide: an answer is told by the paper's number and values.
+-- Two answers that the reader's contract admits coincide: an answer is told by its number and values.
 --   read-back       the answer that an outcome stands for, taken back
 --   read-told       two answers with one outcome are one
 --   read-coincide   so for `read_record`

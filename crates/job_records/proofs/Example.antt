@@ -1,4 +1,4 @@
--- The three records of document 01, as they are read.
+-- The three records of docs/RULES.md section 6.4, as they are read.
 --   sample          the file
 --   sample-reads    what reading it gives: a job at 0, a refusal under 1 at 13, and a job at 20 that states no cutoff
 -- Assumes nothing.

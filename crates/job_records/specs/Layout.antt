@@ -1,4 +1,5 @@
--- The bytes of a job record, counted from its first: two of the mark, then m, cutoff and n, then n coefficients of two bytes, low byte first.
+-- The bytes of a job record (docs/RULES.md section 5.1), counted from its first: two of the mark, then m, cutoff and
+-- n, then n coefficients of two bytes, low byte first.
 --   markLow, markHigh   the mark
 --   headLength          how many bytes stand before the coefficients
 --   marked              does a record begin with its mark?

@@ -1,4 +1,4 @@
--- What reading gives at a place of a file.
+-- What reading gives at a place of a file (docs/RULES.md sections 5.2 and 5.3).
 --   Outcome      reading ends, or it gives a number with its values
 --   paper        the outcome of each answer of the code: a place to go on comes first among the values; an accepted record also has
 --                its m, where its coefficient bytes start, how many they are, and the cutoff that it states

@@ -1,4 +1,4 @@
--- Lines of the records of document 01.
+-- Lines of the records of docs/RULES.md section 6.4.
 --   line-one, line-two   of the first two;  line-none  of a polynomial with no root
 -- Assumes nothing.
 use mathlib.Core.Path.{_≡_, refl}

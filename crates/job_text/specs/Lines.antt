@@ -1,4 +1,4 @@
--- The text of a line, as bytes.
+-- The text of a line, as bytes (docs/RULES.md section 6.2).
 --   digit      the byte of a digit;  space, lineFeed  the other bytes of a line
 --   decimal    the decimal digits of a number, the highest first, with no 0 before them
 --   decimalIn  the same, in so many divisions by ten

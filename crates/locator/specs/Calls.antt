@@ -1,5 +1,5 @@
--- What the C face returns: the struct of an outcome in the paper's numbers. A value that the outcome does not have is 0, so a refusal has zeros
--- behind its number.
+-- What the C face returns (docs/RULES.md section 9): the struct of an outcome in its numbers. A value that the outcome
+-- does not have is 0, so a refusal has zeros behind its number.
 --   at            the value at place i of an outcome, or 0
 --   asValue       outcome and value: product, inverse, position
 --   asPair        outcome, how many roots, the lower and the upper: the quadratic. One root is the lower

@@ -108,7 +108,7 @@ pub fn searched_of(a: Searched) -> LocatorFound
     }
 }
 
-// Of begin: the paper's number alone.
+// Of begin: its number alone.
 pub fn begun_of(a: Begun) -> u16
     ensures { λ r. ⌜ r ≡ paperBegun a .0 ⌝ }
 {

@@ -97,7 +97,7 @@ pub extern "C" fn locator_search(m: u16, coeffs: &[u16], roots: &mut [u16]) -> L
     answers::searched_of(find_search::search(m, coeffs, roots))
 }
 
-// Begins a table: the paper's number alone.
+// Begins a table: its number alone.
 #[no_mangle]
 pub extern "C" fn locator_begin(m: u16, coeffs: &[u16], cutoff: u16, table: &mut [u16]) -> u16
     ensures { λ r. ⌜ BeginsAs m cutoff (now (coeffs .entry)) (now (table .entry)) r (now (table .exit)) ⌝ }

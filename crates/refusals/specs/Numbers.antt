@@ -1,5 +1,5 @@
--- The numbers of documents 01 and 02 for what is turned away.
---   numberOf  the paper's number of each refusal
+-- The numbers for what is turned away (docs/RULES.md section 8.3).
+--   numberOf  the number of each refusal
 -- Assumes nothing.
 use Prim.Native.Nat.{ℕ}
 use Rattle.refusals.specs.declared.Refusal.{Refusal}
@@ -7,7 +7,7 @@ use Rattle.refusals.specs.declared.Refusal.the-variants.{Field, Empty, L
 use Rattle.refusals.specs.declared.Refusal.the-variants.{Unsound, Stuck, NotDone, Mark, Short, OfZero}
 use Rattle.refusals.specs.declared.Refusal.the-variants.{Convention, Block, Strength, Far}
 
--- document 01's from 1 to 13, then document 02's: 21 of M-101, 22 to 24 of M-102
+-- those of the root finder from 1 to 13, then 21 of a convention and 22 to 24 of the block corrector
 abbrev pub numberOf : Refusal → ℕ
 numberOf Field = 1
 numberOf Empty = 2

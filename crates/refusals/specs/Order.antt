@@ -1,6 +1,7 @@
--- Refusals in a fixed order. An entry has a list of tests, each behind its number; the first that holds refuses under that number.
+-- Refusals in a fixed order (docs/RULES.md section 8.1). An entry has a list of tests, each behind its number; the
+-- first that holds refuses under that number.
 --   decide   what an entry gives: `refuse k` where k stands beside the first test that holds, `accept` where none holds
---   outcome  the paper's outcome: a refusal's number and nothing else, or 0 and the values
+--   outcome  the outcome: a refusal's number and nothing else, or 0 and the values
 --   memory   what lent memory holds afterwards: a refusal writes nothing
 --   Answers  THE SHAPE OF A CONTRACT: what an answer tells, and what lent memory holds afterwards, both decided by tests in their order
 --   Given k  the test beside k holds, and none before it does

@@ -1,4 +1,4 @@
--- The fields of document 01, a row each.
+-- The fields (docs/RULES.md section 1.1), a row each.
 --   rows     degree and polynomial of each field; its size is 2 to the degree
 --   known    is there a field of degree m?
 --   polyOf   the polynomial of the field of degree m; 0 where there is none

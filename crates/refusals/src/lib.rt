@@ -1,4 +1,4 @@
-// What is turned away, under the paper's numbers, and the fields that there are.
+// What is turned away, under which number (docs/RULES.md section 8), and the fields that there are.
 ghost use mathlib.Core.Path.{_≡_};
 ghost use Rattle.refusals.specs.Numbers.{numberOf};
 ghost use Rattle.refusals.specs.Rows.{rowAt};
@@ -25,7 +25,7 @@ pub enum Refusal {
     Far,
 }
 
-// The paper's number of a refusal.
+// The number of a refusal.
 pub fn number(r: Refusal) -> u16
     ensures { λ n. ⌜ n ≡ numberOf r ⌝ }
 {

@@ -1,4 +1,4 @@
--- Two outcomes that the contract of begin admits coincide: the answer is told by the paper's number, and the memory by a function.
+-- Two outcomes that the contract of begin admits coincide: the answer is told by its number, and the memory by a function.
 --   begun-told       two answers with one number are one
 --   begin-coincide   so for the call
 -- Assumes nothing.
@@ -11,7 +11,7 @@ use Rattle.table_begin.specs.Calls.{paperBegun, beginOutcome, beginMemor
 use Rattle.table_begin.specs.declared.Begun.{Begun}
 use Rattle.table_begin.specs.declared.Begun.the-variants.{Ready, NotBegun}
 
--- begin: the answer that the paper's number stands for
+-- begin: the answer that a number stands for
 begunOf : ℕ × List ℕ → Begun
 begunOf o = by-number NotBegun Ready (o .0)
 

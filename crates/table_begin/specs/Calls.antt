@@ -1,4 +1,4 @@
--- What begin answers, and what it leaves in the lent table, for every input.
+-- What begin answers, and what it leaves in the lent table, for every input (docs/RULES.md section 4.2).
 --   beginTests                 the tests of begin in their order, each behind its number: those of a polynomial, then 6 and 7
 --   beginOutcome, beginMemory  its outcome, and the lent table afterwards
 --   paperBegun                 the number of each answer

@@ -1,4 +1,4 @@
--- What finish answers, and what it leaves in the lent list, for every input.
+-- What finish answers, and what it leaves in the lent list, for every input (docs/RULES.md section 4.4).
 --   finishTests     its tests in their order, each behind its number
 --   finishOutcome   its outcome: the number of roots
 --   finishMemory    the list afterwards: the roots fill its front

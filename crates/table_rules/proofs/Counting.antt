@@ -148,7 +148,7 @@ module _ {A : Type 0} (bit : ℕ → A → Bool) where
       go n false false a b = omega arith
   sharing-falls c d (suc n) i s h = omega (arith, sharing-falls c d n (suc i) (zeros i s) h, sharing-falls c d n (suc i) (ones i s) h)
 
-  -- M-105: step numbers fall or stay equal where the cutoff rises
+  -- step numbers fall or stay equal where the cutoff rises
   pub count-falls : (c d m : ℕ) (roots : List A) → c ≤ d → groupCount bit d m roots ≤ groupCount bit c m roots
   unfolding groupCount
   count-falls c d m roots h = sumBelow-le m _ _ λ i. rw (groups-counted c i roots, groups-counted d i roots) (sharing-falls c d i 0 roots h)

@@ -1,4 +1,4 @@
--- The definitions compute: figures of document 01 in the field of 16 elements, by evaluation.
+-- The definitions compute: figures of docs/RULES.md section 10 in the field of 16 elements, by evaluation.
 --   counts-three, counts-all   the steps of the roots 1, 2, 3, and of all 16 elements, at cutoffs 1, 2, 3
 --   table-three                the table of 1, 2, 3 after step 3
 --   sound-at-limit             slot 3 at its limit is sound;  unsound-steps  above it is not;  unsound-last  the last slot is looked at

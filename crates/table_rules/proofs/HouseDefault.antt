@@ -1,4 +1,4 @@
--- The house default, over its value: what changes where it is raised (M-105).
+-- The house default, over its value: what changes where it is raised (docs/CHANGES.md, M-105).
 --   inForce-house                cutoff 0 stands for the house default
 --   inForce-stated               a cutoff that is not 0 is in force as it is
 --   inForce-least, inForce-most  the cutoff in force is 1 to 3
@@ -58,7 +58,7 @@ inForce-rises d e c h = go (eqb c 0)
     go true = h
     go false = omega arith
 
--- M-105: STEP NUMBERS fall or stay equal
+-- STEP NUMBERS fall or stay equal
 pub default-steps : (m d e c : ℕ) (roots : List ℕ) → d ≤ e → stepCount m (inForceBy e c) roots ≤ stepCount m (inForceBy d c) roots
 default-steps m d e c roots h = count-falls (bitAt m) (inForceBy d c) (inForceBy e c) m roots (inForce-rises d e c h)
 

@@ -20,7 +20,7 @@ pub mod Places
 pub mod Begun
 pub mod Finish
 pub mod Demand
--- change requests that the laws are ready for: M-105, M-112
+-- what change requests ask of the theory (docs/CHANGES.md: M-105, M-112)
 pub mod HouseDefault
 pub mod Picks
 -- figures, by evaluation

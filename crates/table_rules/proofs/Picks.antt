@@ -1,4 +1,4 @@
--- M-112: splitting in any order. A pick replaces any entry above c by its parts.
+-- Splitting in any order (docs/CHANGES.md, M-112). A pick replaces any entry above c by its parts.
 --   Picks H c n l r      n picks lead from l to r
 --   PICKS-COMMUTE        two picks on different entries may change places, the one further back renumbered;  behind-stays, before-stays  each finds its entry
 --   one-end              two done cuts of one list are equal

@@ -1,4 +1,4 @@
--- Soundness in one pass over the slots of document 01's layout, as code goes: factor by factor, each test where its slots are.
+-- Soundness in one pass over the slots of a table (RULES 4.1), as code goes: factor by factor, each test where its slots are.
 --   Scanned          what a pass over n factors and the slots behind them has found;  scan-exactly  it is what `fairBlocks` tests
 --   count-follows    "slot 2 is at most the limit" follows from the rules for degrees, so a pass need not test it
 --   Passed           the tests of the code

@@ -90,7 +90,7 @@ fair-tests m (e ∷ fs) h =
       coefficients = and-eq-true-iff _ _ .1 (allBelow-exactly (2 ^ m) (e .1) .1 (f .coefficients), r .coefficients);
     }
 
--- document 01's sentence, rule by rule, of slots
+-- the rules of docs/RULES.md section 4.5, one by one, of slots
 pub record Rules (Y : Layout) (known : ℕ → Bool) (limit : ℕ) (l : List ℕ) : Type 0 where
   pub size : length l ≡ slotsFor limit
   pub field : known (getD l 0 0) ≡ true

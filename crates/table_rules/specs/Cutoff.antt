@@ -1,5 +1,5 @@
--- The cutoff in force. A call and a record may give 0, which stands for the house default.
---   houseDefault  document 01's
+-- The cutoff in force (docs/RULES.md section 3.2). A call and a record may give 0, which stands for the house default.
+--   houseDefault  what 0 stands for
 --   inForceBy d   the cutoff in force where the house default is d;  inForce  today's
 -- Assumes nothing.
 use mathlib.Core.Bool.{cond}

@@ -1,4 +1,5 @@
--- The groups of document 01: a group at level i is a nonempty set of all roots that share their first i trace bits. `bit i r` is the trace bit of r at level i.
+-- Groups (docs/RULES.md section 4.6): a group at level i is a nonempty set of all roots that share their first i trace
+-- bits. `bit i r` is the trace bit of r at level i.
 --   words n       the words of n bits, ascending
 --   precedes      v comes before w: at the first place where they differ v has 0 and w has 1
 --   InOrder       each word of a list comes before all behind it

@@ -6,7 +6,7 @@
 --   statedSum  the sum of the stated degrees
 --   Layout     how it is written and read
 --   Lawful     writing and reading undo each other, and factors take two slots and their coefficients each;  Read  what reading finds where n factors fit in
---   byFactor   document 01's layout: each factor's level, degree and coefficients in turn
+--   byFactor   the layout of RULES 4.1: each factor's level, degree and coefficients in turn
 --   fairBlocks the rules for n factors and the slots behind them in one pass, as code goes: `left` is what the degrees may still sum up to
 -- Assumes nothing.
 use mathlib.Core.Path.{_≡_}

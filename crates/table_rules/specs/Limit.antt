@@ -1,7 +1,7 @@
 -- The house's limit, and the tables that it makes.
 --   limit    the highest sum of degrees, and so of roots: 32
 --   slots    the slots of a table: 100
---   isSound  the rules of document 01 for a table, in its layout, over the known fields
+--   isSound  the rules for a table (docs/RULES.md section 4.5), in its layout, over the known fields
 -- Assumes nothing.
 use mathlib.Core.Bool.{Bool}
 use mathlib.Core.List.{List}

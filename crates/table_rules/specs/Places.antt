@@ -1,4 +1,4 @@
--- Where the first factor above the cutoff stands in the slots of document 01's layout.
+-- Where the first factor above the cutoff stands in the slots of a table (docs/RULES.md section 4.1).
 --   ahead, beyond   the factors before it, and those behind it
 --   leading         the slots in front of it;  place  the slot where it stands
 --   slotsOf         a factor's own slots;  spare  the zeros behind the last factor

@@ -1,4 +1,4 @@
--- Which polynomials are accepted.
+-- Which polynomials are accepted (docs/RULES.md sections 3.1 and 8.3).
 --   polynomialTests   refusals 1 to 5, of a field degree and a list of coefficients, and the tests that an entry has behind them
 --   PolynomialIn      what is known of a polynomial that was let in
 -- Assumes nothing.
@@ -17,7 +17,7 @@ abbrev pub polynomialTests : ℕ → List ℕ → List (ℕ × Bool) → List (�
 polynomialTests m cs more =
     (1, not (known m)) ∷ (2, eqb (length cs) 0) ∷ (3, ltb (suc limit) (length cs)) ∷ (4, anyFrom (2 ^ m) cs) ∷ (5, allZero cs) ∷ more
 
--- in the words of document 01
+-- in the words of RULES 3.1
 pub record PolynomialIn (m : ℕ) (cs : List ℕ) : Type 0 where
   pub field : known m ≡ true
   pub some : 0 < length cs

@@ -1,5 +1,6 @@
--- Begin, a step and finish on the work table, by document 01's rules. On tables as they are meant, over the field's operations G, its degree m and its
--- element a; then on slots, in the known field of degree slot 0, where a is 2.
+-- Begin, a step and finish on the work table (docs/RULES.md sections 4.2 to 4.4). On tables as they are meant, over
+-- the field's operations G, its degree m and its element a; then on slots, in the known field of degree slot 0, where
+-- a is 2.
 --   traceBit      the trace bit of x at level i, Tr(a^i x)
 --   traceHalving  the halving of a factor P at level i: the monic greatest common divisor g of P and Tr(a^i z), and h = P/g
 --   isDone        is no factor above the cutoff?

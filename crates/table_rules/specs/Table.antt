@@ -1,11 +1,11 @@
--- The work table of document 01: what its slots hold, and when they are sound.
+-- The work table (docs/RULES.md sections 4.1 and 4.5): what its slots hold, and when they are sound.
 --   Table      field degree, cutoff in force, steps taken, factors
 --   stepLimit  what slot 3 may be: m times the whole part of s/(c+1);  limitOf  of a table
 --   slotsFor   how many slots a table has whose degrees may sum up to the limit: 100 for 32, 196 for 64
 --   padded     n slots: zeros behind a list
 --   encode     the slots of a table;  decode  the table that slots hold
 --   every      does a test hold of each element?
---   sound      document 01's rules, over the layout, the known fields and the limit
+--   sound      the rules of RULES 4.5, over the layout, the known fields and the limit
 -- Assumes nothing.
 use mathlib.Core.Bool.{Bool, true, _&&_}
 use mathlib.Core.List.{List, [], _∷_, _++_, map}

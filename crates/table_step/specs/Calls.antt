@@ -1,4 +1,5 @@
--- What a step answers, and what it leaves in the lent table, for every input. Its tests are judging's `stepTests`.
+-- What a step answers, and what it leaves in the lent table, for every input (docs/RULES.md section 4.3). Its tests
+-- are `stepTests`.
 --   stepOutcome    its outcome: the value is 1 where the table is done
 --   stepMemory     the table afterwards
 --   paperStepped   the number and the value of its answer
