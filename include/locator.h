@@ -1,8 +1,8 @@
 /* locator.h: the roots of locator polynomials over GF(2^m), m = 4, 8 or 11, and a corrector of blocks over m = 11. Link with liblocator.a (tools/library
    builds it, for x86-64 Linux).
 
-   Every call is proved to do what stands over it, for every input (crates/locator/src/lib.rt has the contracts). docs/RULES.md has the rules in full: fields and
-   element calls are its sections 1 and 2, polynomials 3, work tables 4, the block corrector 7, refusals and their order 8.
+   Every call is proved to do what stands over it, for every input (crates/locator/src/lib.rt has the contracts). docs/RULES.md has the rules in
+   full: fields and element calls are its sections 1 and 2, polynomials 3, work tables 4, the block corrector 7, refusals and their order 8.
 
    FIELDS. m is 4, 8 or 11, with the polynomials x^4+x+1, x^8+x^4+x^3+x^2+1 and x^11+x^2+1. An element is a number below 2^m whose bits are
    coefficients, bit 0 the constant; a is the element 2.

@@ -1,6 +1,6 @@
-/* The rules of the block corrector (docs/RULES.md section 7) in plain C, for the fuzz target and the benchmark: a word is 2047 bits in
-   256 bytes, bit j in byte j div 8 at weight 2^(j mod 8); its value at a^i is the sum of a^(i j) over its bits j, in the
-   field of x^11 + x^2 + 1 with a = 2. Nothing here is the product's. */
+/* The rules of the block corrector (docs/RULES.md section 7) in plain C, for the fuzz target and the benchmark: a word
+   is 2047 bits in 256 bytes, bit j in byte j div 8 at weight 2^(j mod 8); its value at a^i is the sum of a^(i j) over
+   its bits j, in the field of x^11 + x^2 + 1 with a = 2. Nothing here is the product's. */
 #ifndef BLOCK_RULES_H
 #define BLOCK_RULES_H
 #include <stdint.h>

@@ -14,8 +14,9 @@ pub const ROOTS: usize = 32;
 /// The bytes of a block corrector's word.
 pub const WORD: usize = 256;
 
-/// Why an input is turned away, under its number (docs/RULES.md section 8). Numbers that no call of this crate can give are not here: 11
-/// and 12 are of job records, and 21 is of a convention that there is not, which a [`Convention`] cannot be.
+/// Why an input is turned away, under its number (docs/RULES.md section 8). Numbers that no call of this crate can give
+/// are not here: 11 and 12 are of job records, and 21 is of a convention that there is not, which a [`Convention`] cannot
+/// be.
 #[derive(Clone, Copy, Debug, PartialEq, Eq)]
 #[repr(u16)]
 pub enum Refusal {
