@@ -1,8 +1,8 @@
-// The block corrector: words of 2047 bits in field 11, in 256 bytes. A word is divided by the generator of strength 8;
-// where the remainder is 0 it is a codeword of every strength, and nothing more is done. Else the remainder gives the
-// odd syndromes, Berlekamp's register the locator polynomial, the plain search its roots, and their positions under the
-// recorders' convention the wrong bits. They are flipped where there are at most t of them and their odd power sums are
-// the syndromes: that decides exactly whether a codeword lies within t bits.
+// The block corrector (docs/RULES.md section 7): words of 2047 bits in field 11, in 256 bytes. A word is divided by
+// the generator of strength 8; where the remainder is 0 it is a codeword of every strength, and nothing more is done.
+// Else the remainder gives the odd syndromes, Berlekamp's register the locator polynomial, the plain search its roots,
+// and their positions under the recorders' convention the wrong bits. They are flipped where there are at most t of
+// them and their odd power sums are the syndromes: that decides exactly whether a codeword lies within t bits.
 ghost use mathlib.Core.Path.{_≡_};
 ghost use mathlib.Core.Bool.{true, false};
 ghost use Prim.Native.Nat.{ℕ, _<_, _≤_, _^_};

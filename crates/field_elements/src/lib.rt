@@ -1,4 +1,4 @@
-// The public element calls: product, inverse, position, quadratic. Each answers every input.
+// The public element calls: product, inverse, position, quadratic (docs/RULES.md section 2). Each answers every input.
 ghost use Rattle.field_elements.specs.Calls.{TellsProduct, TellsInverse, TellsPosition, TellsQuadratic};
 ghost use Rattle.field_elements.specs.Calls.{pairTests, nonzeroTests, positionTests};
 ghost use Rattle.refusals.specs.Admitting.{Admits};

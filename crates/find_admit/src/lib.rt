@@ -1,4 +1,5 @@
-// Which polynomials and cutoffs are let in, and which cutoff is in force. Every call that takes a polynomial begins here.
+// Which polynomials and cutoffs are let in, and which cutoff is in force (docs/RULES.md sections 3.1, 3.2 and 8.3).
+// Every call that takes a polynomial begins here.
 ghost use mathlib.Core.Path.{_≡_};
 ghost use mathlib.Core.List.{[], _∷_};
 ghost use lib.Dec.{ltb};

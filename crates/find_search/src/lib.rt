@@ -1,5 +1,6 @@
-// The plain search: the value of the polynomial at every element. In field 11 the values are found on bit planes by an additive transform (poly_values);
-// in the small fields the polynomial is evaluated at four elements side by side, so that their chains of table loads overlap.
+// The plain search (docs/RULES.md section 3.5): the value of the polynomial at every element. In field 11 the values
+// are found on bit planes by an additive transform (poly_values); in the small fields the polynomial is evaluated at
+// four elements side by side, so that their chains of table loads overlap.
 ghost use mathlib.Core.Path.{_≡_};
 ghost use Prim.Native.Nat.{_+_, _-_, _*_, _≤_, _<_};
 ghost use lib.ListN.{length};

@@ -1,4 +1,5 @@
-// The lines of job records: from what the reader gives, the text of the record's line, and where reading goes on.
+// The lines of job records (docs/RULES.md section 6): from what the reader gives, the text of the record's line, and
+// where reading goes on.
 ghost use Prim.Native.Nat.{_+_, _≤_, _<_, _^_};
 ghost use lib.ListN.{length};
 ghost use Rattle.refusals.specs.Numbers.{numberOf};

@@ -1,4 +1,5 @@
-// Job records: a place by value over a lent file, an enum for what stands there, and a part of the file handed back.
+// Job records (docs/RULES.md section 5): a place by value over a lent file, an enum for what stands there, and a part
+// of the file handed back.
 ghost use mathlib.Core.Path.{_≡_};
 ghost use Prim.Native.Nat.{_+_, _*_, _≤_, _<_, _^_};
 ghost use lib.ListN.{length};

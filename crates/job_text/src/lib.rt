@@ -1,4 +1,4 @@
-// The text of a line: numbers in decimal with one space between, ended by a line feed.
+// The text of a line (docs/RULES.md section 6.2): numbers in decimal with one space between, ended by a line feed.
 ghost use Prim.Native.Nat.{_+_, _*_, _≤_};
 ghost use mathlib.Core.List.{[], _∷_};
 ghost use lib.ListN.{length, take};

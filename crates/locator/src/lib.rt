@@ -1,6 +1,6 @@
-// The C face: the element calls, the whole call, the plain search, begin, step and finish, and the block corrector, as
-// include/locator.h declares them. A slice is a pointer, then a count. Each call answers every input; it neither
-// allocates nor calls out, and keeps no state.
+// The C face (docs/RULES.md section 9): the element calls, the whole call, the plain search, begin, step and finish,
+// and the block corrector, as include/locator.h declares them. A slice is a pointer, then a count. Each call answers
+// every input; it neither allocates nor calls out, and keeps no state.
 ghost use Rattle.locator.specs.Calls.{ProductAs, InverseAs, PositionAs, QuadraticAs};
 ghost use Rattle.locator.specs.Calls.{SolvesAs, SearchesAs, BeginsAs, StepsAs, FinishesAs, CorrectsAs};
 

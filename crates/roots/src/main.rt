@@ -1,5 +1,6 @@
-// Reads job records from standard input, at most 65,536 bytes, and prints the line of each. Where a read or a write fails,
-// standard error says so and the program stops; that there was input behind is said there too.
+// Reads job records from standard input, at most 65,536 bytes, and prints the line of each (docs/RULES.md section 6).
+// Where a read or a write fails, standard error says so and the program stops; that there was input behind is said
+// there too.
 ghost use Prim.Native.Nat.{_+_, _≤_, _<_, _^_};
 ghost use lib.ListN.{length};
 ghost use Rattle.io.specs.Counts.{Counts};

@@ -1,6 +1,6 @@
-// Begin: the tests, the part of the polynomial that splits, and the table that is written.
-// The part of f that splits into distinct factors is its greatest common divisor with z^(2^m) + z. The power is
-// taken by m squarings modulo f, so that no element is tried. The powers on the way are kept for the trace sums.
+// Begin (docs/RULES.md section 4.2): the tests, the part of the polynomial that splits, and the table that is written.
+// The part of f that splits into distinct factors is its greatest common divisor with z^(2^m) + z. The power is taken
+// by m squarings modulo f, so that no element is tried. The powers on the way are kept for the trace sums.
 ghost use mathlib.Core.Path.{_≡_};
 ghost use mathlib.Core.List.{[], _∷_};
 ghost use Prim.Native.Nat.{_*_, _≤_};

@@ -1,4 +1,5 @@
-// What is decided of a work table before anything is written: whether it is sound, in one pass over its slots, and where the first factor above the cutoff stands.
+// What is decided of a work table before anything is written: whether it is sound (docs/RULES.md section 4.5), in one
+// pass over its slots, and where the first factor above the cutoff stands.
 ghost use mathlib.Core.Path.{_≡_};
 ghost use Prim.Native.Nat.{suc, _-_, _*_, _/_, _^_, _≤_};
 ghost use lib.ListN.{length};

@@ -1,4 +1,5 @@
-// Finish: the roots of each factor of a done table, merged into the front of the list, ascending and once each.
+// Finish (docs/RULES.md section 4.4): the roots of each factor of a done table, merged into the front of the list,
+// ascending and once each.
 ghost use mathlib.Core.Path.{_≡_};
 ghost use Rattle.table_finish.specs.Calls.{Finishes};
 ghost use Rattle.table_finish.specs.Finishing.{Mergeable, RootsIn, Listable, ListedIn, Lendable, Opens};

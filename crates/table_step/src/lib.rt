@@ -1,4 +1,5 @@
-// A step: the first factor P above the cutoff, at its level i, gives way to the monic greatest common divisor g of P and Tr(a^i z), and to h = P/g.
+// A step (docs/RULES.md section 4.3): the first factor P above the cutoff, at its level i, gives way to the monic
+// greatest common divisor g of P and Tr(a^i z), and to h = P/g.
 ghost use mathlib.Core.Path.{_≡_};
 ghost use mathlib.Core.List.{[], _∷_};
 ghost use Prim.Native.Nat.{_+_, _≤_, _<_};
