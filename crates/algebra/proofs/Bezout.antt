@@ -16,6 +16,7 @@ use Rattle.algebra.proofs.Coefficients.{coef-add, coef-cons, coef-mul, 
 use Rattle.algebra.proofs.Lengths.{length-rem}
 use Rattle.algebra.proofs.Division.{division, plus-rotate}
 use Rattle.algebra.proofs.MakingMonic.{Normed, led, normed, vanished}
+use Rattle.algebra.proofs.Signs.{Signs, signs}
 
 -- p u + t w = f for some polynomials u and w
 pub record Combines {K : Type 0} (F : Ops K) (p t f : Series K) : Type 0 where
@@ -24,15 +25,7 @@ pub record Combines {K : Type 0} (F : Ops K) (p t f : Series K) : Type 0 where
   pub sum : plus F (times F p (coef F left)) (times F t (coef F right)) ≡ f
 
 module _ {K : Type 0} {F : Ops K} (L : Laws F) where
-  infixl 60 _⊞_
-  infixl 70 _⊠_
-  open Ops F using (zero as 0#, one as 1#)
-
-  abbrev _⊞_ : Series K → Series K → Series K
-  f ⊞ g = plus F f g
-
-  abbrev _⊠_ : Series K → Series K → Series K
-  f ⊠ g = times F f g
+  open Signs (signs F) using (0#, 1#, _⊞_, _⊠_)
 
   combines-left : (p t : Series K) → Combines F p t p
   combines-left p t = record {

@@ -16,20 +16,11 @@ use Rattle.algebra.specs.Polynomial.{add, coef, mul}
 use Rattle.algebra.specs.Routines.{square}
 use Rattle.algebra.proofs.Elements.{mul-zero}
 use Rattle.algebra.proofs.Series.{Series, front, front-plus, front-square, front-times, nought, nought-plus, plus, plus-comm, scale, times, times-comm, times-nought, times-scale, times-unit, unit, unit-times}
+use Rattle.algebra.proofs.Signs.{Signs, signs}
 
 module _ {K : Type 0} {F : Ops K} (L : Laws F) where
-  infixl 60 _⊕_
-  infixl 70 _⊗_
-  infixl 60 _⊞_
-  infixl 70 _⊠_
-  open Ops F using (zero as 0#, one as 1#, add as _⊕_, mul as _⊗_)
+  open Signs (signs F) using (0#, 1#, _⊕_, _⊗_, _⊞_, _⊠_)
   open Laws L using (mul-comm, one-mul)
-
-  abbrev _⊞_ : Series K → Series K → Series K
-  f ⊞ g = plus F f g
-
-  abbrev _⊠_ : Series K → Series K → Series K
-  f ⊠ g = times F f g
 
   pub coef-cons : (c : K) (p : List K) → coef F (c ∷ p) ≡ front c (coef F p)
   unfolding front

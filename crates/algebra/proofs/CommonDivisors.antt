@@ -11,22 +11,15 @@ use mathlib.Core.List.{List, []}
 use Prim.Native.Nat.{ℕ}
 use native.Mathlib.Omega.{arith}
 use Rattle.algebra.specs.Field.{Laws, Ops}
-use Rattle.algebra.specs.Polynomial.{Divides, IsGcd, coef}
+use Rattle.algebra.specs.Polynomial.{IsGcd, coef}
 use Rattle.algebra.proofs.Series.{Series, nought, plus, plus-back, plus-comm, scale, scale-back, times-nought}
 use Rattle.algebra.proofs.Degree.{Monic, quotient-top}
 use Rattle.algebra.proofs.Divisibility.{divides-equal, divides-plus, divides-scale, divides-self, divides-trans, multiple, quotient-exact}
+use Rattle.algebra.proofs.Signs.{Signs, signs}
 
 module _ {K : Type 0} {F : Ops K} (L : Laws F) where
-  infixl 60 _⊞_
-  infix 50 _∣_
-  open Ops F using (zero as 0#)
+  open Signs (signs F) using (0#, _⊞_, _∣_)
   open Laws L using (one≢zero)
-
-  abbrev _⊞_ : Series K → Series K → Series K
-  f ⊞ g = plus F f g
-
-  abbrev _∣_ : List K → Series K → Type 0
-  d ∣ f = Divides F d f
 
   pub gcd-comm : {p t g : Series K} → IsGcd F p t g → IsGcd F t p g
   gcd-comm h d = (λ a. (h d .0 a .1, h d .0 a .0), λ b. h d .1 (b .1, b .0))

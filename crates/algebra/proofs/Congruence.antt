@@ -14,22 +14,13 @@ use Rattle.algebra.specs.Polynomial.{Divides, add, coef, frobenius, mul,
 use Rattle.algebra.proofs.Series.{Series, plus, plus-assoc, plus-back, plus-left-comm, plus-self, plus-times, times, times-comm, times-nought}
 use Rattle.algebra.proofs.Coefficients.{coef-add, coef-mul}
 use Rattle.algebra.proofs.Divisibility.{divides-plus, divides-times, multiple}
+use Rattle.algebra.proofs.Signs.{Signs, signs}
 
 abbrev pub Cong : {K : Type 0} (F : Ops K) → List K → List K → List K → Type 0
 Cong F p f g = Divides F p (plus F (coef F f) (coef F g))
 
 module _ {K : Type 0} {F : Ops K} (L : Laws F) where
-  infixl 60 _⊞_
-  infixl 70 _⊠_
-  infix 50 _∣_
-  abbrev _⊞_ : Series K → Series K → Series K
-  f ⊞ g = plus F f g
-
-  abbrev _⊠_ : Series K → Series K → Series K
-  f ⊠ g = times F f g
-
-  abbrev _∣_ : List K → Series K → Type 0
-  d ∣ f = Divides F d f
+  open Signs (signs F) using (_⊞_, _⊠_, _∣_)
 
   exchange : (a b c d : Series K) → (a ⊞ c) ⊞ (b ⊞ d) ≡ (a ⊞ b) ⊞ (c ⊞ d)
   exchange a b c d = simp (plus-assoc L, plus-left-comm L)

@@ -28,6 +28,7 @@ use Rattle.algebra.specs.Routines.{monic}
 use Rattle.algebra.proofs.Elements.{add-zero, mul-zero, zero?}
 use Rattle.algebra.proofs.Series.{Series, behind, equal-of-plus, front, nought, nought-at, plus, plus-self, times, times-nought, times-plus}
 use Rattle.algebra.proofs.Coefficients.{coef-add, coef-cons}
+use Rattle.algebra.proofs.Signs.{Signs, signs}
 
 -- c stands at place n, and nothing above it
 pub record Top {K : Type 0} (F : Ops K) (f : Series K) (n : ℕ) (c : K) : Type 0 where
@@ -39,18 +40,8 @@ abbrev pub Monic : {K : Type 0} (F : Ops K) → Series K → ℕ → Type 0
 Monic F f n = Top F f n (F .one)
 
 module _ {K : Type 0} {F : Ops K} (L : Laws F) where
-  infixl 60 _⊕_
-  infixl 70 _⊗_
-  infixl 60 _⊞_
-  infixl 70 _⊠_
-  open Ops F using (zero as 0#, one as 1#, add as _⊕_, mul as _⊗_)
+  open Signs (signs F) using (0#, 1#, _⊕_, _⊗_, _⊞_, _⊠_)
   open Laws L using (zero-add, one-mul, one≢zero)
-
-  abbrev _⊞_ : Series K → Series K → Series K
-  f ⊞ g = plus F f g
-
-  abbrev _⊠_ : Series K → Series K → Series K
-  f ⊠ g = times F f g
 
   Ends : Series K → ℕ → Type 0
   Ends f n = (k : ℕ) → n < k → f k ≡ 0#

@@ -14,26 +14,15 @@ use mathlib.Core.List.{List, [], _∷_}
 use Prim.Native.Nat.{_+_, suc, zero, ℕ}
 use native.Mathlib.Omega.{arith}
 use Rattle.algebra.specs.Field.{Laws, Ops}
-use Rattle.algebra.specs.Polynomial.{Divides, add, coef, mul}
+use Rattle.algebra.specs.Polynomial.{add, coef, mul}
 use Rattle.algebra.proofs.Series.{Series, front, plus, scale, times, times-assoc, times-comm, times-plus, times-unit, unit}
 use Rattle.algebra.proofs.Coefficients.{coef-add, coef-cons, coef-mul, times-constant}
 use Rattle.algebra.proofs.Degree.{Monic, quotient-top}
+use Rattle.algebra.proofs.Signs.{Signs, signs}
 
 module _ {K : Type 0} {F : Ops K} (L : Laws F) where
-  infixl 60 _⊞_
-  infixl 70 _⊠_
-  infix 50 _∣_
-  open Ops F using (one as 1#)
+  open Signs (signs F) using (1#, _⊞_, _⊠_, _∣_)
   open Laws L using (one≢zero)
-
-  abbrev _⊞_ : Series K → Series K → Series K
-  f ⊞ g = plus F f g
-
-  abbrev _⊠_ : Series K → Series K → Series K
-  f ⊠ g = times F f g
-
-  abbrev _∣_ : List K → Series K → Type 0
-  d ∣ f = Divides F d f
 
   pub quotient-exact : {d : List K} {f : Series K} (h : d ∣ f) → coef F d ⊠ coef F (h .quotient) ≡ f
   quotient-exact {d} h = sym (coef-mul L d (h .quotient)) ∙ h .exact

@@ -11,7 +11,7 @@ use native.Mathlib.Omega.{arith}
 use lib.ListN.{List·getD-eq-default, getD, length, take}
 use lib.Seq.{ext-getD}
 use Rattle.algebra.specs.Field.{Laws, Ops}
-use Rattle.algebra.specs.Polynomial.{Divides, add, coef}
+use Rattle.algebra.specs.Polynomial.{add, coef}
 use Rattle.algebra.specs.Routines.{digit, monic, quo, rem, shiftIn}
 use Rattle.algebra.proofs.Elements.{add-back, add-left-comm, add-zero, equal-of-sum, mul-zero}
 use Rattle.algebra.proofs.Series.{Series, equal-of-plus, front, front-plus, front-times, nought, nought-plus, plus, plus-assoc, plus-comm, plus-self, scale, times, times-comm, times-nought, times-plus}
@@ -20,24 +20,11 @@ use Rattle.algebra.proofs.Degree.{Top, monic-list, top-times, top?}
 use Rattle.algebra.proofs.Lengths.{length-rem}
 use Rattle.algebra.proofs.Divisibility.{multiple}
 use Rattle.algebra.proofs.Congruence.{Cong}
+use Rattle.algebra.proofs.Signs.{Signs, signs}
 
 module _ {K : Type 0} {F : Ops K} (L : Laws F) where
-  infixl 60 _⊕_
-  infixl 70 _⊗_
-  infixl 60 _⊞_
-  infixl 70 _⊠_
-  infix 50 _∣_
-  open Ops F using (zero as 0#, one as 1#, add as _⊕_, mul as _⊗_)
+  open Signs (signs F) using (0#, 1#, _⊕_, _⊗_, _⊞_, _⊠_, _∣_)
   open Laws L using (add-comm, add-assoc, zero-add, add-self, mul-comm, one-mul)
-
-  abbrev _⊞_ : Series K → Series K → Series K
-  f ⊞ g = plus F f g
-
-  abbrev _⊠_ : Series K → Series K → Series K
-  f ⊠ g = times F f g
-
-  abbrev _∣_ : List K → Series K → Type 0
-  d ∣ f = Divides F d f
 
   step-at : (p s : List K) → length s ≡ suc (length p) → (k : ℕ)
       → let t : K = getD s (length p) 0# in coef F s k ≡ t ⊗ coef F (monic F p) k ⊕ coef F (add F (take (length p) s) (map (F .mul t) p)) k

@@ -18,7 +18,7 @@ use lib.ListN.{length, take}
 use lib.Seq.{take-all, take-suc}
 use Rattle.algebra.specs.Field.{Laws, Ops}
 use Rattle.algebra.specs.Trial.{All, Distinct}
-use Rattle.algebra.specs.Polynomial.{Divides, coef, eval, fromRoots, linear}
+use Rattle.algebra.specs.Polynomial.{coef, eval, fromRoots, linear}
 use Rattle.algebra.specs.Routines.{monic, monicRoots}
 use Rattle.algebra.proofs.Elements.{add-back, add-zero, equal-of-sum, mul-zero, zero-mul, zero-of-product, zero?}
 use Rattle.algebra.proofs.Series.{Series, front, front-times, nought, plus, scale, times, times-comm, times-unit, unit}
@@ -27,27 +27,14 @@ use Rattle.algebra.proofs.Evaluation.{eval-linear, eval-mul, eval-multi
 use Rattle.algebra.proofs.Degree.{Monic, Top, monic-list, monic-times, quotient-top}
 use Rattle.algebra.proofs.Lengths.{length-fromRoots}
 use Rattle.algebra.proofs.Divisibility.{divides-product, multiple, one-divides, quotient-exact}
+use Rattle.algebra.proofs.Signs.{Signs, signs}
 
 one-add : (n : ℕ) → 1 + n ≡ suc n
 one-add n = omega arith
 
 module _ {K : Type 0} {F : Ops K} (L : Laws F) where
-  infixl 60 _⊕_
-  infixl 70 _⊗_
-  infixl 60 _⊞_
-  infixl 70 _⊠_
-  infix 50 _∣_
-  open Ops F using (zero as 0#, one as 1#, add as _⊕_, mul as _⊗_)
+  open Signs (signs F) using (0#, 1#, _⊕_, _⊗_, _⊞_, _⊠_, _∣_)
   open Laws L using (add-comm, zero-add, add-self, one≢zero)
-
-  abbrev _⊞_ : Series K → Series K → Series K
-  f ⊞ g = plus F f g
-
-  abbrev _⊠_ : Series K → Series K → Series K
-  f ⊠ g = times F f g
-
-  abbrev _∣_ : List K → Series K → Type 0
-  d ∣ f = Divides F d f
 
   pub linear-times : (r : K) (f : Series K) → coef F (linear F r) ⊠ f ≡ scale F r f ⊞ front 0# f
   linear-times r f =

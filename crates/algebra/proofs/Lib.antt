@@ -5,6 +5,7 @@ pub mod Trial
 -- over an abstract field: elements, the ring of coefficient sequences, lists as polynomials
 pub mod Elements
 pub mod Series
+pub mod Signs
 pub mod Coefficients
 pub mod Evaluation
 pub mod Degree

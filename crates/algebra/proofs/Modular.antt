@@ -10,18 +10,14 @@ use Prim.Native.Nat.{suc, zero, ℕ}
 use Rattle.algebra.specs.Field.{Laws, Ops}
 use Rattle.algebra.specs.Polynomial.{Divides, add, coef, fieldPoly, frobenius, linear, mul, traceOf, tracePoly}
 use Rattle.algebra.specs.Routines.{frobeniusMod, gcd, monic, rem, square, traceMod}
-use Rattle.algebra.proofs.Series.{Series, plus}
 use Rattle.algebra.proofs.Coefficients.{coef-mul, coef-square}
 use Rattle.algebra.proofs.Congruence.{Cong, cong-add, cong-mul, cong-refl, cong-trans}
 use Rattle.algebra.proofs.Division.{rem-cong}
 use Rattle.algebra.proofs.Euclid.{gcd-reduced}
+use Rattle.algebra.proofs.Signs.{Signs, signs}
 
 module _ {K : Type 0} {F : Ops K} (L : Laws F) where
-  infixl 60 _⊞_
-  open Ops F using (zero as 0#)
-
-  abbrev _⊞_ : Series K → Series K → Series K
-  f ⊞ g = plus F f g
+  open Signs (signs F) using (0#, _⊞_)
 
   -- a reduced square of a remainder is the square, modulo p
   cong-step : (p f w : List K) → Cong F (monic F p) f w → Cong F (monic F p) (mul F f f) (rem F p (square F w))

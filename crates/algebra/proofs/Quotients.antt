@@ -13,33 +13,21 @@ use Prim.Native.Nat.{_+_, _-_, zero}
 use native.Mathlib.Omega.{arith}
 use lib.ListN.{length, length-replicate, replicate, take}
 use Rattle.algebra.specs.Field.{Laws, Ops}
-use Rattle.algebra.specs.Polynomial.{Divides, coef, eval, mul}
+use Rattle.algebra.specs.Polynomial.{coef, eval, mul}
 use Rattle.algebra.specs.Routines.{cofactor, gcd, monic, quo}
 use Rattle.algebra.proofs.Elements.{mul-zero, zero-mul, zero-of-product, zero?}
-use Rattle.algebra.proofs.Series.{Series, nought-plus, plus, plus-comm, times}
+use Rattle.algebra.proofs.Series.{nought-plus, plus, plus-comm, times}
 use Rattle.algebra.proofs.Coefficients.{coef-zeros}
 use Rattle.algebra.proofs.Evaluation.{eval-multiple}
 use Rattle.algebra.proofs.Degree.{Monic, cut-monic, degree-le, monic-equal, monic-list, monic-times, quotient-top}
 use Rattle.algebra.proofs.Divisibility.{quotient-exact}
 use Rattle.algebra.proofs.Division.{division-unique}
 use Rattle.algebra.proofs.Euclid.{gcd-first}
+use Rattle.algebra.proofs.Signs.{Signs, signs}
 
 module _ {K : Type 0} {F : Ops K} (L : Laws F) where
-  infixl 70 _⊗_
-  infixl 60 _⊞_
-  infixl 70 _⊠_
-  infix 50 _∣_
-  open Ops F using (zero as 0#, mul as _⊗_)
+  open Signs (signs F) using (0#, _⊗_, _⊞_, _⊠_, _∣_)
   open Laws L using (one≢zero)
-
-  abbrev _⊞_ : Series K → Series K → Series K
-  f ⊞ g = plus F f g
-
-  abbrev _⊠_ : Series K → Series K → Series K
-  f ⊠ g = times F f g
-
-  abbrev _∣_ : List K → Series K → Type 0
-  d ∣ f = Divides F d f
 
   pub degree-sum : (p g h : List K) → coef F (monic F p) ≡ coef F (monic F g) ⊠ coef F (monic F h) → length g + length h ≡ length p
   degree-sum p g h e =

@@ -5,11 +5,11 @@
 --   key-right         after t turns on 2t power sums of at most t locators, a register with room holds the product
 --   from-root         the product of 1 + x z is 0 at the inverse of each locator;  from-no-root  and at no other
 -- Assumes nothing.
-use mathlib.Core.Path.{_≡_, refl, sym, ap, ap₂, _∙_, fun-ext, subst}
-use mathlib.Core.Logic.{_≢_, _↔_, _⊎_, inl, inr, ⊎-elim}
+use mathlib.Core.Path.{_≡_, refl, sym, ap, ap₂, _∙_, fun-ext}
+use mathlib.Core.Logic.{_≢_, _⊎_, inl, inr, ⊎-elim}
 use mathlib.Core.List.{List, [], _∷_, map}
 use Prim.Native.Nat.{ℕ, zero, suc, _+_, _*_, _≤_, _<_}
-use native.Mathlib.Nat.{suc-add, zero-add as nat-zero-add, not-suc-le-zero}
+use native.Mathlib.Nat.{suc-add, zero-add as nat-zero-add}
 use native.Mathlib.Decide.{decLe}
 use native.Mathlib.Omega.{arith}
 use lib.ListN.{length, length-map, List·getD-eq-default}
@@ -25,7 +25,7 @@ use Rattle.algebra.proofs.Degree as D
 use Rattle.algebra.specs.Trial.{All, Distinct}
 use Rattle.algebra.proofs.Factors as W
 use Rattle.corrector_code.specs.Word.{total}
-use Rattle.corrector_code.specs.Key.{Register, conv, register, fromLocators}
+use Rattle.corrector_code.specs.Key.{conv, register, fromLocators}
 use Rattle.corrector_code.proofs.Sums.{all-map}
 use Rattle.corrector_code.proofs.Sums as Y
 use Rattle.corrector_code.proofs.Words as X
@@ -34,24 +34,15 @@ use Rattle.corrector_code.proofs.Odd as H
 use Rattle.corrector_code.proofs.Massey.{Short}
 use Rattle.corrector_code.proofs.Massey as M
 use Rattle.corrector_code.proofs.Run as R
+use Rattle.algebra.proofs.Signs.{Signs, signs}
 
 -- 1, and the power sums of a list
 unfoldable pub sums : {K : Type 0} (F : Ops K) → List K → Series K
 sums F s = front (F .one) (λ k. total F (λ x. power F x (suc k)) s)
 
 module _ {K : Type 0} {F : Ops K} (L : Laws F) where
-  infixl 60 _⊕_
-  infixl 70 _⊗_
-  infixl 60 _⊞_
-  infixl 70 _⊠_
-  open Ops F using (zero as 0#, one as 1#, add as _⊕_, mul as _⊗_)
+  open Signs (signs F) using (0#, 1#, _⊕_, _⊗_, _⊞_, _⊠_)
   open Laws L using (add-comm, add-assoc, zero-add, add-self, one-mul, mul-comm, mul-assoc, mul-add, mul-inv, one≢zero)
-
-  abbrev _⊞_ : Series K → Series K → Series K
-  f ⊞ g = plus F f g
-
-  abbrev _⊠_ : Series K → Series K → Series K
-  f ⊠ g = times F f g
 
   total-same : (f g : K → K) (s : List K) → All (λ x. f x ≡ g x) s → total F f s ≡ total F g s
   unfolding total

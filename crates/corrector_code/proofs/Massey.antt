@@ -9,7 +9,7 @@
 --   short-front, short-next                of z^2 f, and one turn more
 --   scale-times, front-next, front-two   the product of a multiple, of z f, of z^2 f
 -- Assumes nothing.
-use mathlib.Core.Path.{_≡_, refl, sym, ap, ap₂, _∙_, fun-ext}
+use mathlib.Core.Path.{_≡_, sym, ap, ap₂, _∙_, fun-ext}
 use mathlib.Core.Logic.{_≢_, _⊎_, inl, inr, ⊎-elim}
 use Prim.Native.Nat.{ℕ, zero, suc, _+_, _*_, _≤_, _<_}
 use native.Mathlib.Nat.{eq-or-lt-of-le, not-suc-le-zero}
@@ -21,6 +21,7 @@ use Rattle.algebra.proofs.Series as S
 use Rattle.algebra.proofs.Elements as E
 use Rattle.corrector_code.proofs.Odd.{odd}
 use Rattle.corrector_code.proofs.Odd as H
+use Rattle.algebra.proofs.Signs.{Signs, signs}
 
 -- f has degree at most d, and the first m odd coefficients of f s are 0
 pub record Short {K : Type 0} (F : Ops K) (s : Series K) (m : ℕ) (f : Series K) (d : ℕ) : Type 0 where
@@ -28,18 +29,8 @@ pub record Short {K : Type 0} (F : Ops K) (s : Series K) (m : ℕ) (f : Series K
   pub gap : (i : ℕ) → i < m → times F f s (suc (2 * i)) ≡ F .zero
 
 module _ {K : Type 0} {F : Ops K} (L : Laws F) where
-  infixl 60 _⊕_
-  infixl 70 _⊗_
-  infixl 60 _⊞_
-  infixl 70 _⊠_
-  open Ops F using (zero as 0#, one as 1#, add as _⊕_, mul as _⊗_)
+  open Signs (signs F) using (0#, 1#, _⊕_, _⊗_, _⊞_, _⊠_)
   open Laws L using (zero-add, one-mul)
-
-  abbrev _⊞_ : Series K → Series K → Series K
-  f ⊞ g = plus F f g
-
-  abbrev _⊠_ : Series K → Series K → Series K
-  f ⊠ g = times F f g
 
   -- a coefficient of a product is 0 where one of the two factors is, in each term
   pub product-none : (k : ℕ) (f g : Series K) → ((i j : ℕ) → i + j ≡ k → (f i ≡ 0#) ⊎ (g j ≡ 0#)) → (f ⊠ g) k ≡ 0#

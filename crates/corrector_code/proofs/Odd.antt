@@ -6,15 +6,16 @@
 --   leibniz       the product rule;  odd-square  a square has no odd coefficient
 --   unit-below    a product with a sequence that begins with 1 is 0 below n only where the other factor is
 -- Assumes nothing.
-use mathlib.Core.Path.{_≡_, refl, sym, ap, ap₂, _∙_, fun-ext, subst}
+use mathlib.Core.Path.{_≡_, refl, sym, ap, ap₂, _∙_, fun-ext}
 use mathlib.Core.Logic.{_⊎_, inl, inr, ⊎-elim}
-use Prim.Native.Nat.{ℕ, zero, suc, _+_, _*_, _≤_, _<_}
+use Prim.Native.Nat.{ℕ, zero, suc, _*_, _≤_, _<_}
 use native.Mathlib.Nat.{eq-or-lt-of-le, not-suc-le-zero}
 use native.Mathlib.Omega.{arith}
 use Rattle.algebra.specs.Field.{Ops, Laws}
-use Rattle.algebra.proofs.Series.{Series, behind, front, plus, scale, times, nought}
+use Rattle.algebra.proofs.Series.{Series, behind, plus, scale, times, nought}
 use Rattle.algebra.proofs.Series as S
 use Rattle.algebra.proofs.Elements as E
+use Rattle.algebra.proofs.Signs.{Signs, signs}
 
 -- the odd coefficients: that at k + 1 is f's where that at k is not
 unfoldable pub odd : {K : Type 0} (F : Ops K) → Series K → Series K
@@ -27,18 +28,8 @@ half zero = inl (0, omega arith)
 half (suc k) = ⊎-elim (λ e. inr (e .0, ap suc (e .1))) (λ e. inl (suc (e .0), omega (arith, e .1))) (half k)
 
 module _ {K : Type 0} {F : Ops K} (L : Laws F) where
-  infixl 60 _⊕_
-  infixl 70 _⊗_
-  infixl 60 _⊞_
-  infixl 70 _⊠_
-  open Ops F using (zero as 0#, one as 1#, add as _⊕_, mul as _⊗_)
+  open Signs (signs F) using (0#, 1#, _⊕_, _⊗_, _⊞_, _⊠_)
   open Laws L using (add-comm, add-assoc, zero-add, mul-comm, one-mul, mul-add)
-
-  abbrev _⊞_ : Series K → Series K → Series K
-  f ⊞ g = plus F f g
-
-  abbrev _⊠_ : Series K → Series K → Series K
-  f ⊠ g = times F f g
 
   -- ---- what stands at even and at odd places
 

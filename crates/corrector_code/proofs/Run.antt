@@ -5,7 +5,7 @@
 --   register-runs    it holds after every turn
 --   register-same    the register depends on the power sums that it takes
 -- Assumes nothing.
-use mathlib.Core.Path.{_≡_, refl, sym, ap, ap₂, _∙_, fun-ext, subst}
+use mathlib.Core.Path.{_≡_, refl, sym, ap, ap₂, _∙_, fun-ext}
 use mathlib.Core.Logic.{_≢_, _↔_}
 use mathlib.Core.Bool.{Bool, true, false, cond}
 use mathlib.Core.List.{List, [], _∷_, map}
@@ -17,7 +17,7 @@ use lib.ListN.{length, take, replicate, length-map, length-take, length-replicat
 use borrow.Author.Tests.{ltb-true, ltb-false}
 use Rattle.algebra.specs.Field.{Ops, Laws}
 use Rattle.algebra.specs.Polynomial.{coef, add}
-use Rattle.algebra.proofs.Series.{Series, behind, front, plus, scale, times, nought}
+use Rattle.algebra.proofs.Series.{Series, front, plus, scale, times, nought}
 use Rattle.algebra.proofs.Series as S
 use Rattle.algebra.proofs.Elements as E
 use Rattle.algebra.proofs.Coefficients as P
@@ -26,6 +26,7 @@ use Rattle.algebra.proofs.Lengths.{length-add}
 use Rattle.corrector_code.specs.Key.{Register, conv, shift, plusTimes, mend, turn, register}
 use Rattle.corrector_code.proofs.Massey.{Short}
 use Rattle.corrector_code.proofs.Massey as M
+use Rattle.algebra.proofs.Signs.{Signs, signs}
 
 -- what holds of the register after n turns on s, where some sequence of degree v makes all of s
 pub record Running {K : Type 0} (F : Ops K) (s : Series K) (v N n : ℕ) (r : Register K) : Type 0 where
@@ -39,18 +40,8 @@ pub record Running {K : Type 0} (F : Ops K) (s : Series K) (v N n : ℕ) (r : Re
   pub long-spare : length (r .spare) ≡ N
 
 module _ {K : Type 0} {F : Ops K} (L : Laws F) where
-  infixl 60 _⊕_
-  infixl 70 _⊗_
-  infixl 60 _⊞_
-  infixl 70 _⊠_
-  open Ops F using (zero as 0#, one as 1#, add as _⊕_, mul as _⊗_)
+  open Signs (signs F) using (0#, 1#, _⊕_, _⊗_, _⊞_, _⊠_)
   open Laws L using (zero-add, add-self, one-mul, mul-comm, mul-inv, zero-test)
-
-  abbrev _⊞_ : Series K → Series K → Series K
-  f ⊞ g = plus F f g
-
-  abbrev _⊠_ : Series K → Series K → Series K
-  f ⊠ g = times F f g
 
   -- ---- the list functions, as operations on sequences
 
