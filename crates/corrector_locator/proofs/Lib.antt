@@ -1,5 +1,4 @@
 -- Why: the loops, the registers of a run, the products and the squares.
-pub mod Fill
 pub mod Loops
 pub mod Fine
 pub mod Turns

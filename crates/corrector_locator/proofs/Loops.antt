@@ -14,7 +14,7 @@ use native.Mathlib.Decide.{decLe}
 use native.Mathlib.Omega.{arith}
 use lib.Bits.{bitXor, xor-zero-r, xor-lt}
 use lib.ListN.{length, getD, take, drop, replicate, length-map, length-take, length-replicate, drop-of-length-le}
-use Rattle.corrector_locator.proofs.Fill.{Filling}
+use Rattle.slices.proofs.Filling.{Filling}
 use lib.Seq.{drop-cons}
 use Rattle.field.specs.Field.{fieldAt, mul, inverse}
 use Rattle.field.proofs.Ring.{mul-lt}
@@ -100,7 +100,7 @@ shift-at p i h = go (length p) p i h
 pub shift-from : (p : List ℕ) (i : ℕ) → 2 ≤ i → i < length p → getD p (i - 2) 0 ≡ getD (shift F11 p) i 0
 shift-from p i l h = let e : suc (suc (i - 2)) ≡ i = omega arith in sym (shift-at p (i - 2) (omega arith)) ∙ ap (λ k. getD (shift F11 p) k 0) e
 
-pub shift-start : (p : List ℕ) → length p ≡ 9 → Filling 0 (shift F11 p) (replicate 9 0) (replicate 9 0) 2
+pub shift-start : (p : List ℕ) → length p ≡ 9 → Filling (shift F11 p) (replicate 9 0) (replicate 9 0) 2
 unfolding shift
 shift-start p e = record {
   within = omega arith;

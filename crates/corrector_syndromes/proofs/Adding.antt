@@ -15,25 +15,18 @@ use native.Mathlib.Omega.{arith}
 use lib.Bits.{bitXor, xor-zero-r}
 use lib.ListN.{length, getD, set, length-set, replicate}
 use lib.Seq.{getD-set-same, getD-set-other}
-use lib.Pow.{pow-pos}
+
 use Rattle.algebra.specs.Field.{power}
-use Rattle.field.specs.Field.{fieldAt, numbers, size, mul}
+use Rattle.field.specs.Field.{fieldAt, mul}
 use Rattle.field.proofs.Ring.{ring, RingLaws, power-lt}
 use Rattle.field.proofs.Generator.{unit}
 use Rattle.corrector_code.specs.Digits.{at}
 use Rattle.corrector_code.specs.Eleven.{F11}
 use Rattle.corrector_code.proofs.Eleven.{gen11}
 use Rattle.corrector_code.proofs.Values.{digit-turn, at-join, at-lt, at-zero}
-use Rattle.corrector_syndromes.specs.Remainder.{oddPower, RowTable, RowAdded, ValuesAdded, OddValues, restOf}
+use Rattle.corrector_syndromes.specs.Remainder.{oddPower, RowTable, RowAdded, ValuesAdded, OddValues}
+use Rattle.corrector_syndromes.proofs.Entries.{power-next, power-none}
 open RingLaws (ring (fieldAt 11) (gen11 .monic)) using (mul-comm, mul-zero-r, mul-one-r, mul-lt)
-
-power-next : (x i : ℕ) → power F11 x (suc i) ≡ mul (fieldAt 11) x (power F11 x i)
-unfolding power
-power-next x i = refl
-
-power-none : (x : ℕ) → power F11 x 0 ≡ 1
-unfolding power
-power-none x = refl
 
 value-nought : (x : ℕ) → at (fieldAt 11) x 0 ≡ 0
 value-nought x = at-zero (fieldAt 11) (gen11 .monic) (unit (fieldAt 11) gen11) x

@@ -1,6 +1,7 @@
 -- The constant table of powers, by one test that antt computes: each row by multiplication from the one before.
 --   rowsTest   the test
 --   rows-at    what it says of the table
+--   power-next, power-none   a power by the one below it; the power 0
 -- Assumes nothing.
 use mathlib.Core.Path.{_≡_, refl, sym, ap, ap₂, _∙_, subst}
 use mathlib.Core.Bool.{Bool, true, false}
@@ -18,11 +19,12 @@ use Rattle.field.proofs.Table.{both, both-left, both-right}
 use Rattle.corrector_code.specs.Eleven.{F11}
 use Rattle.corrector_syndromes.specs.Remainder.{oddPower, RowTable}
 
-power-next : (x i : ℕ) → power F11 x (suc i) ≡ mul (fieldAt 11) x (power F11 x i)
+-- a power, by the one below it
+pub power-next : (x i : ℕ) → power F11 x (suc i) ≡ mul (fieldAt 11) x (power F11 x i)
 unfolding power
 power-next x i = refl
 
-power-none : (x : ℕ) → power F11 x 0 ≡ 1
+pub power-none : (x : ℕ) → power F11 x 0 ≡ 1
 unfolding power
 power-none x = refl
 

@@ -2,7 +2,6 @@
 
 -- lists: parts of a slice, loops that store from the front, sums
 pub mod Parts
-pub mod Filling
 pub mod Sums
 -- products, inverses and rows over lent tables, and how they are lent
 pub mod Logs

@@ -23,7 +23,7 @@ use Rattle.field.proofs.Ring.{ring}
 use Rattle.field.proofs.Generator.{inverse-lt, mul-inverse}
 use Rattle.poly.specs.Lent.{G, Lent}
 use Rattle.poly.specs.Monic.{TopIs, front, MadeMonic, Scalable}
-use Rattle.poly.proofs.Filling.{Filling, map-from, map-on, fill-next, fill-end}
+use Rattle.slices.proofs.Filling.{Filling, map-from, map-on, fill-next, fill-end}
 use Rattle.poly.proofs.Logs.{field-of, logs-fit, product-fits, product-at}
 
 -- ---- `top`

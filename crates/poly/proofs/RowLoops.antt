@@ -17,7 +17,7 @@ use Rattle.field.specs.Field.{mul, fieldAt}
 use Rattle.field.specs.Tables.{logOf, antilogOf}
 use Rattle.field.proofs.Ring.{ring}
 use Rattle.poly.specs.Lent.{G, logRow, held, Addable, Loggable}
-use Rattle.poly.proofs.Filling.{Filling, fill-from, fill-on, fill-next, fill-end, fill-stop, map-at}
+use Rattle.slices.proofs.Filling.{Filling, fill-from, fill-on, fill-next, fill-end, fill-stop, map-at}
 use Rattle.poly.proofs.Logs.{field-of, logs-fit, log-at, row-fits, row-at, held-long}
 use Rattle.poly.proofs.Sums.{add-at, add-rest, add-none, long-row}
 

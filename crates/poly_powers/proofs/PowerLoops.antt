@@ -24,7 +24,7 @@ use Rattle.slices.specs.Lists.{copied}
 use Rattle.poly.specs.Lent.{G, Lent, held}
 use Rattle.poly.specs.Division.{divided, Divisible, Reducible}
 use Rattle.poly_powers.specs.Powers.{Spreadable, Squarable}
-use Rattle.poly.proofs.Filling.{Filling, fill-from, fill-on, fill-next, fill-end}
+use Rattle.slices.proofs.Filling.{Filling, fill-from, fill-on, fill-next, fill-end}
 use Rattle.poly.proofs.Logs.{field-of, small-of, numbers-of, held-below, held-long}
 use Rattle.poly.proofs.Sums.{add-at, add-nil, add-assoc}
 use Rattle.poly.proofs.Remainders.{copied-whole, remainder-long}

@@ -7,7 +7,7 @@ use lib.Bits.{bitXor}
 use lib.ListN.{length}
 use Rattle.corrector_code.specs.Key.{plusTimes}
 use Rattle.corrector_code.specs.Eleven.{F11}
-use Rattle.corrector_locator.proofs.Fill.{Filling, fill-start, fill-turn, fill-next, fill-end}
+use Rattle.slices.proofs.Filling.{Filling, fill-from, fill-on, fill-next, fill-end}
 use Rattle.corrector_locator.proofs.Loops.{plusTimes-at, plusTimes-long}
 use borrow.Author.Needs.{needs}
 use Rattle.corrector_locator.proofs.plus_times.Statement.{statement}
@@ -15,13 +15,13 @@ use Rattle.corrector_locator.proofs.plus_times.Tie as tie
 use Rattle.corrector_locator.proofs.product.Reads as product-reads
 
 abbrev Inv-loop : tie.InvT-loop
-Inv-loop logs powers d q r₀ i₀ r i = (length r₀ ≡ 9) × (length q ≡ 9) × Filling 0 (plusTimes F11 r₀ d q) r₀ r i
+Inv-loop logs powers d q r₀ i₀ r i = (length r₀ ≡ 9) × (length q ≡ 9) × Filling (plusTimes F11 r₀ d q) r₀ r i
 
 abbrev μ-loop : tie.MeasureT-loop
 μ-loop logs powers d q r₀ i₀ r i = 9 - i
 
 loop-holds : tie.Need-loop-holds Inv-loop μ-loop
-loop-holds c = (omega arith, omega arith, fill-start 0 _ _ (plusTimes-long _ _ _ (omega arith)))
+loop-holds c = (omega arith, omega arith, fill-from _ _ (plusTimes-long _ _ _ (omega arith)))
 
 mul-r : tie.Need-mul-r Inv-loop μ-loop
 mul-r c = search needs
@@ -53,10 +53,10 @@ loop-less c = search needs
 loop-again : tie.Need-loop-again Inv-loop μ-loop
 loop-again c =
     let v = c .before .before .loop .inv in
-    (v .0, v .1, fill-turn 0 (v .2) (omega arith) (ap₂ bitXor (fill-next 0 (v .2) (omega arith)) (c .product .ensures) ∙ sym (plusTimes-at _ _ _ _ (v .0 ∙ sym (v .1)) (omega arith))))
+    (v .0, v .1, fill-on (v .2) (omega arith) (ap₂ bitXor (fill-next (v .2) (omega arith)) (c .product .ensures) ∙ sym (plusTimes-at _ _ _ _ (v .0 ∙ sym (v .1)) (omega arith))))
 
 returns : tie.Need-returns Inv-loop μ-loop
-returns c = fill-end 0 (c .before .loop .inv .2) (omega arith)
+returns c = fill-end (c .before .loop .inv .2) (omega arith)
 
 pub plus-times-spec : {M : Type 1} → statement M
 plus-times-spec =

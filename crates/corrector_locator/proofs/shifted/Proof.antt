@@ -6,14 +6,14 @@ use native.Mathlib.Omega.{arith}
 use lib.ListN.{length, replicate}
 use Rattle.corrector_code.specs.Key.{shift}
 use Rattle.corrector_code.specs.Eleven.{F11}
-use Rattle.corrector_locator.proofs.Fill.{Filling, fill-turn, fill-end}
+use Rattle.slices.proofs.Filling.{Filling, fill-on, fill-end}
 use Rattle.corrector_locator.proofs.Loops.{shift-start, shift-from}
 use borrow.Author.Needs.{needs}
 use Rattle.corrector_locator.proofs.shifted.Statement.{statement}
 use Rattle.corrector_locator.proofs.shifted.Tie as tie
 
 abbrev Inv-loop : tie.InvT-loop
-Inv-loop p r₀ i₀ r i = (length p ≡ 9) × (2 ≤ i) × Filling 0 (shift F11 p) (replicate 9 0) r i
+Inv-loop p r₀ i₀ r i = (length p ≡ 9) × (2 ≤ i) × Filling (shift F11 p) (replicate 9 0) r i
 
 abbrev μ-loop : tie.MeasureT-loop
 μ-loop p r₀ i₀ r i = 9 - i
@@ -45,10 +45,10 @@ loop-less c = search needs
 loop-again : tie.Need-loop-again Inv-loop μ-loop
 loop-again c =
     let v = c .before .loop .inv in
-    (v .0, omega arith, fill-turn 0 (v .2) (omega arith) (shift-from _ _ (v .1) (omega arith)))
+    (v .0, omega arith, fill-on (v .2) (omega arith) (shift-from _ _ (v .1) (omega arith)))
 
 returns : tie.Need-returns Inv-loop μ-loop
-returns c = fill-end 0 (c .before .loop .inv .2) (omega arith)
+returns c = fill-end (c .before .loop .inv .2) (omega arith)
 
 pub shifted-spec : {M : Type 1} → statement M
 shifted-spec =
