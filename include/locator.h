@@ -52,7 +52,7 @@ extern "C" {
 #define LOCATOR_GOPPA 0
 #define LOCATOR_RECORDERS 1
 
-/* Stack, in bytes, that is enough for any call (tests/stack.c measures it). */
+/* Stack, in bytes, that is enough for any call (tests/c/stack.c measures it). */
 #define LOCATOR_STACK 40960
 
 /* What an element call gives: the value, 0 where refused. */

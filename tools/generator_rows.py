@@ -1,15 +1,16 @@
 #!/usr/bin/env python3
-"""generator_rows [--check]: writes the constants of the block corrector from the field polynomial alone.
+"""generator_rows.py: writes the constants of the block corrector from the field polynomial alone.
 
   crates/corrector_generator/src/rows.rt    the remainders by the generator of strength 8; proofs/rows/ has the proofs of the arms
   crates/corrector_syndromes/src/powers.rt  the powers of a, a^3, .., a^15
 The generator is the product of the minimal polynomials of a, a^3, .., a^15 in field 11, where a is 2; its degree is 88.
 A row function of digits k to k + w - 1 is a match: its arm c has the remainder of c x^(88 + k), the 64 low digits and
-the others. With --check it writes nothing, and says which files differ."""
-import pathlib
+the others."""
 import sys
 
-TOP = pathlib.Path(__file__).resolve().parent.parent / "crates"
+sys.dont_write_bytecode = True
+from repository import CRATES, command
+
 FIELD = 0b100000000101  # x^11 + x^2 + 1
 PARTS = [(0, 7), (7, 7), (14, 6), (20, 6), (26, 6)]
 
@@ -128,14 +129,17 @@ def powers():
 
 def main():
     """Writes the files, or with --check compares them."""
+    args = command(__doc__, "0 written, or with --check none differs; 1 one differs")
+    args.add_argument("--check", action="store_true", help="write nothing, and say which files differ")
+    opt = args.parse_args()
     g = generator()
-    files = {TOP / "corrector_generator/src/rows.rt": "".join(rows(g)), TOP / "corrector_syndromes/src/powers.rt": "".join(powers())}
+    files = {CRATES / "corrector_generator/src/rows.rt": "".join(rows(g)), CRATES / "corrector_syndromes/src/powers.rt": "".join(powers())}
     for k, w in PARTS:
-        files[TOP / f"corrector_generator/proofs/rows/row{k}/Proof.antt"] = "".join(proof(k, w))
+        files[CRATES / f"corrector_generator/proofs/rows/row{k}/Proof.antt"] = "".join(proof(k, w))
     bad = [path for path, text in files.items() if not path.exists() or path.read_text() != text]
-    if sys.argv[1:] == ["--check"]:
+    if opt.check:
         for path in bad:
-            print(f"{path.relative_to(TOP)} differs")
+            print(f"{path.relative_to(CRATES)} differs")
         sys.exit(1 if bad else 0)
     for path, text in files.items():
         path.parent.mkdir(parents=True, exist_ok=True)

@@ -1,5 +1,11 @@
 #!/usr/bin/env python3
-"""poly_values_tables: prints crates/poly_values/src/tables.rt, the constant tables of the transform for field 11. The prover tests every entry."""
+"""poly_values_tables.py: prints crates/poly_values/src/tables.rt, the constant tables of the transform for field 11. The prover tests every entry."""
+import sys
+
+sys.dont_write_bytecode = True
+from repository import command
+
+command(__doc__, "0 printed").parse_args()
 M, POLY = 11, 2053
 STEPS = [1024, 512, 256, 128, 64]  # the highest first
 

@@ -1,8 +1,11 @@
 #!/usr/bin/env python3
-"""splitting.py PICTURE: draws the runs of tools/splitting.c that stand on standard input, each as a tree. A row is a level and a box a group of
+"""splitting.py: draws the runs of tools/c/splitting.c that stand on standard input, each as a tree. A row is a level and a box a group of
 roots; under a box that a step splits stands the step's number, and on each edge the trace bit that the roots below it share. Roots come from
 the linear factors of the last table (cutoff 1), and the tree from each table beside the next. The trace bits are computed here, as a check."""
 import sys
+
+sys.dont_write_bytecode = True
+from repository import command
 
 FIELDS = {4: 19, 8: 285, 11: 2053}
 ROW, BOX, CHAR, GAP, LEFT = 96, 26, 7.7, 18, 112
@@ -164,6 +167,9 @@ def read(lines):
 
 
 def main():
+    args = command(__doc__, "0 drawn; 1 the tables are no splitting")
+    args.add_argument("picture", metavar="PICTURE", help="the file to write; tools/picture writes docs/splitting.svg")
+    opt = args.parse_args()
     out, top, wide = [], 34, 0
     for run in read(sys.stdin):
         right, down = draw_run(*run, top, out)
@@ -173,7 +179,7 @@ def main():
               "their trace bits, which is not that of their numbers; finish sorts. Drawn by tools/picture from the tables of begin and step."]
     out += [text(24, top - 20 + 18 * i, line, 12, "start", "#666") for i, line in enumerate(legend)]
     wide, high = round(wide + 24), top + 34
-    with open(sys.argv[1], "w") as file:
+    with open(opt.picture, "w") as file:
         file.write(f'<svg xmlns="http://www.w3.org/2000/svg" width="{wide}" height="{high}" viewBox="0 0 {wide} {high}" font-family="DejaVu Sans, Helvetica, Arial, sans-serif">\n'
                    f'<rect width="{wide}" height="{high}" fill="white"/>\n' + "\n".join(out) + "\n</svg>\n")
 

@@ -1,10 +1,19 @@
 #!/usr/bin/env python3
-"""tables DEGREE POLYNOMIAL: the constant tables of a field, as crates/field_tables/src/halves.rt and logtables.rt hold them.
+"""tables.py: prints the constant tables of a field, as crates/field_tables/src/halves.rt and logtables.rt hold them.
 
 A new field costs a row in crates/refusals, these tables, and a few lines that name each (constants.rt); the prover tests every entry."""
 import sys
 
-m, poly = int(sys.argv[1]), int(sys.argv[2])
+sys.dont_write_bytecode = True
+from repository import command
+
+args = command(__doc__, "0 printed")
+args.add_argument("degree", type=int, metavar="DEGREE", help="m, as 11")
+args.add_argument("polynomial", type=int, metavar="POLYNOMIAL", help="the field polynomial as a number, as 2053")
+opt = args.parse_args()
+m, poly = opt.degree, opt.polynomial
+if poly >> m != 1:
+    args.error(f"{poly} is no polynomial of degree {m}")
 size = 1 << m
 order = size - 1
 

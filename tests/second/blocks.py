@@ -173,7 +173,9 @@ def compare_by_trial(cases, count):
 
 def main():
     """One of the four commands."""
-    parser = argparse.ArgumentParser(description="cases for the block corrector")
+    parser = argparse.ArgumentParser(
+        description=__doc__, epilog="Exit status: 0 done; 1 the words of a case, or trial, do not agree; 2 unknown words.", formatter_class=argparse.RawDescriptionHelpFormatter
+    )
     commands = parser.add_subparsers(dest="command", required=True)
     cases = commands.add_parser("cases")
     cases.add_argument("--seed", type=int, default=1)

@@ -303,7 +303,9 @@ def tally(folder):
 
 
 def main():
-    parser = argparse.ArgumentParser(description="job files for the program roots")
+    parser = argparse.ArgumentParser(
+        description=__doc__, epilog="Exit status: 0 done; 2 unknown words.", formatter_class=argparse.RawDescriptionHelpFormatter
+    )
     commands = parser.add_subparsers(dest="command", required=True)
     files = commands.add_parser("files")
     files.add_argument("--seed", type=int, default=1)

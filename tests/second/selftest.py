@@ -544,7 +544,9 @@ def check_formats(rng):
 
 
 def main():
-    parser = argparse.ArgumentParser(description="checks of the second program")
+    parser = argparse.ArgumentParser(
+        description=__doc__, epilog="Exit status: 0 no check failed; 1 one did; 2 unknown words.", formatter_class=argparse.RawDescriptionHelpFormatter
+    )
     parser.add_argument("--seed", type=int, default=1)
     parser.add_argument("--count", type=int, default=1000)
     options = parser.parse_args()

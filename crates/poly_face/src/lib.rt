@@ -1,4 +1,4 @@
-// The inner routines on polynomials as C calls them, to be tested (tests/routines.c) and timed (bench/polynomial.c). Not part of the product's face: each
+// The inner routines on polynomials as C calls them, to be tested (tests/c/routines.c) and timed (bench/c/routines.c). Not part of the product's face: each
 // asks what its routine asks, and the C side sees to it. A slice is a pointer, then a count.
 ghost use mathlib.Core.Path.{_≡_};
 ghost use mathlib.Core.Bool.{true};

@@ -1,4 +1,4 @@
-/* The face that every root finder has in the benchmark bench/roots. Only solve is timed and counted. */
+/* The face that every root finder has in the benchmark bench/peers. Only solve is timed and counted. */
 #ifndef FINDER_H
 #define FINDER_H
 #include <stdbool.h>

@@ -1,11 +1,10 @@
 #!/usr/bin/env python3
-"""corrector_report.py DIR [PAGE]: prints the tables of the run of bench/corrector whose files stand in DIR, as a
-section in Markdown, and puts it in place of that section of PAGE where one is named. Fails where an answer of ours is
-wrong."""
+"""corrector.py DIR [DOCS]: prints the tables of the run of bench/corrector whose files stand in DIR, as a section in
+Markdown, and with DOCS puts it in place of that section of DOCS/BENCHMARK.md. Fails where an answer of ours is wrong."""
 import sys
 
 sys.dont_write_bytecode = True
-from report import CORRECTOR, figure, put_section, rows, short, table
+from page import CORRECTOR, NO_REP, figure, put, rows, short, table
 
 NAMES = {"ours": "ours", "const": "lib/bch.c, constant", "usual": "lib/bch.c, usual"}
 
@@ -120,9 +119,7 @@ Thousand instructions and microseconds a word:
 
 {speed_table(run)}
 
-"No rep": from 2 KB on glibc's memset is one instruction, rep stos, which both counters take as one for each byte; for
-this column glibc was told to store by vectors instead. The emulator does rep stos byte by byte, and its times hold
-that.
+{NO_REP}
 
 {wrong_answers(run)}
 
@@ -139,11 +136,11 @@ def main():
     run = read(sys.argv[1])
     print(section(run), end="")
     if len(sys.argv) > 2:
-        put_section(sys.argv[2], section(run))
+        put(f"{sys.argv[2]}/BENCHMARK.md", CORRECTOR, section(run))
     if any(right != all for (_, _, who), (right, all) in run["checks"].items() if who == "ours"):
-        sys.exit("corrector_report: an answer of our own is wrong")
+        sys.exit("corrector: an answer of our own is wrong")
     if any(untrue for (_, _, who), (_, _, untrue) in run["beyond"].items() if who == "ours"):
-        sys.exit("corrector_report: a correction of our own is no codeword")
+        sys.exit("corrector: a correction of our own is no codeword")
 
 
 if __name__ == "__main__":

@@ -1,7 +1,7 @@
 /* Tries examples/c/encode.h at every strength: what it makes is a codeword by the rules (block_rules.h), the corrector
    leaves it as it is, and its data come back; and no strength outside 1 to 8 has room. */
 #define DRIVER "encode"
-#include "../examples/c/encode.h"
+#include "../../examples/c/encode.h"
 #include "block_rules.h"
 #include "lent.h"
 

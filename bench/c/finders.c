@@ -1,10 +1,13 @@
 /*
- * The root finders beside each other, for bench/roots: the proved whole call and plain search, Linux lib/bch.c, FLINT,
+ * The root finders beside each other, for bench/peers: the proved whole call and plain search, Linux lib/bch.c, FLINT,
  * and a Chien search in C. All of them get the same polynomials, drawn from a fixed seed.
  *
- *   roots check                every list against a plain search; a line for each set and finder: set, finder, right lists, lists
- *   roots time                 a line for each set and finder whose lists are all right: set, finder, nanoseconds a polynomial
- *   roots pass SET FINDER K    K passes over the set, for counting: the difference of two counts is one pass
+ *   finders check SETS [FINDER..]  every list against a plain search; a line for each set and finder: set, finder, right lists, lists
+ *   finders time SETS [FINDER..]   a line for each set and finder whose lists are all right: set, finder, nanoseconds a polynomial
+ *   finders pass SET FINDER K      K passes over the set, for counting: the difference of two counts is one pass
+ *
+ * SETS is "usual" (those of several fields and kinds), "degrees" (field 11, as many distinct nonzero roots as the degree, 1 to 32),
+ * or the beginning of a set's name. Without a FINDER all take part.
  */
 #include <stdio.h>
 #include <stdlib.h>
@@ -119,17 +122,20 @@ static const struct finder finders[] = {
     {"chien", true, start_chien, prepare_job, chien, job_roots},
 };
 
-/* The i-th finder, our own code first, then the peers that are there. */
+/* The i-th finder, our own code first, then the peers that are there; NULL behind the last. */
 static const struct finder *finder_at(size_t i)
 {
     static const struct finder *const peers[] = {
+#ifdef WITH_BCH
         &bch_finder, &bch_fixed_finder,
+#endif
 #ifdef WITH_FLINT
         &flint_finder,
 #endif
+        NULL,
     };
-    const size_t own = sizeof finders / sizeof *finders, others = sizeof peers / sizeof *peers;
-    return i < own ? &finders[i] : i < own + others ? peers[i - own] : NULL;
+    const size_t own = sizeof finders / sizeof *finders;
+    return i < own ? &finders[i] : peers[i - own];
 }
 
 /* ---- inputs ---- */
@@ -142,19 +148,39 @@ struct polynomial {
     uint16_t coeffs[MOST];
 };
 
-static const struct set {
-    const char *name;
+enum { USUAL = 12, DEGREES = 32, SETS = USUAL + DEGREES };
+
+static struct set {
+    char name[16];
     int m;
     size_t degree;
     enum kind kind;
     bool timed;
-} sets[] = {
+} sets[SETS] = {
     {"11.split.4", 11, 4, SPLIT, true},    {"11.split.8", 11, 8, SPLIT, true},    {"11.split.16", 11, 16, SPLIT, true},
     {"11.split.32", 11, 32, SPLIT, true},  {"11.dense.32", 11, 32, DENSE, true},  {"8.split.8", 8, 8, SPLIT, true},
     {"8.split.32", 8, 32, SPLIT, true},    {"8.dense.32", 8, 32, DENSE, true},    {"4.split.8", 4, 8, SPLIT, true},
     {"4.dense.32", 4, 32, DENSE, true},    {"11.zero.32", 11, 32, ZERO, false},   {"11.double.32", 11, 32, DOUBLE, false},
 };
-enum { SETS = sizeof sets / sizeof *sets };
+
+/* The sets of distinct roots in field 11 by degree, behind the usual ones. */
+static void name_degrees(void)
+{
+    for (size_t d = 1; d <= DEGREES; d++) {
+        struct set *set = &sets[USUAL + d - 1];
+        *set = (struct set){"", 11, d, SPLIT, true};
+        snprintf(set->name, sizeof set->name, "11.distinct.%zu", d);
+    }
+}
+
+static bool is_meant(const struct set *set, const char *which)
+{
+    if (strcmp(which, "usual") == 0)
+        return set < sets + USUAL;
+    if (strcmp(which, "degrees") == 0)
+        return set >= sets + USUAL;
+    return strncmp(set->name, which, strlen(which)) == 0;
+}
 
 static uint64_t state;
 
@@ -270,8 +296,17 @@ static double now(void)
     return (double)t.tv_sec * 1e9 + (double)t.tv_nsec;
 }
 
+/* Whether a finder takes part: all do where none is named. */
+static bool is_named(const struct finder *finder, char **names)
+{
+    for (char **name = names; *name != NULL; name++)
+        if (strcmp(*name, finder->name) == 0)
+            return true;
+    return *names == NULL;
+}
+
 /* Finders take turns; the least time of each chunk of polynomials counts, so that other work on the machine disturbs little. */
-static void time_set(const struct set *set, bool timing)
+static void time_set(const struct set *set, bool timing, char **names)
 {
     struct polynomial all[LISTS];
     struct runner {
@@ -284,7 +319,7 @@ static void time_set(const struct set *set, bool timing)
     for (size_t f = 0; finder_at(f) != NULL; f++) {
         struct runner *r = &runners[count];
         r->finder = finder_at(f);
-        if (!r->finder->start(set->m))
+        if (!is_named(r->finder, names) || !r->finder->start(set->m))
             continue;
         prepare_all(r->finder, all, r->jobs);
         size_t right = right_lists(r->finder, set, all, r->jobs);
@@ -334,13 +369,16 @@ static int passes(const char *set_name, const char *finder_name, int k)
 
 int main(int argc, char **argv)
 {
+    name_degrees();
     if (argc == 5 && strcmp(argv[1], "pass") == 0)
         return passes(argv[2], argv[3], atoi(argv[4]));
-    bool timing = argc == 2 && strcmp(argv[1], "time") == 0;
-    if (!timing && (argc != 2 || strcmp(argv[1], "check") != 0))
+    bool timing = argc >= 3 && strcmp(argv[1], "time") == 0, met = false;
+    if (!timing && (argc < 3 || strcmp(argv[1], "check") != 0))
         return 2;
     for (size_t s = 0; s < SETS; s++)
-        if (sets[s].timed || !timing)
-            time_set(&sets[s], timing);
-    return 0;
+        if (is_meant(&sets[s], argv[2]) && (sets[s].timed || !timing)) {
+            time_set(&sets[s], timing, argv + 3);
+            met = true;
+        }
+    return met ? 0 : 2;
 }

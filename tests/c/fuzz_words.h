@@ -1,4 +1,4 @@
-/* The block corrector's part of tests/fuzz.c: words that are any bytes, or codewords with errors planted. A word
+/* The block corrector's part of tests/c/fuzz.c: words that are any bytes, or codewords with errors planted. A word
    stands against a page that cannot be touched, before it or behind it. Codewords come from examples/c/encode.h, and
    block_rules.h judges them and what the corrector makes of them. */
 #include "../examples/c/encode.h"

@@ -1,10 +1,11 @@
 #!/usr/bin/env python3
-"""report.py DIR [PAGE]: prints the tables of the run of bench/roots whose files stand in DIR, and writes them as PAGE where it is given; the section that
-bench/corrector writes stays there. Fails where a list of ours is wrong; a peer's wrong lists are only named."""
-import os
+"""peers.py DIR [DOCS]: prints the tables of the run of bench/peers whose files stand in DIR, and with DOCS writes them as DOCS/BENCHMARK.md, where sections
+that have runs of their own stay, and draws DOCS/benchmark.svg. Fails where a list of ours is wrong; a peer's wrong lists are only named."""
 import sys
 
-CORRECTOR = "## The block corrector beside lib/bch.c"  # the last section of the page
+sys.dont_write_bytecode = True
+from page import NO_REP, figure, put, ratio, read, short, table
+from peers_plot import draw
 
 FINDERS = [("solve", "whole call"), ("search", "plain search"), ("bch", "lib/bch.c"), ("flint", "FLINT"), ("chien", "Chien in C")]
 MEASURES = ("count", "vector", "time")
@@ -17,36 +18,6 @@ TARGETS = [
 ]
 
 
-def rows(directory, name):
-    with open(f"{directory}/{name}.tsv") as file:
-        return [line.rstrip("\n").split("\t") for line in file]
-
-
-def read(directory):
-    """The run: about, checks, and for each measure a map from (set, finder) to its figure."""
-    return {
-        "about": dict(rows(directory, "about")),
-        "checks": [(s, f, int(right), int(all)) for s, f, right, all in rows(directory, "checks")],
-        "time": {(s, f): float(ns) / 1000 for s, f, ns in rows(directory, "times")},
-        "count": {(s, f): int(n) / 1000 for s, f, n in rows(directory, "counts")},
-        "vector": {(s, f): int(n) / 1000 for s, f, n in rows(directory, "counts-vector")},
-    }
-
-
-def parts(path):
-    """What stands before the block corrector's section of a page, and the section."""
-    text = open(path).read() if os.path.exists(path) else ""
-    before, found, section = text.partition(CORRECTOR + "\n")
-    return before, found + section
-
-
-def put_section(path, section):
-    """Writes the section in place of that which the page has."""
-    before, _ = parts(path)
-    with open(path, "w") as file:
-        file.write(before.rstrip("\n") + "\n\n" + section)
-
-
 def words(name):
     m, kind, degree = name.split(".")
     kind = {"zero": "split with root 0", "double": "12 of 20 roots twice"}.get(kind, kind)
@@ -55,26 +26,6 @@ def words(name):
 
 def in_order(figures):
     return list(dict.fromkeys(s for s, _ in figures))
-
-
-def figure(x):
-    return "-" if x is None else f"{x:,.1f}" if x < 1000 else f"{x:,.0f}"
-
-
-def ratio(figures, s, one, other):
-    return figures[s, one] / figures[s, other] if (s, one) in figures and (s, other) in figures else None
-
-
-def short(x):
-    return "-" if x is None else f"{x:.2f}"
-
-
-def table(head, lines):
-    """Markdown with columns of one width, so that it reads in a terminal too."""
-    wide = [max(len(line[i]) for line in [head] + lines) for i in range(len(head))]
-    put = lambda line: "| " + " | ".join(c.ljust(w) if i == 0 else c.rjust(w) for i, (c, w) in enumerate(zip(line, wide))) + " |"
-    rule = "|" + "|".join("-" * (w + 2) if i == 0 else "-" * (w + 1) + ":" for i, w in enumerate(wide)) + "|"
-    return "\n".join([put(head), rule] + [put(line) for line in lines])
 
 
 def main_table(figures):
@@ -109,8 +60,9 @@ def target_table(run):
 def checks(run):
     title = dict(FINDERS, bchfixed="lib/bch.c for m = 11 only", solve1="whole call at cutoff 1", solve3="whole call at cutoff 3")
     wrong = [f"{title[f]} on {words(s)}: {right} of {all} lists right" for s, f, right, all in run["checks"] if right != all]
-    absent = [f"{name} does not serve {words(s)}" for f, name in FINDERS for s in in_order({(s, f): 0 for s, f, _, _ in run["checks"]})
-              if not any((s, f) == (x, y) for x, y, _, _ in run["checks"])]
+    pairs = {(s, f) for s, f, _, _ in run["checks"]}
+    there = [(f, name) for f, name in FINDERS if any(f == other for _, other in pairs)]
+    absent = [f"{name} does not serve {words(s)}" for f, name in there for s in in_order({(s, f): 0 for s, f, _, _ in run["checks"]}) if (s, f) not in pairs]
     lists = sum(all for _, f, _, all in run["checks"])
     said = f"{lists} lists were compared with a plain search by shift-and-add products; all are right but these:" if wrong else f"All {lists} lists are those of a plain search."
     return "\n".join([said] + [f"- {line}" for line in wrong + absent])
@@ -140,7 +92,7 @@ def page(run):
         counted = f"Thousand instructions a polynomial, counted by {about['counter']}:\n\n{main_table(run['count'])}\n"
     return f"""# Our calls beside lib/bch.c, FLINT and a Chien search
 
-    bench/roots --docs
+    bench/peers --docs
 
 made this page and benchmark.svg on {about['date']}.
 
@@ -161,8 +113,7 @@ Microseconds a polynomial (finders by turns; for each 8 polynomials the least of
 
 {target_table(run)}
 
-"No rep": from 2 KB on glibc's memset is one instruction, rep stos, which both counters take as one for each byte; for this column glibc was told to
-store by vectors instead. The emulator does rep stos byte by byte, and its times hold that.
+{NO_REP}
 
 ## What it says
 
@@ -177,9 +128,8 @@ store by vectors instead. The emulator does rep stos byte by byte, and its times
 def main():
     run = read(sys.argv[1])
     if len(sys.argv) > 2:
-        _, section = parts(sys.argv[2])
-        with open(sys.argv[2], "w") as file:
-            file.write(page(run) + ("\n" + section if section else ""))
+        put(f"{sys.argv[2]}/BENCHMARK.md", "", page(run))
+        draw(run, f"{sys.argv[2]}/benchmark.svg")
     about = run["about"]
     print(f"{about['where']}\n{about['date']}, commit {about['commit']}, C: {about['compiler']}, FLINT: {about['flint'] or 'not to be had'}, lib/bch.c: {about['bch']}\n")
     print(checks(run) + "\n")
@@ -187,7 +137,7 @@ def main():
         print(f"thousand instructions a polynomial ({about['counter']})\n{main_table(run['count'])}\n")
     print(f"microseconds a polynomial\n{main_table(run['time'])}\n\n{cutoff_table(run)}\n\n{target_table(run)}")
     if any(right != all for _, f, right, all in run["checks"] if f.startswith("solve") or f in ("search", "chien")):
-        sys.exit("report: a list of our own is wrong")
+        sys.exit("peers: a list of our own is wrong")
 
 
 if __name__ == "__main__":

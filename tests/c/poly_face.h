@@ -1,4 +1,4 @@
-/* The inner routines on polynomials, in libpolynomial_face.a, for tests/routines.c and bench/polynomial.c. crates/poly_face/src/lib.rt says what each
+/* The inner routines on polynomials, in libpoly_face.a, for tests/c/routines.c and bench/c/routines.c. crates/poly_face/src/lib.rt says what each
    does and asks: the tables of the field, elements of it, and room of the right size. Nothing is refused here. A slice is a pointer, then a count. */
 #include <stddef.h>
 #include <stdint.h>

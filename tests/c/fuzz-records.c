@@ -1,6 +1,6 @@
 /* A libFuzzer target over the program `roots`: files of job records, mostly well formed, and any bytes. The program's own object is linked, its main under
    the name roots_main; standard input and output are files in memory, and so is standard error while it runs. What it prints is compared, byte for byte, with a
-   reading of the same file after docs/RULES.md by tests/reference.h; it says something on standard error exactly where the file is longer than it reads. tests/fuzz --records builds and runs it; reading that does not end meets libFuzzer's time limit. */
+   reading of the same file after docs/RULES.md by tests/c/reference.h; it says something on standard error exactly where the file is longer than it reads. tests/fuzz --records builds and runs it; reading that does not end meets libFuzzer's time limit. */
 #define _GNU_SOURCE
 
 enum { OTHER, FOUR, EIGHT, ELEVEN, ENDED, CUT, CALLS };

@@ -1,4 +1,4 @@
-/* The root finder of Linux lib/bch.c behind the common face. BCH_C names the file, which bench/roots takes from Debian's linux-source-6.12.
+/* The root finder of Linux lib/bch.c behind the common face. BCH_C names the file, which bench/lib.sh takes from Debian's linux-source-6.12.
    It wants distinct nonzero roots, as many as the degree; a list is the logs of their inverses, in no order.
    Compiled again with FIXED it is the kernel's build for one m and t (CONFIG_BCH_CONST_PARAMS), here 11 and 64. */
 #ifdef FIXED

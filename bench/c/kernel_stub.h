@@ -1,4 +1,4 @@
-/* Just enough of the kernel's headers for lib/bch.c in user space. bench/roots lets each header that lib/bch.c includes name this file. */
+/* Just enough of the kernel's headers for lib/bch.c in user space. bench/lib.sh lets each header that lib/bch.c includes name this file. */
 #ifndef KERNEL_STUB_H
 #define KERNEL_STUB_H
 #include <endian.h>

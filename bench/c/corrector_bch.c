@@ -1,4 +1,4 @@
-/* Linux lib/bch.c behind the face of bench/corrector. BCH_C names the file, which bench/fetch-bch takes from Debian's
+/* Linux lib/bch.c behind the face of bench/corrector. BCH_C names the file, which bench/lib.sh takes from Debian's
    linux-source-6.12. NAME is the corrector's name. Compiled with T it is the kernel's build for m = 11 and that
    strength alone (CONFIG_BCH_CONST_PARAMS), without it the usual build, which takes both at run time. */
 #ifdef T

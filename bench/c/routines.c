@@ -1,12 +1,12 @@
 /*
- * The proved polynomial routines (libpolynomial_face.a) beside the same algorithms in plain C, in field 11 (2048 elements, z^11 + z^2 + 1).
+ * The proved polynomial routines (libpoly_face.a) beside the same algorithms in plain C, in field 11 (2048 elements, z^11 + z^2 + 1).
  *
  * Both sides hold a monic divisor by the logs of its low coefficients, divide in place from the top, spread squares,
  * and run Euclid's loop on two buffers that change roles. Tables: logs of 2048 elements, with twice the order at 0,
  * and antilogs of three times the order, the last third 0, so that a product by 0 needs no branch. Each side has its own.
  * The loops are here, and neither side knows the lengths before it is called.
  */
-#include "../tests/poly_face.h"
+#include "../../tests/c/poly_face.h"
 #include <stdio.h>
 #include <stdlib.h>
 #include <string.h>

@@ -1,7 +1,7 @@
 /*
  * Block correctors beside each other, for bench/corrector: locator_correct, and Linux lib/bch.c in its usual build and
  * in its builds for one strength. All get the same codewords with the same bits wrong, drawn from a fixed seed.
- * The rules of tests/block_rules.h judge what they leave.
+ * The rules of tests/c/block_rules.h judge what they leave.
  *
  *   corrector check           a line for each set and corrector: strength, errors, corrector, right answers, words
  *   corrector time            the same with nanoseconds a word in place of the answers
@@ -15,8 +15,8 @@
  * where that bit is in use.
  */
 #include "corrector.h"
-#include "../examples/c/encode.h"
-#include "../tests/block_rules.h"
+#include "../../examples/c/encode.h"
+#include "../../tests/c/block_rules.h"
 #include <stdio.h>
 #include <stdlib.h>
 #include <time.h>

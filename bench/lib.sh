@@ -1,0 +1,70 @@
+# shellcheck shell=bash
+# What bench/peers and bench/corrector share, over tools/lib.sh: where peers stand, Linux lib/bch.c, the counting of instructions, and the conditions of a run.
+#
+#   peers_at, bch_options            the folder of the peers; what lib/bch.c is compiled with
+#   need_counter, count, no_rep      instructions: callgrind on x86-64, elsewhere a plugin of Debian's emulator (bench/c/count.c)
+#   about                            the conditions, as lines of names and words
+source "$(dirname "${BASH_SOURCE[0]}")/../tools/lib.sh"
+
+# peers_at DIR: sets $peers, a folder outside the repository.
+peers_at() {
+    peers=$(cd "$from" && realpath -m -- "$1")
+    case $peers/ in "$top"/*) refuse "the peers must stand outside the repository" ;; esac
+    mkdir -p "$peers"
+}
+
+# Linux lib/bch.c and its header, of Debian's linux-source-6.12, in $peers/linux, and in $peers/stubs headers that name bench/c/kernel_stub.h in place of the
+# kernel's. Nothing is fetched where they are there. Sets $bch_options.
+fetch_bch() {
+    local header
+    if [ ! -f "$peers/linux/version" ]; then
+        have xz-utils
+        unpacked "$peers/linux-source" linux-source-6.12
+        mkdir -p "$peers/linux"
+        tar -xJf "$peers/linux-source/usr/src/linux-source-6.12.tar.xz" --strip-components=1 -C "$peers/linux" \
+            linux-source-6.12/lib/bch.c linux-source-6.12/include/linux/bch.h
+        cat "$peers/linux-source/versions" >"$peers/linux/version"
+        rm -r "$peers/linux-source"
+    fi
+    mkdir -p "$peers/stubs/linux" "$peers/stubs/asm"
+    for header in linux/bitops linux/bitrev linux/errno linux/init linux/kernel linux/module linux/slab linux/types asm/byteorder; do
+        echo '#include "kernel_stub.h"' >"$peers/stubs/$header.h"
+    done
+    bch_options=(-w "-I$peers/stubs" "-I$peers/linux/include" "-DBCH_C=\"$peers/linux/lib/bch.c\"")
+}
+
+# Sets $counting to the words that count the instructions of a program for x86-64.
+need_counter() {
+    if [ -n "$native" ]; then
+        have valgrind
+        counting=(valgrind --tool=callgrind --callgrind-out-file=/dev/null)
+    else
+        have gcc libc6-dev
+        gcc -O2 -shared -fPIC -Wall -Wextra -o "$peers/count.so" bench/c/count.c
+        counting=("${emulator[@]}" -plugin "$peers/count.so")
+    fi
+}
+
+# count WORDS: prints the instructions of the program that these words run, where they can be had.
+count() { { "${counting[@]}" "$@" 2>&1 || true; } | sed -n 's/.*Collected : //p'; }
+
+# glibc's memset and memcpy may use rep stos and rep movs, which both counters take as an instruction a byte. From here on they are told to leave rep out.
+no_rep() {
+    local vector=GLIBC_TUNABLES=glibc.cpu.x86_rep_stosb_threshold=1000000000:glibc.cpu.x86_rep_movsb_threshold=1000000000
+    if [ -n "$native" ]; then counting=(env "$vector" "${counting[@]}"); else counting+=(-E "$vector"); fi
+}
+
+# Where, when, by what: a line for each, a name and words.
+about() {
+    if [ -n "$native" ]; then
+        echo "where	native x86-64: $(sed -n 's/^model name[^:]*: //p' /proc/cpuinfo | head -n 1)"
+        echo "counter	$(valgrind --version 2>/dev/null || echo none)"
+    else
+        echo "where	under the emulator ($("${emulator[0]}" --version | sed -n '1s/ (.*//p')) on $(uname -m): of the times only the ratios count"
+        echo "counter	a plugin of the emulator, bench/c/count.c"
+    fi
+    echo "date	$(date +%F)"
+    echo "compiler	$("$compiler" --version | head -n 1), -O3 -funroll-loops"
+    echo "commit	$(git rev-parse --short HEAD 2>/dev/null || echo none)"
+    echo "bch	$(cat "$peers/linux/version" 2>/dev/null || echo 'not taken')"
+}
