@@ -2,7 +2,7 @@
 # What bench/peers and bench/corrector share, over tools/lib.sh: where peers stand, Linux lib/bch.c, the counting of instructions, and the conditions of a run.
 #
 #   peers_at, bch_options            the folder of the peers; what lib/bch.c is compiled with
-#   need_counter, count, no_rep      instructions: callgrind on x86-64, elsewhere a plugin of Debian's emulator (bench/c/count.c)
+#   need_counter, count_each, no_rep instructions: callgrind on x86-64, elsewhere a plugin of Debian's emulator (bench/c/count.c)
 #   about                            the conditions, as lines of names and words
 source "$(dirname "${BASH_SOURCE[0]}")/../tools/lib.sh"
 
@@ -47,6 +47,21 @@ need_counter() {
 
 # count WORDS: prints the instructions of the program that these words run, where they can be had.
 count() { { "${counting[@]}" "$@" 2>&1 || true; } | sed -n 's/.*Collected : //p'; }
+
+# count_each PROGRAM N: of each line of standard input the first N words, which name a set of 64 cases, and the instructions that the program takes for a case.
+count_each() {
+    local lines line key at=0 none one
+    mapfile -t lines
+    for line in "${lines[@]}"; do
+        at=$((at + 1))
+        [ $((at % 10)) != 0 ] || say "counted $at of ${#lines[@]}"
+        read -r -a key <<<"$line"
+        key=("${key[@]:0:$2}")
+        none=$(count "$1" pass "${key[@]}" 0)
+        one=$(count "$1" pass "${key[@]}" 1)
+        [ -z "$none" ] || (IFS=$'\t' && echo "${key[*]}	$(((one - none) / 64))")
+    done
+}
 
 # glibc's memset and memcpy may use rep stos and rep movs, which both counters take as an instruction a byte. From here on they are told to leave rep out.
 no_rep() {

@@ -139,12 +139,12 @@ need_emulator() { [ -n "$native" ] || have qemu-user libc6-dev-amd64-cross; }
 # stale FILE: it is not there, or older than a source, a spec or a proof.
 stale() { [ ! -f "$1" ] || [ -n "$(find crates crates.txt -newer "$1" \( -name '*.rt' -o -name '*.antt' -o -name crates.txt \) -print -quit)" ]; }
 
-# prove WORDS: rt with these words. On standard error its line for each crate that was not proved yet; where it fails the end of all that it said.
+# prove WORDS: rt with these words. On standard error its line for each crate that was not proved yet; where it fails its first errors.
 prove() {
     local log code=0
     log=$(mktemp)
     rt "$@" 2>&1 | tee "$log" | { grep --line-buffered '^rt: ' || true; } | { grep --line-buffered -v 'unchanged since it was last proved' || true; } >&2 || code=$?
-    [ $code = 0 ] || tail -n 30 "$log" >&2
+    [ $code = 0 ] || grep -m 10 ': error' "$log" >&2 || tail -n 30 "$log" >&2
     rm -f "$log"
     return $code
 }

@@ -69,7 +69,7 @@ def copied(tree):
 
 
 def proved(*words):
-    """rt with these words, its line on each crate that was not proved yet on standard error; where it fails the end of all that it said, and the command ends."""
+    """rt with these words, its line on each crate that was not proved yet on standard error; where it fails its first errors, and the command ends."""
     lines = []
     with subprocess.Popen(["rt", *words], cwd=TOP, stdout=subprocess.PIPE, stderr=subprocess.STDOUT, text=True) as run:
         for line in run.stdout:
@@ -77,7 +77,7 @@ def proved(*words):
             if line.startswith("rt: ") and "unchanged since it was last proved" not in line:
                 sys.stderr.write(line)
     if run.returncode:
-        sys.exit("".join(lines[-30:]))
+        sys.exit("".join([line for line in lines if ": error" in line][:10] or lines[-30:]))
 
 
 def asked(tree, crate, changed):

@@ -4,7 +4,7 @@ Markdown, and with DOCS puts it in place of that section of DOCS/BENCHMARK.md. F
 import sys
 
 sys.dont_write_bytecode = True
-from page import CORRECTOR, NO_REP, figure, put, rows, short, table
+from page import CORRECTOR, NO_REP, figure, put, rows, short, table, words
 
 NAMES = {"ours": "ours", "const": "lib/bch.c, constant", "usual": "lib/bch.c, usual"}
 
@@ -133,10 +133,11 @@ turns away, as it should, what would need a bit that is not in use. Its two buil
 
 def main():
     """Prints the section, and writes it where a page is named."""
-    run = read(sys.argv[1])
+    directory, docs = words(__doc__)
+    run = read(directory)
     print(section(run), end="")
-    if len(sys.argv) > 2:
-        put(f"{sys.argv[2]}/BENCHMARK.md", CORRECTOR, section(run))
+    if docs:
+        put(f"{docs}/BENCHMARK.md", CORRECTOR, section(run))
     if any(right != all for (_, _, who), (right, all) in run["checks"].items() if who == "ours"):
         sys.exit("corrector: an answer of our own is wrong")
     if any(untrue for (_, _, who), (_, _, untrue) in run["beyond"].items() if who == "ours"):

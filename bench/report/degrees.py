@@ -5,7 +5,7 @@ import sys
 
 sys.dont_write_bytecode = True
 from drawing import LOOKS, foot, legend, line, mark, power, save, scale, text
-from page import DEGREES, NO_REP, figure, put, ratio, read, short, table
+from page import DEGREES, NO_REP, figure, put, ratio, read, short, table, words
 
 FINDERS = ("solve", "search", "bch", "bchfixed")
 OURS, PEERS = FINDERS[:2], FINDERS[2:]
@@ -127,11 +127,12 @@ def draw(run, path):
 
 
 def main():
-    run = read(sys.argv[1])
+    directory, docs = words(__doc__)
+    run = read(directory)
     print(section(run), end="")
-    if len(sys.argv) > 2:
-        put(f"{sys.argv[2]}/BENCHMARK.md", DEGREES, section(run))
-        draw(run, f"{sys.argv[2]}/degrees.svg")
+    if docs:
+        put(f"{docs}/BENCHMARK.md", DEGREES, section(run))
+        draw(run, f"{docs}/degrees.svg")
     if any(right != all for _, f, right, all in run["checks"] if f in OURS):
         sys.exit("degrees: a list of our own is wrong")
 

@@ -4,6 +4,7 @@ that have runs of their own stay, and draws DOCS/benchmark.svg. Fails where a li
 import sys
 
 sys.dont_write_bytecode = True
+import page
 from page import NO_REP, figure, put, ratio, read, short, table
 from peers_plot import draw
 
@@ -85,7 +86,7 @@ def sentences(run):
     return "\n".join(said)
 
 
-def page(run):
+def whole_page(run):
     about = run["about"]
     counted = "Instructions were not counted in this run.\n"
     if run["count"]:
@@ -126,10 +127,11 @@ Microseconds a polynomial (finders by turns; for each 8 polynomials the least of
 
 
 def main():
-    run = read(sys.argv[1])
-    if len(sys.argv) > 2:
-        put(f"{sys.argv[2]}/BENCHMARK.md", "", page(run))
-        draw(run, f"{sys.argv[2]}/benchmark.svg")
+    directory, docs = page.words(__doc__)
+    run = read(directory)
+    if docs:
+        put(f"{docs}/BENCHMARK.md", "", whole_page(run))
+        draw(run, f"{docs}/benchmark.svg")
     about = run["about"]
     print(f"{about['where']}\n{about['date']}, commit {about['commit']}, C: {about['compiler']}, FLINT: {about['flint'] or 'not to be had'}, lib/bch.c: {about['bch']}\n")
     print(checks(run) + "\n")
