@@ -15,7 +15,6 @@ use native.Mathlib.Omega.{arith}
 use lib.Bits.{bitXor, xor-zero-r}
 use lib.ListN.{length, getD, set, length-set, replicate}
 use lib.Seq.{getD-set-same, getD-set-other}
-
 use Rattle.algebra.specs.Field.{power}
 use Rattle.field.specs.Field.{fieldAt, mul}
 use Rattle.field.proofs.Ring.{ring, RingLaws, power-lt}
