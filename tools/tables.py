@@ -1,7 +1,8 @@
 #!/usr/bin/env python3
-"""tables.py: prints the constant tables of a field, as crates/field_tables/src/halves.rt and logtables.rt hold them.
+"""tables.py: prints the constant tables of a field, as crates/field_tables/src/halves.rt, logtables.rt and antilogs.rt hold
+them (the powers for field 11 alone).
 
-A new field costs a row in crates/refusals, these tables, and a few lines that name each (constants.rt); the prover tests every entry."""
+A new field costs a row in crates/field, these tables, and a few lines that name each (constants.rt); the prover tests every entry."""
 import sys
 
 sys.dont_write_bytecode = True
@@ -43,8 +44,14 @@ log = [2 * order] + [0] * order
 for j in range(order):
     log[powers[j]] = j
 
-for name, entries in (("HALF", half), ("LOG", log), ("POWER", powers)):
-    print(f"pub const {name}{m}: [u16; {len(entries)}] = [")
+tables = (
+    ("HALF", half, f"SIZE{m}"),
+    ("LOG", log, f"SIZE{m}"),
+    ("POWER", powers, f"SIZE{m} - 1"),
+    ("ANTILOG", powers + powers + [0] * order, f"3 * (SIZE{m} - 1)"),
+)
+for name, entries, length in tables:
+    print(f"pub const {name}{m}: [u16; {length}] = [")
     for x in entries:
         print(f"    {x},")
     print("];\n")

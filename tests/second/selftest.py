@@ -14,7 +14,6 @@ import sys
 sys.dont_write_bytecode = True
 
 import blocks
-import calls
 import corrector
 import elements
 import field
@@ -536,9 +535,6 @@ def check_formats(rng):
         back = list(tables.Tape(data).answers())
         direct = [(0, R.begin(4, [6, 7, 0, 1], 1, table)), (1, R.step(table)), (2, R.finish(table, lent))]
         check("table cases survive packing", back == direct)
-        data = calls.pack(0, 4, 1, [6, 7, 0, 1], lent) + calls.pack(1, 4, 0, [6, 7, 0, 1], lent)
-        direct = [(0, R.whole(4, [6, 7, 0, 1], 1, lent)), (1, R.search(4, [6, 7, 0, 1], lent))]
-        check("call cases survive packing", list(calls.answers(data)) == direct)
     every = list(blocks.make_cases(rng.randrange(1000), 1))
     check("block cases survive packing", list(blocks.unpack(b"".join(blocks.pack(*case) for case in every))) == every)
 

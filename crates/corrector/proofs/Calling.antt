@@ -1,38 +1,21 @@
--- What the called functions answer here: neither the position call nor the plain search refuses.
---   not-zero                          the number of a refusal is not 0
---   place-value, place-never          what the position call answers
---   search-never, search-count, search-places   what the plain search answers
+-- What the called functions answer here: the roots of a locator polynomial, their places, and what is returned.
+--   place-of                          the place of a root, by its position
+--   count-places                      as many places as roots
 --   placing, holds                    the roots whose places are asked for; the struct that holds the places
 --   spotted-many, spotted-few, spotted-no, spotted-yes   the places of a locator polynomial, told and read
 --   Keyed, keyed                      the register that was found
 --   located-many, located-few, located-other, fits   the places to flip
 -- Assumes nothing.
-use mathlib.Core.Path.{_≡_, refl, sym, ap, ap₂, _∙_, subst}
-use mathlib.Core.Bool.{Bool, true, false, cond, not, _&&_}
+use mathlib.Core.Path.{_≡_, refl, sym, ap, _∙_, subst}
+use mathlib.Core.Bool.{true, false}
 use mathlib.Core.List.{List, [], _∷_, map}
-use Prim.Native.Nat.{ℕ, zero, suc, _^_, _≤_, _<_}
+use Prim.Native.Nat.{ℕ, zero, suc, _-_, _%_, _≤_, _<_}
 use native.Mathlib.Omega.{arith}
-use borrow.Author.Tests.{le-ltb, lt-ltb, lt-leb, ne-eqb}
-use lib.Dec.{eqb, ltb}
 use lib.ListN.{length, getD, take, length-map, length-take}
 use lib.Seq.{getD-take, ext-getD}
-use Rattle.refusals.specs.Order.{Passed}
-use Rattle.refusals.specs.Order.Passed.{none, more}
-use Rattle.refusals.specs.Numbers.{numberOf}
-use Rattle.refusals.specs.Rows.{known}
-use Rattle.refusals.specs.declared.Refusal.{Refusal}
-use Rattle.refusals.proofs.Order.{passes, accepted, written}
-use Rattle.refusals.proofs.Numbers.{by-number, refused-back, accepted-back}
-use Rattle.refusals.proofs.Rows.{row11}
-use Rattle.field.specs.Field.{fieldAt}
+use Rattle.field.specs.Field.{fieldAt, position, rootsAt}
+use Rattle.poly_small.specs.Roots.{Front}
 use Rattle.algebra.specs.Trial.{All}
-use Rattle.slices.specs.Bounded.{allBelow}
-use Rattle.slices.proofs.Lists.{copied-front}
-use Rattle.table_rules.specs.Splitting.{rootsAt}
-use Rattle.table_rules.specs.RootMemory.{rootMemory}
-use Rattle.find_search.specs.Calls.{searchTests, searchOutcome, paperSearched}
-use Rattle.find_search.specs.declared.Searched.{Searched}
-use Rattle.find_search.specs.declared.Searched.the-variants.{Seen, NotSearched}
 use Rattle.corrector_locator.specs.Under.{Under, PowerSums, registerOf}
 use Rattle.corrector_locator.specs.declared.State.{State}
 use Rattle.corrector_locator.proofs.Fine.{Fine, register-fine}
@@ -41,31 +24,14 @@ use Rattle.corrector_code.specs.Key.{register}
 use Rattle.corrector.specs.Places.{placesOf, placesIn, named, Placing, Placed, Holds, Few8, Either, Spotted, Located, Acceptable, Agrees}
 use Rattle.corrector.specs.declared.Places.{Places}
 use Rattle.corrector.proofs.Marking.{roots-nonzero, places-below}
-use Rattle.field_elements.specs.Calls.{paper, positionTests, positionUnder, positionOutcome}
-use Rattle.field_elements.specs.declared.Answer.{Answer}
-use Rattle.field_elements.specs.declared.Answer.the-variants.{Value, Refused}
+use Rattle.field_elements.specs.Calls.{positionUnder}
 
--- the number of a refusal is not 0
-pub not-zero : (k : Refusal) → numberOf k ≡ 0 → ⊥
-not-zero k e =
-    let z : _≡_ {A = ℕ} 0 1 = sym (accepted-back (λ _. 1) 0) ∙ ap (by-number (λ _. 1) 0) (sym e) ∙ refused-back (λ _. 1) 0 k in
-    omega arith
+-- the place of a root, by its position
+pub place-of : (r : ℕ) {i : ℕ} → i ≡ position (fieldAt 11) r → (2047 - i) % 2047 ≡ positionUnder 1 (fieldAt 11) r
+unfolding positionUnder
+place-of r e = ap (λ (i : ℕ). (2047 - i) % 2047) e
 
-place-passes : (r : ℕ) → (0 < r) × (r < 2048) → Passed (positionTests 11 r 1)
-place-passes r h =
-    passes (ap not (row11 .degree)) (passes (le-ltb 1 1 (omega arith)) (passes (lt-leb 2048 r (h .1)) (passes (ne-eqb r 0 (let p = h .0 in omega arith)) none)))
-
-module _ (r : ℕ) (h : (0 < r) × (r < 2048)) (a : Answer) (e : paper a ≡ positionOutcome 11 r 1) where
-  accepts : paper a ≡ (0, positionUnder 1 (fieldAt 11) r ∷ [])
-  accepts = e ∙ accepted _ (place-passes r h)
-
-  pub place-value : {j : ℕ} → a ≡ Value j → j ≡ positionUnder 1 (fieldAt 11) r
-  place-value f = ap (λ o. getD (o .1) 0 0) (sym (ap paper f) ∙ accepts)
-
-  pub place-never : {k : Refusal} → a ≡ Refused k → ⊥
-  place-never {k} f = not-zero k (ap (λ o. o .0) (sym (ap paper f) ∙ accepts))
-
--- ---- the plain search on a locator polynomial
+-- ---- the roots of a locator polynomial and their places
 
 all-getD : (l : List ℕ) (i : ℕ) → i < length l → All (λ x. (0 < x) × (x < 2048)) l → (0 < getD l i 0) × (getD l i 0 < 2048)
 all-getD [] i h a = absurd (omega arith)
@@ -82,79 +48,50 @@ map-at f [] i h = absurd (omega arith)
 map-at f (x ∷ l) zero h = refl
 map-at f (x ∷ l) (suc i) h = map-at f l i (omega arith)
 
-below-all : (q : ℕ) (l : List ℕ) → ((k : ℕ) → getD l k 0 < q) → allBelow q l ≡ true
-unfolding allBelow
-below-all q [] u = refl
-below-all q (x ∷ l) u = ap₂ (λ (a b : Bool). a && b) (lt-ltb x q (u 0)) (below-all q l (λ k. u (suc k)))
+module _ (p : List ℕ) (first : getD p 0 0 ≡ 1) {s : ℕ} {list : List ℕ} (f : Front (rootsAt 11 p) s list) where
+  pub count-places : s ≡ length (placesOf p)
+  unfolding placesOf
+  count-places = f .count ∙ sym (length-map (rootsAt 11 p) (positionUnder 1 (fieldAt 11)))
 
-not-zeros : (l : List ℕ) → getD l 0 0 ≡ 1 → allBelow 1 l ≡ false
-unfolding allBelow
-not-zeros [] e = absurd (omega arith)
-not-zeros (x ∷ l) e = ap (λ (a : Bool). a && allBelow 1 l) (le-ltb x 1 (omega arith))
+  root-at : (i : ℕ) → i < s → getD list i 0 ≡ getD (rootsAt 11 p) i 0
+  root-at i h = sym (getD-take s list i 0 h) ∙ ap (λ (l : List ℕ). getD l i 0) (f .front)
 
-module _ (p list : List ℕ) (u : Under p) (first : getD p 0 0 ≡ 1) (long : length p ≡ 9) (room : length list ≡ 32) where
-  search-passes : Passed (searchTests 11 p list)
-  search-passes =
-      passes (ap not (row11 .degree)) (passes (ne-eqb (length p) 0 (omega arith)) (passes (le-ltb 33 (length p) (omega arith)) (passes (ap not (below-all 2048 p u))
-      (passes (not-zeros p first) (passes (le-ltb (length list) 32 (omega arith)) none)))))
+  pub placing : s ≤ 8 → Placing list s
+  placing h = record {
+    few = h;
+    room = (let n = f .count in omega (arith, length-take s list, ap length (f .front)));
+    nonzero = λ i q. subst (λ (x : ℕ). (0 < x) × (x < 2048)) (sym (root-at i q)) (all-getD (rootsAt 11 p) i (let n = f .count in omega arith) (roots-nonzero p first));
+  }
 
-  module _ (r : Searched) (e : paperSearched r ≡ searchOutcome 11 p list) where
-    search-accepts : paperSearched r ≡ (0, length (rootsAt 11 p) ∷ [])
-    search-accepts = e ∙ accepted _ search-passes
+  place-map : (i : ℕ) → i < length (rootsAt 11 p) → positionUnder 1 (fieldAt 11) (getD (rootsAt 11 p) i 0) ≡ getD (placesOf p) i 0
+  unfolding placesOf
+  place-map i h = map-at (positionUnder 1 (fieldAt 11)) (rootsAt 11 p) i h
 
-    pub search-never : {k : Refusal} → r ≡ NotSearched k → ⊥
-    search-never {k} f = not-zero k (ap (λ o. o .0) (sym (ap paperSearched f) ∙ search-accepts))
+  -- the struct holds the places
+  pub holds : (q : Places) → s ≤ 8 → Placed list s q → Holds (placesOf p) q
+  holds q h d = record {
+    count = d .count ∙ count-places;
+    places = places-are;
+    fits = record {
+      few = (let c = d .count in omega arith);
+      long = d .long;
+      below = λ i l. subst (λ (x : ℕ). x < 2047) (sym (place-at i (let c = d .count in omega arith))) (all-getD₂ (placesOf p) i (let n = count-places in let c = d .count in omega arith) (places-below p first));
+    };
+  }
+    where
+      place-at : (i : ℕ) → i < s → getD (q .at) i 0 ≡ getD (placesOf p) i 0
+      place-at i l = d .places i l ∙ ap (positionUnder 1 (fieldAt 11)) (root-at i l) ∙ place-map i (let n = f .count in omega arith)
 
-    pub search-count : {s : ℕ} → r ≡ Seen s → s ≡ length (rootsAt 11 p)
-    search-count f = ap (λ o. getD (o .1) 0 0) (sym (ap paperSearched f) ∙ search-accepts)
-
-    pub search-places : {s : ℕ} → r ≡ Seen s → s ≡ length (placesOf p)
-    unfolding placesOf
-    search-places f = search-count f ∙ sym (length-map (rootsAt 11 p) (positionUnder 1 (fieldAt 11)))
-
-    module _ {s : ℕ} (f : r ≡ Seen s) (list′ : List ℕ) (w : list′ ≡ rootMemory (searchTests 11 p list) 11 p list) where
-      roots-are : take s list′ ≡ rootsAt 11 p
-      roots-are = ap (take s) (w ∙ written _ _ search-passes) ∙ copied-front (rootsAt 11 p) list (sym (search-count f))
-
-      root-at : (i : ℕ) → i < s → getD list′ i 0 ≡ getD (rootsAt 11 p) i 0
-      root-at i h = sym (getD-take s list′ i 0 h) ∙ ap (λ (l : List ℕ). getD l i 0) roots-are
-
-      pub placing : s ≤ 8 → s ≤ length list′ → Placing list′ s
-      placing h l = record {
-        few = h;
-        room = l;
-        nonzero = λ i q. subst (λ (x : ℕ). (0 < x) × (x < 2048)) (sym (root-at i q)) (all-getD (rootsAt 11 p) i (let n = search-count f in omega arith) (roots-nonzero p first));
-      }
-
-      place-map : (i : ℕ) → i < length (rootsAt 11 p) → positionUnder 1 (fieldAt 11) (getD (rootsAt 11 p) i 0) ≡ getD (placesOf p) i 0
-      unfolding placesOf
-      place-map i h = map-at (positionUnder 1 (fieldAt 11)) (rootsAt 11 p) i h
-
-      -- the struct holds the places
-      pub holds : (q : Places) → s ≤ 8 → Placed list′ s q → Holds (placesOf p) q
-      holds q h d = record {
-        count = d .count ∙ search-places f;
-        places = places-are;
-        fits = record {
-          few = (let c = d .count in omega arith);
-          long = d .long;
-          below = λ i l. subst (λ (x : ℕ). x < 2047) (sym (place-at i (let c = d .count in omega arith))) (all-getD₂ (placesOf p) i (let n = search-places f in let c = d .count in omega arith) (places-below p first));
-        };
-      }
+      places-are : take (q .n) (q .at) ≡ placesOf p
+      places-are =
+          ext-getD 0 (take (q .n) (q .at)) (placesOf p) same-long
+          (λ i l. getD-take (q .n) (q .at) i 0 (short i l) ∙ place-at i (let c = d .count in let g = short i l in omega arith))
         where
-          place-at : (i : ℕ) → i < s → getD (q .at) i 0 ≡ getD (placesOf p) i 0
-          place-at i l = d .places i l ∙ ap (positionUnder 1 (fieldAt 11)) (root-at i l) ∙ place-map i (let n = search-count f in omega arith)
+          same-long : length (take (q .n) (q .at)) ≡ length (placesOf p)
+          same-long = length-take (q .n) (q .at) ∙ (let c = d .count in let n = count-places in let g = d .long in omega arith)
 
-          places-are : take (q .n) (q .at) ≡ placesOf p
-          places-are =
-              ext-getD 0 (take (q .n) (q .at)) (placesOf p) same-long
-              (λ i l. getD-take (q .n) (q .at) i 0 (short i l) ∙ place-at i (let c = d .count in let g = short i l in omega arith))
-            where
-              same-long : length (take (q .n) (q .at)) ≡ length (placesOf p)
-              same-long = length-take (q .n) (q .at) ∙ (let c = d .count in let n = search-places f in let g = d .long in omega arith)
-
-              short : (i : ℕ) → i < length (take (q .n) (q .at)) → i < q .n
-              short i l = let c = d .count in let n = search-places f in let m = same-long in omega arith
+          short : (i : ℕ) → i < length (take (q .n) (q .at)) → i < q .n
+          short i l = let c = d .count in let n = count-places in let m = same-long in omega arith
 
 -- ---- what is returned
 

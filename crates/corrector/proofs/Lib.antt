@@ -5,6 +5,7 @@ pub mod Blocks
 pub mod Marking
 pub mod Deciding
 pub mod Walking
+pub mod Finding
 pub mod Calling
 pub mod Outcomes
 pub mod Coincide

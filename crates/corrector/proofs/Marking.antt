@@ -16,15 +16,14 @@ use lib.Dec.{T, eqb, eqb→eq}
 use lib.ListN.{length, getD, length-map}
 use Rattle.algebra.specs.Field.{power}
 use Rattle.algebra.specs.Trial.{All, Distinct, upFrom}
-use Rattle.algebra.specs.Polynomial.{eval, isRoot, rootsOf}
+use Rattle.algebra.specs.Polynomial.{eval, isRoot}
 use Rattle.algebra.proofs.RootList.{rootsOf-distinct, rootsOf-member}
 use Rattle.algebra.proofs.Trial.{all-at}
-use Rattle.field.specs.Field.{fieldAt, mul, inverse, position, numbers}
+use Rattle.field.specs.Field.{fieldAt, mul, inverse, position, rootsAt}
 use Rattle.field.proofs.Ring.{ring, RingLaws, power-lt, power-add}
 use Rattle.field.proofs.Generator.{unit, inverse-lt, inverse-only, mul-inverse, position-only, position-is, power-order}
 use Rattle.field_elements.specs.Calls.{positionUnder}
 use Rattle.field_elements.proofs.Mirror.{goppa, of-inverse}
-use Rattle.table_rules.specs.Splitting.{rootsAt}
 use Rattle.corrector_code.specs.Eleven.{F11}
 use Rattle.corrector_code.proofs.Eleven.{gen11}
 use Rattle.corrector.specs.Places.{placesOf}

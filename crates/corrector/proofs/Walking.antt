@@ -14,13 +14,14 @@ use Prim.Native.Nat.{ℕ, zero, suc, _+_, _-_, _*_, _/_, _%_, _^_, _≤_, _<_}
 use native.Mathlib.Nat.{eq-or-lt-of-le, mul-le-mul-right}
 use native.Mathlib.Numerals.{add-one}
 use native.Mathlib.Omega.{arith}
+use borrow.Author.Tests.{lt-ltb}
 use lib.Bits.{bitXor, xor-zero-r, xor-comm}
 use lib.ListN.{length, getD, set, take, length-set, length-take, replicate}
 use lib.Seq.{take-suc, getD-set-same, getD-set-other, getD-take, ext-getD, take-all}
 use Rattle.algebra.specs.Field.{power}
 use Rattle.algebra.specs.Trial.{All}
 use Rattle.field.specs.Field.{fieldAt, mul}
-use Rattle.field.specs.Tables.{Powers}
+use Rattle.field.specs.Tables.{antilogOf, Antilogs}
 use Rattle.field.proofs.Xor.{xor-assoc}
 use Rattle.field.proofs.Ring.{ring, RingLaws, power-add, power-mul, power-lt}
 use Rattle.field.proofs.Generator.{unit, power-order}
@@ -41,12 +42,16 @@ power-cycle (suc q) r =
     ∙ ap₂ (mul (fieldAt 11)) (power-order (fieldAt 11) gen11) (power-cycle q r)
     ∙ mul-one-l (power F11 2 r) (power-lt (fieldAt 11) (gen11 .monic) (unit (fieldAt 11) gen11) 2 r)
 
+antilog-power : (j : ℕ) → j < 2047 → antilogOf (fieldAt 11) j ≡ power F11 2 j
+unfolding antilogOf
+antilog-power j h = rw (lt-ltb j 4094 (omega arith))
+
 -- the table at (j k) mod 2047
-pub power-at : {powers : List ℕ} → Powers (fieldAt 11) powers → (j k : ℕ) → getD powers (j * k % 2047) 0 ≡ power F11 (power F11 2 j) k
-power-at {powers} P j k =
+pub power-at : {antilogs : List ℕ} → Antilogs (fieldAt 11) antilogs → (j k : ℕ) → getD antilogs (j * k % 2047) 0 ≡ power F11 (power F11 2 j) k
+power-at A j k =
     let m : ℕ = j * k in
-    P .entry (m % 2047) (omega arith)
-    ∙ sym (power-cycle (m / 2047) (m % 2047)) ∙ ap (power F11 2) (let e : 2047 * (m / 2047) + m % 2047 ≡ m = omega arith in e)
+    A .entry (m % 2047) (omega arith)
+    ∙ antilog-power (m % 2047) (omega arith) ∙ sym (power-cycle (m / 2047) (m % 2047)) ∙ ap (power F11 2) (let e : 2047 * (m / 2047) + m % 2047 ≡ m = omega arith in e)
     ∙ power-mul (fieldAt 11) (gen11 .monic) (unit (fieldAt 11) gen11) 2 j k
 
 pub product-small : (a k : ℕ) → a < 2047 → k < 100 → a * k < 4294967296

@@ -7,6 +7,7 @@
 --   named s t             the places that the register names after t turns on the power sums s
 --   placesIn p            the places that a struct holds
 --   flipAll js bytes      the bytes, with bit j flipped for each place j
+--   Findable p list       a locator polynomial, and room for its roots
 --   Placing, Placed       roots whose places are asked for, and their places
 --   Few8 p, Holds js p    a struct holds at most eight places of a word; it holds these
 --   Either, Tells         one of two by a test; what a test's answer says
@@ -19,9 +20,10 @@ use Prim.Native.Nat.{ℕ, suc, _*_, _/_, _%_, _^_, _≤_, _<_}
 use lib.Bits.{bitXor}
 use lib.ListN.{length, getD, set, take}
 use Rattle.algebra.specs.Field.{power}
-use Rattle.field.specs.Field.{fieldAt}
+use Rattle.field.specs.Field.{fieldAt, rootsAt}
 use Rattle.field_elements.specs.Calls.{positionUnder}
-use Rattle.table_rules.specs.Splitting.{rootsAt}
+use Rattle.table_rules.specs.Limit.{limit}
+use Rattle.table_rules.specs.Polynomials.{PolynomialIn}
 use Rattle.corrector_code.specs.Eleven.{F11}
 use Rattle.corrector_code.specs.Key.{register}
 use Rattle.corrector_locator.specs.Under.{PowerSums}
@@ -57,6 +59,11 @@ placesIn p = take (p .n) (p .at)
 unfoldable pub flipAll : List ℕ → List ℕ → List ℕ
 flipAll [] bytes = bytes
 flipAll (j ∷ js) bytes = flipAll js (set bytes (j / 8) (bitXor (getD bytes (j / 8) 0) (2 ^ (j % 8))))
+
+-- a locator polynomial, and room for its roots
+pub record Findable (p list : List ℕ) : Type 0 where
+  pub polynomial : PolynomialIn 11 p
+  pub room : limit ≤ length list
 
 -- roots whose places are asked for
 pub record Placing (roots : List ℕ) (n : ℕ) : Type 0 where

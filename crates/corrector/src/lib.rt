@@ -1,25 +1,35 @@
 // The block corrector (docs/RULES.md section 7): words of 2047 bits in field 11, in 256 bytes. A word is divided by
 // the generator of strength 8; where the remainder is 0 it is a codeword of every strength, and nothing more is done.
-// Else the remainder gives the odd syndromes, Berlekamp's register the locator polynomial, the plain search its roots,
-// and their positions under the recorders' convention the wrong bits. They are flipped where there are at most t of
-// them and their odd power sums are the syndromes: that decides exactly whether a codeword lies within t bits.
+// Else the remainder gives the odd syndromes, Berlekamp's register the locator polynomial, the root finder its roots by
+// the engine that is cheapest at its degree, and their positions under the recorders' convention the wrong bits. They
+// are flipped where there are at most t of them and their odd power sums are the syndromes: that decides exactly
+// whether a codeword lies within t bits.
 ghost use mathlib.Core.Path.{_≡_};
 ghost use mathlib.Core.Bool.{true, false};
 ghost use Prim.Native.Nat.{ℕ, _<_, _≤_, _^_};
 ghost use lib.ListN.{getD, length};
-ghost use Rattle.field.specs.Field.{fieldAt};
-ghost use Rattle.field.specs.Tables.{Powers};
+ghost use Rattle.field.specs.Field.{fieldAt, rootsAt};
+ghost use Rattle.field.specs.Tables.{Logs, Antilogs};
 ghost use Rattle.field_elements.specs.Calls.{positionUnder};
+ghost use Rattle.poly.specs.Lent.{Lent};
+ghost use Rattle.poly_small.specs.Roots.{Front};
 ghost use Rattle.corrector_locator.specs.Under.{Under};
-ghost use Rattle.corrector.specs.Places.{placesOf, sumAt, placesIn, flipAll, Placing, Placed, Few8};
+ghost use Rattle.corrector.specs.Places.{placesOf, sumAt, placesIn, flipAll, Findable, Placing, Placed, Few8};
 ghost use Rattle.corrector.specs.Places.{Spotted, Located, Tells, Agrees};
 ghost use Rattle.corrector.specs.Correcting.{IsBlock, IsStrength, Corrects, paperCorrected};
-use field_elements::Answer;
+use field::arithmetic::position_of;
+use field_tables::constants::antilogs11;
+use field_tables::constants::halves11;
 use field_tables::constants::logs11;
-use field_tables::constants::powers11;
-use find_search::Searched;
+use field_tables::field_types::F11;
+use find_solve::solve_lent;
+use poly::monic::make_monic;
+use poly_small::low::low_roots;
 use refusals::Refusal;
 use table_rules::LIMIT;
+
+// Up to this degree roots have closed forms, and it is the trace engine's cutoff.
+const CLOSED: u16 = 2;
 
 // What the corrector answers: the number of flips, or what is turned away.
 pub enum Corrected {
@@ -46,26 +56,44 @@ fn nowhere() -> Places
     }
 }
 
+// Writes the roots of a locator polynomial to the front of the list, by the engine that is cheapest at its degree:
+// closed forms, and above them the trace engine (the plain search costs more at every degree up to 8). Returns how many
+// there are.
+fn roots_of(logs: &[u16], antilogs: &[u16], locator: [u16; 9], roots: &mut [u16]) -> u16
+    requires { ⌜ Lent 11 (now logs) (now antilogs) × Findable locator (now roots) ⌝ }
+    ensures { λ k. ⌜ Front (rootsAt 11 locator) k (now (roots .exit)) ⌝ }
+{
+    let mut monic = locator;
+    let d = make_monic(11, logs, antilogs, &mut monic) - 1;
+    if d == 1 {
+        roots[0] = monic[0];
+        return 1;
+    }
+    let halves = halves11();
+    if d <= CLOSED as usize {
+        return low_roots(11, &halves, &monic[..d], roots) as u16;
+    }
+    let found = solve_lent(11, CLOSED, &locator, logs, antilogs, &halves, roots);
+    found.s
+}
+
 // The place of a root: its position under the recorders' convention.
-fn place(r: u16) -> u16
-    requires { ⌜ (0 < r) × (r < 2048) ⌝ }
+fn place(logs: &[u16], r: u16) -> u16
+    requires { ⌜ Logs (fieldAt 11) (now logs) × (0 < r) × (r < 2048) ⌝ }
     ensures { λ j. ⌜ j ≡ positionUnder 1 (fieldAt 11) r ⌝ }
 {
-    match field_elements::position(11, r, 1) {
-        Answer::Value(j) => j,
-        Answer::Refused(_) => 0,
-    }
+    (2047 - position_of(F11::DEGREE, F11::POLY, logs, r)) % 2047
 }
 
 // The places of the first n roots.
-fn places_of(roots: &[u16], n: u16) -> Places
-    requires { ⌜ Placing (now roots) n ⌝ }
+fn places_of(logs: &[u16], roots: &[u16], n: u16) -> Places
+    requires { ⌜ Logs (fieldAt 11) (now logs) × Placing (now roots) n ⌝ }
     ensures { λ p. ⌜ Placed (now (roots .entry)) n p ⌝ }
 {
     let mut at: [u16; 8] = [0; 8];
     let mut i: usize = 0;
     while i < n as usize {
-        at[i] = place(roots[i]);
+        at[i] = place(logs, roots[i]);
         i += 1;
     }
     Places {
@@ -76,25 +104,21 @@ fn places_of(roots: &[u16], n: u16) -> Places
 }
 
 // The places that a locator polynomial names, unless there are more than t.
-fn spots_of(locator: [u16; 9], t: u16) -> Places
-    requires { ⌜ Under locator × (getD locator 0 0 ≡ 1) × (t ≤ 8) ⌝ }
+fn spots_of(logs: &[u16], antilogs: &[u16], locator: [u16; 9], t: u16) -> Places
+    requires { ⌜ Lent 11 (now logs) (now antilogs) × Under locator × (getD locator 0 0 ≡ 1) × (t ≤ 8) ⌝ }
     ensures { λ r. ⌜ Spotted (placesOf locator) t r ⌝ }
 {
     let mut roots = [0u16; LIMIT];
-    match find_search::search(11, &locator, &mut roots) {
-        Searched::NotSearched(_) => nowhere(),
-        Searched::Seen(s) => {
-            if t < s {
-                return nowhere();
-            }
-            places_of(&roots, s)
-        }
+    let s = roots_of(logs, antilogs, locator, &mut roots);
+    if t < s {
+        return nowhere();
     }
+    places_of(logs, &roots, s)
 }
 
 // The sum of a^(k j) over the places j.
-fn power_sum(powers: &[u16], p: Places, k: u32) -> u16
-    requires { ⌜ Powers (fieldAt 11) (now powers) × Few8 p × (k < 100) ⌝ }
+fn power_sum(antilogs: &[u16], p: Places, k: u32) -> u16
+    requires { ⌜ Antilogs (fieldAt 11) (now antilogs) × Few8 p × (k < 100) ⌝ }
     ensures { λ r. ⌜ r ≡ sumAt (placesIn p) k ⌝ }
 {
     let at = p.at;
@@ -103,20 +127,20 @@ fn power_sum(powers: &[u16], p: Places, k: u32) -> u16
     let mut i: usize = 0;
     while i < n {
         let e = (at[i] as u32) * k % 2047;
-        sum = sum ^ powers[e as usize];
+        sum = sum ^ antilogs[e as usize];
         i += 1;
     }
     sum
 }
 
 // Are the first t odd power sums of the places these?
-fn agree(powers: &[u16], p: Places, odd: [u16; 8], t: u32) -> bool
-    requires { ⌜ Powers (fieldAt 11) (now powers) × Few8 p × (t ≤ 8) ⌝ }
+fn agree(antilogs: &[u16], p: Places, odd: [u16; 8], t: u32) -> bool
+    requires { ⌜ Antilogs (fieldAt 11) (now antilogs) × Few8 p × (t ≤ 8) ⌝ }
     ensures { λ r. ⌜ Tells (Agrees odd t (placesIn p)) r ⌝ }
 {
     let mut i: u32 = 0;
     while i < t {
-        if power_sum(powers, p, 2 * i + 1) != odd[i as usize] {
+        if power_sum(antilogs, p, 2 * i + 1) != odd[i as usize] {
             return false;
         }
         i += 1;
@@ -130,14 +154,14 @@ fn locate(odd: [u16; 8], t: u16) -> Places
     ensures { λ r. ⌜ Located odd t r ⌝ }
 {
     let logs = logs11();
-    let powers = powers11();
-    let s = corrector_locator::all_sums(&logs, &powers, odd);
-    let r = corrector_locator::key(&logs, &powers, &s, t as usize);
+    let antilogs = antilogs11();
+    let s = corrector_locator::all_sums(&logs, &antilogs, odd);
+    let r = corrector_locator::key(&logs, &antilogs, &s, t as usize);
     let locator = r.locator;
-    let p = spots_of(locator, t);
+    let p = spots_of(&logs, &antilogs, locator, t);
     let good = p.good;
     if good {
-        if agree(&powers, p, odd, t as u32) {
+        if agree(&antilogs, p, odd, t as u32) {
             return p;
         }
         return nowhere();

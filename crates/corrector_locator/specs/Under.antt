@@ -1,6 +1,5 @@
--- What the key equation's code takes and gives, over the tables of field 11.
+-- What the key equation's code takes and gives, in field 11.
 -- Laws and inner contracts alone cite it: what the corrector promises does not rest on it.
---   Lent            the tables of logs and of powers
 --   Under           each number of a list is an element
 --   registerOf      the register that a state holds;  Sound  a state of elements, early enough for two more
 --   PowerSums       1, the odd power sums in their places, and even ones as squares
@@ -10,14 +9,8 @@ use mathlib.Core.List.{List}
 use Prim.Native.Nat.{ℕ, suc, _*_, _<_}
 use lib.ListN.{getD, length}
 use Rattle.field.specs.Field.{fieldAt, mul}
-use Rattle.field.specs.Tables.{Logs, Powers}
 use Rattle.corrector_code.specs.Key.{Register}
 use Rattle.corrector_locator.specs.declared.State.{State}
-
--- the tables of field 11
-pub record Lent (logs powers : List ℕ) : Type 0 where
-  pub logs-are : Logs (fieldAt 11) logs
-  pub powers-are : Powers (fieldAt 11) powers
 
 -- elements of field 11
 abbrev pub Under : List ℕ → Type 0

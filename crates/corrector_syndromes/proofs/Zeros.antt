@@ -11,7 +11,7 @@ use lib.Dec.{T, eqb, eqb→eq}
 use lib.ListN.{getD}
 use mathlib.Core.List.{List}
 use Rattle.algebra.specs.Field.{power}
-use Rattle.refusals.specs.Rows.{polyIn}
+use Rattle.field.specs.Rows.{polyIn}
 use Rattle.field.specs.Field.{fieldAt, horner, cut, reduce, mul, carryFree}
 use Rattle.field.proofs.Table.{both, both-left, both-right}
 use Rattle.field.proofs.Generator.{unit}

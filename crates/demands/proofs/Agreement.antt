@@ -11,7 +11,8 @@ use borrow.Author.Tests.{le-ltb}
 use lib.Dec.{ltb}
 use lib.ListN.{length}
 use Rattle.refusals.specs.Order.{decide, outcome}
-use Rattle.table_rules.specs.Splitting.{rootsAt}
+use Rattle.table_rules.specs.Cutoff.{highestCutoff}
+use Rattle.field.specs.Field.{rootsAt}
 use Rattle.table_rules.specs.Limit.{limit}
 use Rattle.table_rules.specs.Polynomials.{polynomialTests}
 use Rattle.table_rules.specs.Demand.{stepsAt}
@@ -35,11 +36,11 @@ number-is (t ∷ ts) values = go (t .1) (number-is ts values)
     go true e = refl
     go false e = e
 
-module _ (m c : ℕ) (cs list : List ℕ) (h : c ≤ 3) where
+module _ (m c : ℕ) (cs list : List ℕ) (h : c ≤ highestCutoff) where
   -- the cutoff's test does not hold
   without : {A : Type 0} (refuse : ℕ → A) (accept : A) → decide (solveTests m c cs list) refuse accept ≡ decide (searchTests m cs list) refuse accept
   without refuse accept =
-      ap (λ (b : Bool). decide (polynomialTests m cs ((6, b) ∷ (7, ltb (length list) limit) ∷ [])) refuse accept) (le-ltb 3 c h)
+      ap (λ (b : Bool). decide (polynomialTests m cs ((6, b) ∷ (7, ltb (length list) limit) ∷ [])) refuse accept) (le-ltb highestCutoff c h)
       ∙ skipped (polynomialTests m cs []) 6 ((7, ltb (length list) limit) ∷ []) refuse accept
 
   -- the same number

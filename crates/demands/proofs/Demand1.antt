@@ -17,8 +17,8 @@ use Rattle.refusals.proofs.Order as order
 use Rattle.algebra.specs.Trial.{All}
 use Rattle.field_elements.specs.Calls.{pairTests, nonzeroTests, positionTests}
 use Rattle.field_elements.proofs.Coincide.{product-coincide, inverse-coincide, position-coincide, quadratic-coincide}
-use Rattle.table_check.specs.Verdicts.{stepTests}
 use Rattle.table_begin.specs.Calls.{beginTests}
+use Rattle.table_step.specs.Calls.{stepTests}
 use Rattle.table_begin.proofs.Coincide.{begin-coincide}
 use Rattle.table_step.proofs.Coincide.{step-coincide}
 use Rattle.table_finish.specs.Calls.{finishTests}

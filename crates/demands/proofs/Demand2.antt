@@ -1,8 +1,8 @@
 -- DEMAND 2 holds of every polynomial that the calls accept: `Demand2` of specs/Demand2.antt is the one record to read.
 --   root-list       the roots of an accepted polynomial are a root list
---   search-passes   what the whole call accepts the search accepts;  solve-passes  and so back, at each cutoff up to 3
+--   search-passes   what the whole call accepts the search accepts;  solve-passes  and so back, at each cutoff up to the highest
 --   demand-2        it holds where the whole call accepts
---   demand-2-search and where the search does, at each cutoff up to 3
+--   demand-2-search and where the search does, at each cutoff up to the highest
 -- Assumes nothing.
 use mathlib.Core.Path.{_≡_, refl, sym, ap, subst, _∙_}
 use mathlib.Core.List.{List, List·Memᴰ, List·Memᴰ·head, List·Memᴰ·not-nil, [], _∷_}
@@ -16,8 +16,8 @@ use Rattle.refusals.proofs.Order.{accepted, written, passes, failed, others}
 use Rattle.algebra.specs.Field.{OnNumbers}
 use Rattle.algebra.proofs.RootList.{rootsOf-ascending, rootsOf-distinct, rootsOf-exactly, rootsOf-only}
 use Rattle.slices.specs.Lists.{copied}
-use Rattle.field.specs.Field.{numbers, fieldAt}
-use Rattle.table_rules.specs.Splitting.{rootsAt}
+use Rattle.field.specs.Field.{rootsAt, G}
+use Rattle.table_rules.specs.Cutoff.{highestCutoff}
 use Rattle.table_rules.proofs.Fields.{known-field}
 use Rattle.table_rules.specs.Polynomials.{PolynomialIn}
 use Rattle.table_rules.proofs.Polynomials.{polynomial-told, passed-more, passed-first, passed-rest}
@@ -35,14 +35,14 @@ use Rattle.demands.specs.Demand2.{valueAt, RootList, Holds, Demand2}
 -- the roots of an accepted polynomial
 pub root-list : (m : ℕ) (f : List ℕ) → PolynomialIn m f → RootList m f (rootsAt m f)
 root-list m f t = record {
-  ascending = rootsOf-ascending (numbers (fieldAt m)) (2 ^ m) f;
-  once = rootsOf-distinct (numbers (fieldAt m)) (2 ^ m) f;
+  ascending = rootsOf-ascending (G m) (2 ^ m) f;
+  once = rootsOf-distinct (G m) (2 ^ m) f;
   exactly = rootsOf-exactly N f (t .small);
   empty = (none-at, empty-of (rootsAt m f) (λ x h. rootsOf-exactly N f (t .small) x .0 h));
   only = λ l a e. sym (rootsOf-only N f (t .small) l a e);
 }
   where
-    N : OnNumbers (numbers (fieldAt m)) (2 ^ m)
+    N : OnNumbers (G m) (2 ^ m)
     N = known-field m (t .field) .numbers
 
     none-at : rootsAt m f ≡ [] → (x : ℕ) → x < 2 ^ m → valueAt m f x ≢ 0
@@ -64,15 +64,15 @@ holds roots list after e = record {
 pub search-passes : (m c : ℕ) (f list : List ℕ) → Passed (solveTests m c f list) → Passed (searchTests m f list)
 search-passes m c f list p = passed-more m f (passed-first m f p) (others (passed-rest m f p))
 
--- and so back, at each cutoff up to 3
-pub solve-passes : (m c : ℕ) (f list : List ℕ) → c ≤ 3 → Passed (searchTests m f list) → Passed (solveTests m c f list)
-solve-passes m c f list h p = passed-more m f (passed-first m f p) (passes (le-ltb 3 c h) (passed-rest m f p))
+-- and so back, at each cutoff up to the highest
+pub solve-passes : (m c : ℕ) (f list : List ℕ) → c ≤ highestCutoff → Passed (searchTests m f list) → Passed (solveTests m c f list)
+solve-passes m c f list h p = passed-more m f (passed-first m f p) (passes (le-ltb highestCutoff c h) (passed-rest m f p))
 
 pub demand-2 : (m c : ℕ) (f list : List ℕ) → Passed (solveTests m c f list) → Demand2 m c f list
 demand-2 m c f list p =
     let t : PolynomialIn m f = polynomial-told m f p in
     let q : Passed (searchTests m f list) = search-passes m c f list p in
-    let h : c ≤ 3 = ltb-false 3 c (failed (passed-rest m f p)) in
+    let h : c ≤ highestCutoff = ltb-false highestCutoff c (failed (passed-rest m f p)) in
     record {
       roots = root-list m f t;
       few = roots-few t;
@@ -81,5 +81,5 @@ demand-2 m c f list p =
       agree = λ r s x y a b. a .1 ∙ agree-list m c f list h ∙ sym (b .1);
     }
 
-pub demand-2-search : (m c : ℕ) (f list : List ℕ) → c ≤ 3 → Passed (searchTests m f list) → Demand2 m c f list
+pub demand-2-search : (m c : ℕ) (f list : List ℕ) → c ≤ highestCutoff → Passed (searchTests m f list) → Demand2 m c f list
 demand-2-search m c f list h p = demand-2 m c f list (solve-passes m c f list h p)

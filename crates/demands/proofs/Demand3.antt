@@ -10,26 +10,27 @@ use native.Mathlib.Decide.{decLe, decLt}
 use native.Mathlib.Omega.{arith}
 use borrow.Author.Tests.{eq-eqb, le-ltb, ltb-false}
 use lib.Dec.{eqb, ltb}
-use lib.ListN.{length, getD}
+use lib.ListN.{length}
 use Rattle.refusals.specs.Order.{Passed}
 use Rattle.refusals.specs.Order.Passed.{none as none-left}
 use Rattle.refusals.proofs.Order.{accepted, written, passes, failed}
 use Rattle.slices.specs.Lists.{copied}
-use Rattle.table_rules.specs.Cutoff.{houseDefault, inForce}
+use Rattle.table_rules.specs.Cutoff.{highestCutoff, houseDefault, inForce}
 use Rattle.table_rules.specs.Layout.{byFactor}
-use Rattle.table_rules.specs.Splitting.{isDone, stuck, rootsAt, slotsDone, slotsStuck, slotsStepped, slotsRoots}
-use Rattle.table_rules.specs.Demand.{Demand3, groupsAfter}
+use Rattle.field.specs.Field.{rootsAt}
+use Rattle.table_rules.specs.Splitting.{isDone, stuck, slotsDone, slotsStuck, slotsStepped, slotsRoots}
+use Rattle.table_rules.specs.Demand.{Demand3, groupsAfter, groupsSlots}
 use Rattle.table_rules.proofs.HouseDefault.{inForce-least, inForce-most}
 use Rattle.table_rules.proofs.Layouts.{byFactor-lawful}
 use Rattle.table_rules.proofs.Soundness.{done-encode, stuck-encode}
 use Rattle.table_rules.proofs.Demand.{demand-3, begin-slots}
 use Rattle.table_rules.specs.Limit.{limit, slots}
-use Rattle.table_check.specs.Verdicts.{stepTests}
 use Rattle.table_begin.specs.Calls.{beginTests, beginMemory, Begins}
 use Rattle.table_begin.specs.declared.Begun.{Begun}
 use Rattle.table_begin.specs.declared.Begun.the-variants.{Ready}
 use Rattle.table_begin.proofs.Coincide.{begun-told}
-use Rattle.table_step.specs.Calls.{stepOutcome, stepMemory, paperStepped, Steps}
+use Rattle.table_slots.specs.Slots.{takenOf}
+use Rattle.table_step.specs.Calls.{stepTests, stepOutcome, stepMemory, paperStepped, Steps}
 use Rattle.table_step.specs.declared.Stepped.{Stepped}
 use Rattle.table_step.specs.declared.Stepped.the-variants.{Taken, Done}
 use Rattle.table_step.proofs.Coincide.{stepped-told}
@@ -42,7 +43,7 @@ use Rattle.table_rules.specs.Polynomials.{PolynomialIn}
 use Rattle.table_rules.proofs.Polynomials.{polynomial-told, passed-more, passed-first, passed-rest}
 use Rattle.table_rules.specs.Demand.{stepsAt}
 use Rattle.find_solve.specs.Calls.{solveTests}
-use Rattle.find_solve.specs.Solving.{begunAfter, Stepping}
+use Rattle.find_solve.specs.Solving.{Stepping}
 use Rattle.find_solve.proofs.Running.{taken-at, begun-after, long-now, run-on, run-count, out-roots}
 use Rattle.demands.specs.Demand3.{After, Followed}
 use Rattle.demands.specs.Demand3.After.{start, call}
@@ -69,8 +70,8 @@ module _ (m c : ℕ) (f table : List ℕ) (p : Passed (beginTests m c f table)) 
   told : PolynomialIn m f
   told = polynomial-told m f p
 
-  cutoff-most : c ≤ 3
-  cutoff-most = ltb-false 3 c (failed (passed-rest m f p))
+  cutoff-most : c ≤ highestCutoff
+  cutoff-most = ltb-false highestCutoff c (failed (passed-rest m f p))
 
   least : 1 ≤ k
   least = inForce-least houseDefault c (omega arith)
@@ -79,15 +80,15 @@ module _ (m c : ℕ) (f table : List ℕ) (p : Passed (beginTests m c f table)) 
   D = demand-3 m (told .field) k least f
 
   -- the table after n steps is one that steps alone wrote
-  stepping : (n : ℕ) → n ≤ count → Stepping m k f (begunAfter m k f n)
+  stepping : (n : ℕ) → n ≤ count → Stepping m k f (groupsSlots m k f n)
   stepping = begun-after told least (inForce-most houseDefault c (omega arith) cutoff-most)
 
   -- whether it is done
-  done-at : (n : ℕ) {b : Bool} → isDone (groupsAfter m k (rootsAt m f) n) ≡ b → slotsDone byFactor (begunAfter m k f n) ≡ b
+  done-at : (n : ℕ) {b : Bool} → isDone (groupsAfter m k (rootsAt m f) n) ≡ b → slotsDone byFactor (groupsSlots m k f n) ≡ b
   done-at n e = done-encode byFactor-lawful slots (groupsAfter m k (rootsAt m f) n) ∙ e
 
   -- 9 is not given: after fewer steps it is not met, and where the table is done it is not given
-  stuck-at : (n : ℕ) → n ≤ count → slotsStuck byFactor (begunAfter m k f n) ≡ false
+  stuck-at : (n : ℕ) → n ≤ count → slotsStuck byFactor (groupsSlots m k f n) ≡ false
   stuck-at n h = stuck-encode byFactor-lawful slots (groupsAfter m k (rootsAt m f) n) ∙ go (decLt n count)
     where
       go : Dec (n < count) → stuck (groupsAfter m k (rootsAt m f) n) ≡ false
@@ -98,59 +99,59 @@ module _ (m c : ℕ) (f table : List ℕ) (p : Passed (beginTests m c f table)) 
           rw d refl
 
   -- a step is not refused
-  never-refused : (n : ℕ) → n ≤ count → Passed (stepTests (begunAfter m k f n))
+  never-refused : (n : ℕ) → n ≤ count → Passed (stepTests (groupsSlots m k f n))
   never-refused n h =
       let s = stepping n h in
-      passes (ap not (eq-eqb (length (begunAfter m k f n)) slots (long-now s)))
+      passes (ap not (eq-eqb (length (groupsSlots m k f n)) slots (long-now s)))
       (passes (ap not (D .sounds byFactor-lawful limit (s .most) (s .few) n h)) (passes (stuck-at n h) none-left))
 
   -- what a step answers and leaves
-  step-answers : (n : ℕ) (b : Bool) → n ≤ count → slotsDone byFactor (begunAfter m k f n) ≡ b → stepOutcome (begunAfter m k f n) ≡ (0, cond b 1 0 ∷ [])
+  step-answers : (n : ℕ) (b : Bool) → n ≤ count → slotsDone byFactor (groupsSlots m k f n) ≡ b → stepOutcome (groupsSlots m k f n) ≡ (0, cond b 1 0 ∷ [])
   step-answers n b h e = accepted _ (never-refused n h) ∙ ap (λ (d : Bool). (0, cond d 1 0 ∷ [])) e
 
-  step-leaves : (n : ℕ) (b : Bool) → n ≤ count → slotsDone byFactor (begunAfter m k f n) ≡ b
-      → stepMemory (begunAfter m k f n) ≡ cond b (begunAfter m k f n) (slotsStepped byFactor (begunAfter m k f n))
+  step-leaves : (n : ℕ) (b : Bool) → n ≤ count → slotsDone byFactor (groupsSlots m k f n) ≡ b
+      → stepMemory (groupsSlots m k f n) ≡ cond b (groupsSlots m k f n) (slotsStepped byFactor (groupsSlots m k f n))
   step-leaves n b h e =
-      written _ _ (never-refused n h) ∙ ap (λ (d : Bool). cond d (begunAfter m k f n) (slotsStepped byFactor (begunAfter m k f n))) e
+      written _ _ (never-refused n h) ∙ ap (λ (d : Bool). cond d (groupsSlots m k f n) (slotsStepped byFactor (groupsSlots m k f n))) e
 
   -- a step that is taken goes to the next table
-  next : (n : ℕ) → n < count → stepMemory (begunAfter m k f n) ≡ begunAfter m k f (suc n)
+  next : (n : ℕ) → n < count → stepMemory (groupsSlots m k f n) ≡ groupsSlots m k f (suc n)
   next n h =
       let l : n ≤ count = omega arith in
       let s = stepping n l in
-      let d : slotsDone byFactor (begunAfter m k f n) ≡ false = done-at n (D .before n h .0) in
-      let i : getD (slotsStepped byFactor (begunAfter m k f n)) 3 0 ≡ suc n = run-count s d refl ∙ ap suc (taken-at m k f n) in
-      step-leaves n false l d ∙ run-on s d refl .slots-are ∙ ap (begunAfter m k f) i
+      let d : slotsDone byFactor (groupsSlots m k f n) ≡ false = done-at n (D .before n h .0) in
+      let i : takenOf (slotsStepped byFactor (groupsSlots m k f n)) ≡ suc n = run-count s d refl ∙ ap suc (taken-at m k f n) in
+      step-leaves n false l d ∙ run-on s d refl .slots-are ∙ ap (groupsSlots m k f) i
 
   begun : List ℕ
   begun = beginMemory m c f table
 
-  each : (n : ℕ) → n ≤ count → afterSteps n begun ≡ begunAfter m k f n
+  each : (n : ℕ) → n ≤ count → afterSteps n begun ≡ groupsSlots m k f n
   unfolding afterSteps begun
   each zero h = written _ table p ∙ begin-slots m (told .field) k least f byFactor slots
   each (suc n) h = ap stepMemory (each n (omega arith)) ∙ next n (omega arith)
 
-  done-end : slotsDone byFactor (begunAfter m k f count) ≡ true
+  done-end : slotsDone byFactor (groupsSlots m k f count) ≡ true
   done-end = done-at count (D .end)
 
   -- nothing is written any more
-  still : (n : ℕ) → count ≤ n → afterSteps n begun ≡ begunAfter m k f count
+  still : (n : ℕ) → count ≤ n → afterSteps n begun ≡ groupsSlots m k f count
   unfolding afterSteps
-  still zero h = let e : 0 ≡ count = omega arith in each zero (omega arith) ∙ ap (begunAfter m k f) e
+  still zero h = let e : 0 ≡ count = omega arith in each zero (omega arith) ∙ ap (groupsSlots m k f) e
   still (suc n) h = go (decLe count n) (λ l. ap stepMemory (still n l) ∙ step-leaves count true (omega arith) done-end)
     where
-      go : Dec (count ≤ n) → (count ≤ n → stepMemory (afterSteps n begun) ≡ begunAfter m k f count) → stepMemory (afterSteps n begun) ≡ begunAfter m k f count
+      go : Dec (count ≤ n) → (count ≤ n → stepMemory (afterSteps n begun) ≡ groupsSlots m k f count) → stepMemory (afterSteps n begun) ≡ groupsSlots m k f count
       go (yes l) on = on l
-      go (no l) on = let e : suc n ≡ count = omega arith in each (suc n) (omega arith) ∙ ap (begunAfter m k f) e
+      go (no l) on = let e : suc n ≡ count = omega arith in each (suc n) (omega arith) ∙ ap (groupsSlots m k f) e
 
   -- the table at the end, for finish
-  end-roots : slotsRoots byFactor (begunAfter m k f count) ≡ rootsAt m f
+  end-roots : slotsRoots byFactor (groupsSlots m k f count) ≡ rootsAt m f
   end-roots = out-roots (stepping count (omega arith)) (record { slots-are = refl })
 
-  finish-passes : (list : List ℕ) → limit ≤ length list → Passed (finishTests (begunAfter m k f count) list)
+  finish-passes : (list : List ℕ) → limit ≤ length list → Passed (finishTests (groupsSlots m k f count) list)
   finish-passes list h =
       let s = stepping count (omega arith) in
-      let a : not (eqb (length (begunAfter m k f count)) slots) ≡ false = ap not (eq-eqb (length (begunAfter m k f count)) slots (long-now s)) in
+      let a : not (eqb (length (groupsSlots m k f count)) slots) ≡ false = ap not (eq-eqb (length (groupsSlots m k f count)) slots (long-now s)) in
       let b : ltb (length list) limit ≡ false = le-ltb (length list) limit h in
       passes (rw a (rw b refl)) (passes (ap not (D .sounds byFactor-lawful limit (s .most) (s .few) count (omega arith))) (passes (ap not done-end) none-left))
 
@@ -158,7 +159,7 @@ module _ (m c : ℕ) (f table : List ℕ) (p : Passed (beginTests m c f table)) 
   solve-passes list h =
       passed-more m f (passed-first m f p) (passes (failed (passed-rest m f p)) (passes (le-ltb (length list) limit h) none-left))
 
-  at-end : afterSteps count begun ≡ begunAfter m k f count
+  at-end : afterSteps count begun ≡ groupsSlots m k f count
   at-end = each count (omega arith)
 
   lists : (list : List ℕ) → limit ≤ length list → finishMemory (afterSteps count begun) list ≡ copied (rootsAt m f) list

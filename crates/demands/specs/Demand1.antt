@@ -15,21 +15,20 @@ use Prim.Native.Nat.{ℕ, suc, _+_, _≤_, _<_}
 use lib.ListN.{length, drop}
 use Rattle.refusals.specs.Order.{Given, Passed}
 use Rattle.slices.specs.Lists.{copied}
-use Rattle.field.specs.Field.{fieldAt, mul, inverse}
-use Rattle.field.specs.Quadratics.{paperRoots, rootsOfQuadratic}
-use Rattle.field.specs.declared.solver.Quadratic.{Quadratic}
+use Rattle.field.specs.Field.{fieldAt, mul, inverse, rootsAt}
+use Rattle.field.specs.Quadratics.{rootsOfQuadratic}
+use Rattle.field_elements.specs.declared.Roots.{Roots}
 use Rattle.field_elements.specs.declared.Answer.{Answer}
-use Rattle.field_elements.specs.Calls.{paper, pairTests, nonzeroTests, positionTests, positionUnder}
+use Rattle.field_elements.specs.Calls.{paper, paperRoots, pairTests, nonzeroTests, positionTests, positionUnder}
 use Rattle.field_elements.specs.Calls.{TellsProduct, TellsInverse, TellsPosition, TellsQuadratic}
 use Rattle.table_rules.specs.Cutoff.{inForce}
 use Rattle.table_rules.specs.Demand.{stepsAt}
 use Rattle.table_rules.specs.Layout.{byFactor}
 use Rattle.table_rules.specs.Limit.{slots}
-use Rattle.table_rules.specs.Splitting.{rootsAt, slotsDone, slotsStepped, slotsBegun, slotsRoots}
+use Rattle.table_rules.specs.Splitting.{slotsDone, slotsStepped, slotsBegun, slotsRoots}
 use Rattle.table_begin.specs.Calls.{beginTests, paperBegun, Begins}
 use Rattle.table_begin.specs.declared.Begun.{Begun}
-use Rattle.table_check.specs.Verdicts.{stepTests}
-use Rattle.table_step.specs.Calls.{paperStepped, Steps}
+use Rattle.table_step.specs.Calls.{stepTests, paperStepped, Steps}
 use Rattle.table_step.specs.declared.Stepped.{Stepped}
 use Rattle.table_finish.specs.Calls.{finishTests, paperFinished, Finishes}
 use Rattle.table_finish.specs.declared.Finished.{Finished}
@@ -66,7 +65,7 @@ pub record Settles (t : ℕ) (word : List ℕ) (outcome : ℕ × List ℕ) (afte
 pub record Demand1 : Type 0 where
   -- element calls: 1, 4, 13;  position: 1, 21, 4, 13
   pub product : (m a b : ℕ) (r : Answer) → TellsProduct m a b r → Decides (pairTests m a b) (mul (fieldAt m) a b ∷ []) (paper r)
-  pub quadratic : (m a b : ℕ) (r : Quadratic) → TellsQuadratic m a b r → Decides (pairTests m a b) (rootsOfQuadratic (fieldAt m) a b) (paperRoots r)
+  pub quadratic : (m a b : ℕ) (r : Roots) → TellsQuadratic m a b r → Decides (pairTests m a b) (rootsOfQuadratic (fieldAt m) a b) (paperRoots r)
   pub inverse : (m a : ℕ) (r : Answer) → TellsInverse m a r → Decides (nonzeroTests m a) (inverse (fieldAt m) a ∷ []) (paper r)
   pub position : (m x convention : ℕ) (r : Answer) → TellsPosition m x convention r
       → Decides (positionTests m x convention) (positionUnder convention (fieldAt m) x ∷ []) (paper r)
@@ -102,7 +101,7 @@ pub record Demand1 : Type 0 where
       → HandsBack file at (paperRead r) ↔ (Passed (startTests (drop at file)) × Passed (recordTests (drop at file)))
   -- each contract admits one answer, and one content of lent memory
   pub product-one : (m a b : ℕ) (r s : Answer) → TellsProduct m a b r → TellsProduct m a b s → r ≡ s
-  pub quadratic-one : (m a b : ℕ) (r s : Quadratic) → TellsQuadratic m a b r → TellsQuadratic m a b s → r ≡ s
+  pub quadratic-one : (m a b : ℕ) (r s : Roots) → TellsQuadratic m a b r → TellsQuadratic m a b s → r ≡ s
   pub inverse-one : (m a : ℕ) (r s : Answer) → TellsInverse m a r → TellsInverse m a s → r ≡ s
   pub position-one : (m x convention : ℕ) (r s : Answer) → TellsPosition m x convention r → TellsPosition m x convention s → r ≡ s
   pub begin-one : (m c : ℕ) (cs table : List ℕ) (r s : Begun) (x y : List ℕ)

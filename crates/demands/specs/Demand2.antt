@@ -12,8 +12,7 @@ use Prim.Native.Nat.{ℕ, _^_, _<_, _≤_}
 use lib.ListN.{length, take, drop}
 use Rattle.algebra.specs.Trial.{Ascending, Distinct}
 use Rattle.algebra.specs.Polynomial.{eval}
-use Rattle.field.specs.Field.{numbers, fieldAt}
-use Rattle.table_rules.specs.Splitting.{rootsAt}
+use Rattle.field.specs.Field.{rootsAt, G}
 use Rattle.table_rules.specs.Limit.{limit}
 use Rattle.table_rules.specs.Demand.{stepsAt}
 use Rattle.find_solve.specs.Calls.{Solves}
@@ -24,7 +23,7 @@ use Rattle.find_search.specs.declared.Searched.{Searched}
 use Rattle.find_search.specs.declared.Searched.the-variants.{Seen}
 
 abbrev pub valueAt : ℕ → List ℕ → ℕ → ℕ
-valueAt m f x = eval (numbers (fieldAt m)) f x
+valueAt m f x = eval (G m) f x
 
 pub record RootList (m : ℕ) (f roots : List ℕ) : Type 0 where
   pub ascending : Ascending roots

@@ -2,7 +2,6 @@
 -- above the cutoff by its next trace bit and leaves the rest be; the steps to the end number exactly the groups, level by level, that outnumber the cutoff; never
 -- more than m times the whole part of s/(c+1). All is over demand 2's root set.
 --   After       a table is what so many calls of step leave of another, each admitted by the contract of step
---   groupsSlots the slots of the table that the groups after so many steps make
 --   Followed    step and finish from a table begun by a polynomial that begin accepts, at the cutoff c: whatever their contracts admit
 -- Assumes nothing.
 use mathlib.Core.Path.{_≡_}
@@ -11,12 +10,9 @@ use Prim.Native.Nat.{ℕ, suc, _*_, _/_, _<_, _≤_}
 use lib.ListN.{length}
 use Rattle.slices.specs.Lists.{copied}
 use Rattle.table_rules.specs.Cutoff.{inForce}
-use Rattle.table_rules.specs.Layout.{byFactor}
-use Rattle.table_rules.specs.Table.{encode}
-use Rattle.table_rules.specs.Splitting.{rootsAt}
-use Rattle.table_rules.specs.Demand.{Demand3, groupsAfter}
-use Rattle.table_rules.specs.Limit.{limit, slots}
-use Rattle.table_rules.specs.Demand.{stepsAt}
+use Rattle.field.specs.Field.{rootsAt}
+use Rattle.table_rules.specs.Demand.{Demand3, groupsSlots, stepsAt}
+use Rattle.table_rules.specs.Limit.{limit}
 use Rattle.table_step.specs.Calls.{Steps}
 use Rattle.table_step.specs.declared.Stepped.{Stepped}
 use Rattle.table_step.specs.declared.Stepped.the-variants.{Taken, Done}
@@ -32,19 +28,16 @@ pub data After (table : List ℕ) : ℕ → List ℕ → Type 0 where
   start : After table 0 table
   call : {n : ℕ} {t : List ℕ} (u : List ℕ) (r : Stepped) → After table n t → Steps t r u → After table (suc n) u
 
-abbrev pub groupsSlots : ℕ → ℕ → List ℕ → ℕ → List ℕ
-groupsSlots m c f n = encode byFactor slots (groupsAfter m (inForce c) (rootsAt m f) n)
-
 -- begun is a table that begin leaves
 pub record Followed (m c : ℕ) (f begun : List ℕ) : Type 0 where
   -- what the groups do: each step parts the first group above the cutoff by its next trace bit, their order, their count, the bound
   pub groups : Demand3 m (inForce c) (rootsAt m f)
   -- the table after each step is that of the groups
-  pub each : (n : ℕ) (t : List ℕ) → n ≤ stepsAt m c f → After begun n t → t ≡ groupsSlots m c f n
+  pub each : (n : ℕ) (t : List ℕ) → n ≤ stepsAt m c f → After begun n t → t ≡ groupsSlots m (inForce c) f n
   -- as many steps are taken as there are groups above the cutoff; then the answer is "done", and nothing is written any more
   pub taken : (n : ℕ) (t u : List ℕ) (r : Stepped) → n < stepsAt m c f → After begun n t → Steps t r u → r ≡ Taken
   pub done : (n : ℕ) (t u : List ℕ) (r : Stepped) → stepsAt m c f ≤ n → After begun n t → Steps t r u → (r ≡ Done) × (u ≡ t)
-  pub still : (n : ℕ) (t : List ℕ) → stepsAt m c f ≤ n → After begun n t → t ≡ groupsSlots m c f (stepsAt m c f)
+  pub still : (n : ℕ) (t : List ℕ) → stepsAt m c f ≤ n → After begun n t → t ≡ groupsSlots m (inForce c) f (stepsAt m c f)
   -- never more than the bound
   pub bound : stepsAt m c f ≤ m * (length (rootsAt m f) / suc (inForce c))
   -- finish lists the roots, and the whole call gives the roots and steps of begin, steps until done, finish

@@ -22,8 +22,8 @@ use lib.Pow.{pow-pos}
 use Rattle.algebra.specs.Field.{power}
 use Rattle.algebra.specs.Trial.{firstFrom}
 use Rattle.algebra.proofs.Trial.{first-only}
-use Rattle.refusals.specs.Rows.{Listed}
-use Rattle.refusals.proofs.Rows.{by-row}
+use Rattle.field.specs.Rows.{Listed}
+use Rattle.field.proofs.Known.{by-row}
 use Rattle.field.specs.Field.{cut, Field, size, order, mul, numbers, inverse, position, fieldOf}
 use Rattle.field.proofs.Table.{both, both-left, both-right}
 use Rattle.field.proofs.Pigeonhole.{onto}

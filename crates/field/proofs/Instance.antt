@@ -10,7 +10,7 @@ use lib.Bits.{xor-comm, xor-self, xor-lt}
 use lib.Dec.{T, eqb, eqb→eq}
 use lib.Pow.{pow-pos}
 use Rattle.algebra.specs.Field.{OnNumbers, squared}
-use Rattle.refusals.specs.Rows.{Listed}
+use Rattle.field.specs.Rows.{Listed}
 use Rattle.field.specs.Field.{Field, size, numbers, fieldOf}
 use Rattle.field.proofs.Xor.{xor-assoc}
 use Rattle.field.proofs.Ring.{RingLaws, ring}

@@ -1,27 +1,27 @@
 -- The log and antilog tables, for any field: a test over each table, the law that turns it into the rule at each entry, and the product by logs.
 --   logTest, logs-hold            the log table: along 1, 2, 4, .. the entry at a^j is j
---   powerTest, powers-hold        the powers: 1, 2, 4, .. ;  antilogs-hold  unrolled they are the antilog table, of length-unrolled
+--   powerTest, powers-hold        the powers: 1, 2, 4, ..
+--   antilogTest, antilogs-hold    the antilog table: the powers, as many again as they go on, and zeros
 --   log-lt, log-le                how large a log is
 --   log-product, logs-product     the antilog of the sum of two logs is the product
 -- Assumes nothing.
 use mathlib.Core.Path.{_≡_, refl, sym, ap, ap₂, _∙_, subst}
 use mathlib.Core.Bool.{Bool, true, cond}
-use mathlib.Core.List.{List, [], _∷_, _++_}
-use Prim.Native.Nat.{ℕ, zero, suc, _+_, _-_, _*_, _≤_, _<_}
+use mathlib.Core.List.{List, [], _∷_}
+use Prim.Native.Nat.{ℕ, zero, suc, _+_, _*_, _≤_, _<_}
 use native.Mathlib.Nat.{add-zero, add-suc, suc-add, zero-add, not-suc-le-zero}
 use native.Mathlib.Decide.{decLt}
 use native.Mathlib.Omega.{arith}
 use borrow.Author.Tests.{lt-ltb, le-ltb, eq-eqb, ne-eqb}
 use lib.Dec.{T, eqb, ltb, eqb→eq}
-use lib.ListN.{length, getD, replicate, length-append, length-replicate, getD-replicate, List·getD-append}
-use lib.Seq.{getD-append-add}
+use lib.ListN.{length, getD}
 use Rattle.algebra.specs.Field.{power}
 use Rattle.field.specs.Field.{cut, Field, size, order, mul, numbers, position}
-use Rattle.field.specs.Tables.{logOf, antilogOf, Logs, Antilogs, Powers, unrolled}
+use Rattle.field.specs.Tables.{logOf, antilogOf, Logs, Antilogs, Powers}
 use Rattle.field.proofs.Table.{both, both-left, both-right}
 use Rattle.field.proofs.Tree.{Tree, grow, look, look-is}
 use Rattle.field.proofs.Ring.{RingLaws, ring, power-lt, power-add}
-use Rattle.field.proofs.Generator.{Generated, unit, power-order, position-is}
+use Rattle.field.proofs.Generator.{Generated, unit, position-is}
 
 -- the tree holds j, j + 1, .. at y, 2y, .. : n places
 unfoldable pub logsFrom : Field → Tree → ℕ → ℕ → ℕ → Bool
@@ -43,10 +43,16 @@ unfoldable pub powerTest : Field → List ℕ → Bool
 unfolding powersFrom
 powerTest F xs = both (eqb (length xs) (order F)) (powersFrom F 1 xs)
 
--- the powers twice and as many zeros are three times as many
-pub length-unrolled : (ps : List ℕ) → length (unrolled ps) ≡ 3 * length ps
-unfolding unrolled
-length-unrolled ps = simp (length-append, length-replicate) (omega arith)
+-- y, 2y, .. : n entries, and zeros to the end
+unfoldable pub antilogsFrom : Field → ℕ → ℕ → List ℕ → Bool
+unfolding cut
+antilogsFrom F n y [] = true
+antilogsFrom F zero y (x ∷ xs) = both (eqb x 0) (antilogsFrom F zero y xs)
+antilogsFrom F (suc n) y (x ∷ xs) = both (eqb x y) (antilogsFrom F n (cut F (y * 2)) xs)
+
+unfoldable pub antilogTest : Field → List ℕ → Bool
+unfolding antilogsFrom
+antilogTest F xs = both (eqb (length xs) (3 * order F)) (antilogsFrom F (2 * order F) 1 xs)
 
 -- the log of a nonzero element is its position
 pub log-position : (F : Field) (x : ℕ) → 0 < x → logOf F x ≡ position F x
@@ -114,35 +120,37 @@ module _ (F : Field) (gen : Generated F) where
       entries : length xs ≡ order F
       entries = eqb→eq (length xs) (order F) (both-left (eqb (length xs) (order F)) _ h)
 
-  -- the powers come again after the order
-  power-again : (k : ℕ) → power (numbers F) 2 (order F + k) ≡ power (numbers F) 2 k
-  power-again k =
-      power-add F (gen .monic) (unit F gen) 2 (order F) k ∙ ap (λ (x : ℕ). mul F x (power (numbers F) 2 k)) (power-order F gen)
-      ∙ mul-one-l (power (numbers F) 2 k) (power-lt F (gen .monic) (unit F gen) 2 k)
+  -- an entry among the n powers from a^j on, and an entry among the zeros behind them
+  antilogs-at : (n j : ℕ) (xs : List ℕ) → T (antilogsFrom F n (power (numbers F) 2 j) xs) → (k : ℕ) → k < length xs
+      → (k < n → getD xs k 0 ≡ power (numbers F) 2 (j + k)) × (n ≤ k → getD xs k 0 ≡ 0)
+  unfolding antilogsFrom
+  antilogs-at n j [] h k l = absurd (not-suc-le-zero l)
+  antilogs-at zero j (x ∷ xs) h zero l = (λ a. absurd (not-suc-le-zero a), λ _. eqb→eq x 0 (both-left (eqb x 0) _ h))
+  antilogs-at zero j (x ∷ xs) h (suc k) l =
+      (λ a. absurd (not-suc-le-zero a), λ _. antilogs-at zero j xs (both-right (eqb x 0) _ h) k (omega arith) .1 (omega arith))
+  antilogs-at (suc n) j (x ∷ xs) h zero l = (
+    λ _. eqb→eq x (power (numbers F) 2 j) (both-left (eqb x (power (numbers F) 2 j)) _ h) ∙ ap (power (numbers F) 2) (sym (add-zero j)),
+    λ a. absurd (not-suc-le-zero a),
+  )
+  antilogs-at (suc n) j (x ∷ xs) h (suc k) l =
+      let t = antilogs-at n (suc j) xs
+      (subst (λ (y : ℕ). T (antilogsFrom F n y xs)) (power-next j) (both-right (eqb x (power (numbers F) 2 j)) _ h)) k (omega arith) in
+      (λ a. t .0 (omega arith) ∙ ap (power (numbers F) 2) (suc-add j k ∙ sym (add-suc j k)), λ a. t .1 (omega arith))
 
-  -- an entry among the first powers, among the second, and among the zeros
-  unrolled-at : (ps : List ℕ) → length ps ≡ order F → ((j : ℕ) → j < order F → getD ps j 0 ≡ power (numbers F) 2 j)
-      → (j : ℕ) → j < 3 * order F → Dec (j < length ps) → Dec (j < length ps + length ps) → getD (unrolled ps) j 0 ≡ antilogOf F j
-  unfolding unrolled antilogOf
-  unrolled-at ps n p j l (yes a) d =
-      List·getD-append ps (ps ++ replicate (length ps) 0) 0 j a ∙ p j (omega arith) ∙ rw (lt-ltb j (2 * order F) (omega arith))
-  unrolled-at ps n p j l (no a) (yes b) =
-      let e : j ≡ length ps + (j - length ps) = omega arith in
-      ap (λ (i : ℕ). getD (ps ++ (ps ++ replicate (length ps) 0)) i 0) e ∙ getD-append-add ps (ps ++ replicate (length ps) 0) (j - length ps) 0
-      ∙ List·getD-append ps (replicate (length ps) 0) 0 (j - length ps) (omega arith) ∙ p (j - length ps) (omega arith) ∙ sym (power-again (j - length ps))
-      ∙ ap (power (numbers F) 2) (let f : order F + (j - length ps) ≡ j = omega arith in f) ∙ rw (lt-ltb j (2 * order F) (omega arith))
-  unrolled-at ps n p j l (no a) (no b) =
-      let k = j - (length ps + length ps) in let e : j ≡ length ps + (length ps + k) = omega arith in
-      ap (λ (i : ℕ). getD (ps ++ (ps ++ replicate (length ps) 0)) i 0) e ∙ getD-append-add ps (ps ++ replicate (length ps) 0) (length ps + k) 0
-      ∙ getD-append-add ps (replicate (length ps) 0) k 0 ∙ getD-replicate (length ps) k 0 0 (omega arith)
-      ∙ rw (le-ltb j (2 * order F) (omega arith))
+  pub antilogs-hold : (xs : List ℕ) → T (antilogTest F xs) → Antilogs F xs
+  unfolding antilogTest antilogOf power
+  antilogs-hold xs h = record { entries = entries; entry = λ j l. at j (antilogs-at (2 * order F) 0 xs rest j (omega (arith, entries))) (decLt j (2 * order F)) }
+    where
+      entries : length xs ≡ 3 * order F
+      entries = eqb→eq (length xs) (3 * order F) (both-left (eqb (length xs) (3 * order F)) _ h)
 
-  pub antilogs-hold : {ps : List ℕ} → Powers F ps → Antilogs F (unrolled ps)
-  antilogs-hold {ps} P =
-      record {
-        entries = length-unrolled ps ∙ ap (λ (n : ℕ). 3 * n) (P .entries);
-        entry = λ j l. unrolled-at ps (P .entries) (P .entry) j l (decLt j (length ps)) (decLt j (length ps + length ps));
-      }
+      rest : T (antilogsFrom F (2 * order F) 1 xs)
+      rest = both-right (eqb (length xs) (3 * order F)) _ h
+
+      at : (j : ℕ) → (j < 2 * order F → getD xs j 0 ≡ power (numbers F) 2 (0 + j)) × (2 * order F ≤ j → getD xs j 0 ≡ 0) → Dec (j < 2 * order F)
+          → getD xs j 0 ≡ cond (ltb j (2 * order F)) (power (numbers F) 2 j) 0
+      at j t (yes a) = t .0 a ∙ ap (power (numbers F) 2) (zero-add j) ∙ rw (lt-ltb j (2 * order F) a)
+      at j t (no a) = let b : 2 * order F ≤ j = omega arith in t .1 b ∙ rw (le-ltb j (2 * order F) b)
 
   -- ---- the product by logs
   pub log-lt : (x : ℕ) → 0 < x → x < size F → logOf F x < order F

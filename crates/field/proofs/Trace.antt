@@ -16,8 +16,8 @@ use lib.Bits.{bitXor, xor-comm, xor-self, xor-zero-r, xor-lt}
 use lib.Dec.{lit<}
 use lib.Pow.{pow-lt}
 use Rattle.algebra.specs.Field.{power, squared, trace}
-use Rattle.refusals.specs.Rows.{Listed}
-use Rattle.refusals.proofs.Rows.{by-row}
+use Rattle.field.specs.Rows.{Listed}
+use Rattle.field.proofs.Known.{by-row}
 use Rattle.field.specs.Field.{cut, Field, size, mul, numbers, inverse, Tr, fieldOf}
 use Rattle.field.proofs.Xor.{xor-assoc, xor-cancel, xor-swap, xor-equal}
 use Rattle.field.proofs.Reduce.{cut-below}

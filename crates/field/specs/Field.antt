@@ -9,15 +9,18 @@
 --   mul        the product: the carry-free product, reduced by the field's polynomial
 --   inverse    the y with x y = 1, by trial; 0 where there is none
 --   numbers    the operations as the theory of polynomials takes them: sum, product, inverse
+--   G m        those of the known field of degree m;  rootsAt m f  the roots of f there, by trial, ascending
 --   Tr         the trace: the sum of x^(2^i) for i from 0 to m-1
 --   position   the exponent of r: the j with a^j = r, by trial, where a is 2
 -- Assumes nothing.
+use mathlib.Core.List.{List}
 use Prim.Native.Nat.{ℕ, zero, suc, _+_, _-_, _*_, _/_, _%_, _^_}
 use lib.Bits.{bitXor}
 use lib.Dec.{eqb}
 use Rattle.algebra.specs.Field.{Ops, power, trace}
 use Rattle.algebra.specs.Trial.{firstFrom}
-use Rattle.refusals.specs.Rows.{polyOf}
+use Rattle.algebra.specs.Polynomial.{rootsOf}
+use Rattle.field.specs.Rows.{polyOf}
 
 -- `f` makes the result of what the higher digits gave and of the next digit; the count n of digits to go stops the recursion
 unfoldable pub hornerIn : (ℕ → ℕ → ℕ) → ℕ → ℕ → ℕ
@@ -66,6 +69,13 @@ inverse F x = firstFrom (λ y. eqb (mul F x y) 1) 0 (size F) % size F
 
 abbrev pub numbers : Field → Ops ℕ
 numbers F = record { zero = 0; one = 1; add = bitXor; mul = mul F; inv = inverse F; isZero = λ x. eqb x 0 }
+
+-- the numbers below 2^m with the sum, product and inverse of the known field of degree m
+abbrev pub G : ℕ → Ops ℕ
+G m = numbers (fieldAt m)
+
+abbrev pub rootsAt : ℕ → List ℕ → List ℕ
+rootsAt m f = rootsOf (G m) (2 ^ m) f
 
 abbrev pub Tr : Field → ℕ → ℕ
 Tr F x = trace (numbers F) (F .degree) x

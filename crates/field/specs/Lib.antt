@@ -1,3 +1,4 @@
+pub mod Rows
 pub mod Field
 pub mod Division
 pub mod Tables

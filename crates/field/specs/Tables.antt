@@ -3,16 +3,16 @@
 --   logOf       the log table at x: its position; twice the order at 0
 --   antilogOf   the antilog table at j: a^j below twice the order, and 0 from there on
 --   Halves      a list is the quadratic table;  Logs  the log table;  Antilogs  the antilog table, for sums of a log below the order and any log
---   Powers      a list is 1, a, a^2, .. : as many as there are nonzero elements;  unrolled  the antilog table that they make
+--   Powers      a list is 1, a, a^2, .. : as many as there are nonzero elements
 -- Assumes nothing.
 use mathlib.Core.Path.{_≡_}
 use mathlib.Core.Logic.{_⊎_}
 use mathlib.Core.Bool.{cond}
-use mathlib.Core.List.{List, _++_}
+use mathlib.Core.List.{List}
 use Prim.Native.Nat.{ℕ, _*_, _%_, _<_}
 use lib.Bits.{bitXor}
 use lib.Dec.{eqb, ltb}
-use lib.ListN.{length, getD, replicate}
+use lib.ListN.{length, getD}
 use Rattle.algebra.specs.Field.{power}
 use Rattle.field.specs.Field.{Field, size, order, mul, numbers, Tr, position}
 
@@ -40,7 +40,3 @@ pub record Antilogs (F : Field) (antilogs : List ℕ) : Type 0 where
 pub record Powers (F : Field) (powers : List ℕ) : Type 0 where
   pub entries : length powers ≡ order F
   pub entry : (j : ℕ) → j < order F → getD powers j 0 ≡ power (numbers F) 2 j
-
--- the powers, the powers once more, and as many zeros
-unfoldable pub unrolled : List ℕ → List ℕ
-unrolled powers = powers ++ (powers ++ replicate (length powers) 0)

@@ -1,9 +1,9 @@
-// What the fields share: the reduction, the product, the square root, the position, the product by logs.
+// What the fields share: the reduction, the product, the square root, the position.
 ghost use mathlib.Core.Path.{_≡_};
 ghost use Prim.Native.Nat.{_<_, _/_, _^_};
-ghost use Rattle.refusals.specs.Rows.{Listed};
+ghost use Rattle.field.specs.Rows.{Listed};
 ghost use Rattle.field.specs.Field.{cut, mul, position, fieldOf};
-ghost use Rattle.field.specs.Tables.{Logs, Antilogs};
+ghost use Rattle.field.specs.Tables.{Logs};
 
 // The shared reduction: y, with the polynomial added where y has the polynomial's degree.
 pub fn cut(degree: u16, poly: u16, y: u32) -> u32
@@ -49,24 +49,4 @@ pub fn position_of(degree: u16, poly: u16, logs: &[u16], r: u16) -> u16
     ensures { λ j. ⌜ j ≡ position (fieldOf degree poly) r ⌝ }
 {
     logs[r as usize]
-}
-
-// The product over lent tables, for all numbers: elements by their logs, others digit by digit.
-pub fn times(degree: u16, poly: u16, logs: &[u16], antilogs: &[u16], a: u16, b: u16) -> u16
-    requires { ⌜ Listed degree poly
-        × Logs (fieldOf degree poly) (now logs)
-        × Antilogs (fieldOf degree poly) (now antilogs) ⌝ }
-    ensures { λ r. ⌜ r ≡ mul (fieldOf degree poly) a b ⌝ }
-{
-    if a == 0 {
-        return 0;
-    }
-    let i = a as usize;
-    let j = b as usize;
-    if i < logs.len() {
-        if j < logs.len() {
-            return antilogs[logs[i] as usize + logs[j] as usize];
-        }
-    }
-    product_of(degree, poly, a, product_of(degree, poly, b, 1))
 }

@@ -2,7 +2,7 @@
 // modulo the field's polynomial; r and s shrink, with no common divisor but 1, until r is 1, and then u is 1/a.
 ghost use mathlib.Core.Path.{_≡_};
 ghost use Prim.Native.Nat.{_<_, _^_};
-ghost use Rattle.refusals.specs.Rows.{Listed};
+ghost use Rattle.field.specs.Rows.{Listed};
 ghost use Rattle.field.specs.Field.{inverse, fieldOf};
 ghost use Rattle.field.specs.Division.{joinedOf, halvedOf};
 

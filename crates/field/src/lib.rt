@@ -2,6 +2,7 @@
 // reduced. Here is what the fields share, over the degree and the polynomial; the tables and the field types are in
 // the crate field_tables, the public calls in field_elements.
 
+pub mod rows; // the fields that there are: degree, polynomial, size
 pub mod arithmetic; // the reduction, the product, the square root, the position
 pub mod division; // the inverse
 pub mod solver; // the quadratic solver

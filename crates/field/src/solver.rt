@@ -1,18 +1,16 @@
 // The quadratic solver over a lent table of half-solutions.
 ghost use mathlib.Core.Path.{_≡_};
 ghost use Prim.Native.Nat.{_<_, _^_};
-ghost use Rattle.refusals.specs.Rows.{Listed};
+ghost use Rattle.field.specs.Rows.{Listed};
 ghost use Rattle.field.specs.Field.{fieldOf};
 ghost use Rattle.field.specs.Tables.{Halves};
-ghost use Rattle.field.specs.Quadratics.{paperRoots, rootsOfQuadratic};
+ghost use Rattle.field.specs.Quadratics.{rootsIn, rootsOfQuadratic};
 use crate::arithmetic::product_of;
 use crate::arithmetic::root_of;
 use crate::division::inverse_of;
-use refusals::Refusal;
 
-// The roots of a quadratic: none, one or two, the lower first; or what is turned away.
+// The roots of a quadratic: none, one or two, the lower first.
 pub enum Quadratic {
-    Refused(Refusal),
     NoRoot,
     One(u16),
     Two(u16, u16),
@@ -24,7 +22,7 @@ pub fn quadratic_of(degree: u16, poly: u16, halves: &[u16], a: u16, b: u16) -> Q
         × Halves (fieldOf degree poly) (now halves)
         × (a < 2 ^ degree)
         × (b < 2 ^ degree) ⌝ }
-    ensures { λ r. ⌜ paperRoots r ≡ (0, rootsOfQuadratic (fieldOf degree poly) a b) ⌝ }
+    ensures { λ r. ⌜ rootsIn r ≡ rootsOfQuadratic (fieldOf degree poly) a b ⌝ }
 {
     if a == 0 {
         return Quadratic::One(root_of(degree, poly, b));

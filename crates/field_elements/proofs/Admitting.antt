@@ -1,6 +1,5 @@
 -- The tests of the element calls: which refusal the code's tests show, and what is known where all pass.
 --   pair-outside, pair-in, pair-told   the tests on two elements
---   row-field                          the field of a row
 --   one-outside, one-zero, one-in, one-told   the tests on one element that must not be 0
 --   place-tests, place-told            the tests of a position
 -- Assumes nothing.
@@ -14,15 +13,15 @@ use borrow.Author.Tests.{le-leb, lt-leb, leb-false, eq-eqb, ne-eqb, eqb-false, n
 use lib.Dec.{eqb, leb, ltb}
 use Rattle.refusals.specs.Order.{Given, Passed}
 use Rattle.refusals.specs.Order.Passed.{none}
-use Rattle.refusals.specs.Rows.{known, IsRow}
+use Rattle.field.specs.Rows.{known, IsRow}
 use Rattle.refusals.specs.Admitting.{Admits, behind}
-use Rattle.refusals.specs.declared.Row.{Row}
+use Rattle.field.specs.declared.rows.Row.{Row}
 use Rattle.refusals.specs.declared.Refusal.the-variants.{Element, OfZero, Convention}
 use Rattle.refusals.specs.declared.Admission.{Admission}
 use Rattle.refusals.specs.declared.Admission.the-variants.{In}
 use Rattle.refusals.proofs.Order.{holds, fails, passes, failed, others}
-use Rattle.refusals.proofs.Admitting.{listed-on, admits-also}
-use Rattle.field.specs.Field.{fieldOf, fieldAt}
+use Rattle.refusals.proofs.Admitting.{admits-also}
+use Rattle.field.proofs.Known.{listed-on}
 use Rattle.field_elements.specs.Calls.{outside, pairTests, nonzeroTests, positionTests}
 
 outside-on : {m a : ℕ} {row : Row} → IsRow m row → row .size ≤ a → outside m a ≡ true
@@ -88,19 +87,19 @@ one-told {m} {a} p =
 -- ---- a position
 -- the tests behind that of the field, as the code makes them
 pub place-tests : {m : ℕ} (r v : ℕ) {row : Row} {told within all : Admission} → IsRow m row
-    → told ≡ behind (In row) (ltb 1 v) Convention
+    → told ≡ behind In (ltb 1 v) Convention
     → within ≡ behind told (leb (row .size) r) Element
     → all ≡ behind within (eqb r 0) OfZero
-    → Admits (positionTests m r v) m all
+    → Admits (positionTests m r v) all
 place-tests {m} r v {row} {told} {within} i f g h =
     let one : List (ℕ × Bool) = (1, not (known m)) ∷ [] in
     let two : List (ℕ × Bool) = (1, not (known m)) ∷ (21, ltb 1 v) ∷ [] in
     let three : List (ℕ × Bool) = (1, not (known m)) ∷ (21, ltb 1 v) ∷ (4, outside m r) ∷ [] in
     let size = ap (λ (n : ℕ). behind told (leb n r) Element) (i .size) in
-    let first : Admits one m (In row) = (passes (listed-on i) none, i) in
-    let second = admits-also one m (In row) (ltb 1 v) Convention f first in
-    let third = admits-also two m told (outside m r) Element (g ∙ size) second in
-    admits-also three m within (eqb r 0) OfZero h third
+    let first : Admits one In = passes (listed-on i) none in
+    let second = admits-also one In (ltb 1 v) Convention f first in
+    let third = admits-also two told (outside m r) Element (g ∙ size) second in
+    admits-also three within (eqb r 0) OfZero h third
 
 -- what is known of an element and a convention that were let in
 pub place-told : {m a : ℕ} (v : ℕ) → Passed (positionTests m a v) → OneIn m a
@@ -110,7 +109,3 @@ place-told {m} {a} v p =
       positive = let n = eqb-false a 0 (failed (others (others (others p)))) in omega arith;
       below = leb-false (2 ^ m) a (failed (others (others p)));
     }
-
--- the field of a row is that of its degree
-pub row-field : {m : ℕ} {row : Row} → IsRow m row → fieldOf m (row .poly) ≡ fieldAt m
-row-field {m} i = ap (fieldOf m) (sym (i .list .poly))

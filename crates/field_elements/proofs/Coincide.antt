@@ -8,12 +8,13 @@ use Prim.Native.Nat.{ℕ}
 use lib.ListN.{getD}
 use Rattle.refusals.proofs.Numbers.{by-number, refused-back, accepted-back}
 use Rattle.refusals.proofs.Told.{told}
-use Rattle.field.specs.Quadratics.{paperRoots}
-use Rattle.field_elements.specs.Calls.{paper, TellsProduct, TellsInverse, TellsPosition, TellsQuadratic}
+use Rattle.field_elements.specs.Calls.{paper, paperRoots, TellsProduct, TellsInverse, TellsPosition, TellsQuadratic}
 use Rattle.field_elements.specs.declared.Answer.{Answer}
 use Rattle.field_elements.specs.declared.Answer.the-variants.{Value, Refused}
 use Rattle.field.specs.declared.solver.Quadratic.{Quadratic}
-use Rattle.field.specs.declared.solver.Quadratic.the-variants.{Refused as Turned, NoRoot, One, Two}
+use Rattle.field.specs.declared.solver.Quadratic.the-variants.{NoRoot, One, Two}
+use Rattle.field_elements.specs.declared.Roots.{Roots}
+use Rattle.field_elements.specs.declared.Roots.the-variants.{Found, Refused as Turned}
 
 -- the answer that a number and values stand for
 answerOf : ℕ × List ℕ → Answer
@@ -32,17 +33,17 @@ rootsFrom [] = NoRoot
 rootsFrom (x ∷ []) = One x
 rootsFrom (x ∷ y ∷ l) = Two x y
 
-rootsAnswer : ℕ × List ℕ → Quadratic
-rootsAnswer o = by-number Turned (rootsFrom (o .1)) (o .0)
+rootsAnswer : ℕ × List ℕ → Roots
+rootsAnswer o = by-number Turned (Found (rootsFrom (o .1))) (o .0)
 
-roots-back : (r : Quadratic) → rootsAnswer (paperRoots r) ≡ r
+roots-back : (r : Roots) → rootsAnswer (paperRoots r) ≡ r
 unfolding rootsAnswer rootsFrom
-roots-back (Turned k) = refused-back Turned NoRoot k
-roots-back NoRoot = accepted-back Turned NoRoot
-roots-back (One x) = accepted-back Turned (One x)
-roots-back (Two x y) = accepted-back Turned (Two x y)
+roots-back (Turned k) = refused-back Turned (Found NoRoot) k
+roots-back (Found NoRoot) = accepted-back Turned (Found NoRoot)
+roots-back (Found (One x)) = accepted-back Turned (Found (One x))
+roots-back (Found (Two x y)) = accepted-back Turned (Found (Two x y))
 
-pub roots-told : (r s : Quadratic) → paperRoots r ≡ paperRoots s → r ≡ s
+pub roots-told : (r s : Roots) → paperRoots r ≡ paperRoots s → r ≡ s
 roots-told = told paperRoots rootsAnswer roots-back
 
 pub product-coincide : (m a b : ℕ) (r s : Answer) → TellsProduct m a b r → TellsProduct m a b s → r ≡ s
@@ -55,5 +56,5 @@ pub position-coincide : (m x convention : ℕ) (r s : Answer)
     → TellsPosition m x convention r → TellsPosition m x convention s → r ≡ s
 position-coincide m x convention r s h k = answer-told r s (h ∙ sym k)
 
-pub quadratic-coincide : (m a b : ℕ) (r s : Quadratic) → TellsQuadratic m a b r → TellsQuadratic m a b s → r ≡ s
+pub quadratic-coincide : (m a b : ℕ) (r s : Roots) → TellsQuadratic m a b r → TellsQuadratic m a b s → r ≡ s
 quadratic-coincide m a b r s h k = roots-told r s (h ∙ sym k)

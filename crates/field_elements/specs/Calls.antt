@@ -1,5 +1,5 @@
 -- What the public element calls answer, for every input (docs/RULES.md section 2; the order of refusals is RULES 8.2).
---   paper               the number and the value of an answer
+--   paper, paperRoots   the number and the values of an answer: a refusal's number, or 0 and the values
 --   pairTests, nonzeroTests, positionTests   the tests in their order, each behind its number
 --   positionUnder       the position of a root under a convention
 --   productOutcome ..   the outcome of each call: its tests and its value
@@ -12,16 +12,21 @@ use Prim.Native.Nat.{ℕ, _-_, _%_, _^_}
 use lib.Dec.{eqb, leb, ltb}
 use Rattle.refusals.specs.Order.{outcome}
 use Rattle.refusals.specs.Numbers.{numberOf}
-use Rattle.refusals.specs.Rows.{known}
+use Rattle.field.specs.Rows.{known}
 use Rattle.field.specs.Field.{Field, fieldAt, order, mul, inverse, position}
-use Rattle.field.specs.Quadratics.{paperRoots, rootsOfQuadratic}
-use Rattle.field.specs.declared.solver.Quadratic.{Quadratic}
+use Rattle.field.specs.Quadratics.{rootsIn, rootsOfQuadratic}
 use Rattle.field_elements.specs.declared.Answer.{Answer}
 use Rattle.field_elements.specs.declared.Answer.the-variants.{Value, Refused}
+use Rattle.field_elements.specs.declared.Roots.{Roots}
+use Rattle.field_elements.specs.declared.Roots.the-variants.{Found, Refused as Turned}
 
 abbrev pub paper : Answer → ℕ × List ℕ
 paper (Value v) = (0, v ∷ [])
 paper (Refused k) = (numberOf k, [])
+
+abbrev pub paperRoots : Roots → ℕ × List ℕ
+paperRoots (Found q) = (0, rootsIn q)
+paperRoots (Turned k) = (numberOf k, [])
 
 -- is a no element?
 abbrev pub outside : ℕ → ℕ → Bool
@@ -66,5 +71,5 @@ TellsInverse m a r = paper r ≡ inverseOutcome m a
 abbrev pub TellsPosition : ℕ → ℕ → ℕ → Answer → Type 0
 TellsPosition m x convention r = paper r ≡ positionOutcome m x convention
 
-abbrev pub TellsQuadratic : ℕ → ℕ → ℕ → Quadratic → Type 0
+abbrev pub TellsQuadratic : ℕ → ℕ → ℕ → Roots → Type 0
 TellsQuadratic m a b r = paperRoots r ≡ quadraticOutcome m a b

@@ -2,13 +2,15 @@
 ghost use Rattle.field_elements.specs.Calls.{TellsProduct, TellsInverse, TellsPosition, TellsQuadratic};
 ghost use Rattle.field_elements.specs.Calls.{pairTests, nonzeroTests, positionTests};
 ghost use Rattle.refusals.specs.Admitting.{Admits};
+use field::rows::Found;
+use field::rows::row_of;
+use field::rows::size_of;
 use field::solver::Quadratic;
 use field_tables::field_types::inverse_in;
 use field_tables::field_types::position_in;
 use field_tables::field_types::product_in;
 use field_tables::field_types::roots_in;
 use refusals::Admission;
-use refusals::Found;
 use refusals::Refusal;
 use refusals::also;
 
@@ -18,11 +20,17 @@ pub enum Answer {
     Refused(Refusal),
 }
 
+// What the quadratic call answers: the roots, or what is turned away.
+pub enum Roots {
+    Found(Quadratic),
+    Refused(Refusal),
+}
+
 // The tests of the calls on two elements.
 fn admit_pair(m: u16, a: u16, b: u16) -> Admission
-    ensures { λ r. ⌜ Admits (pairTests m a b) m r ⌝ }
+    ensures { λ r. ⌜ Admits (pairTests m a b) r ⌝ }
 {
-    let found = refusals::row_of(m);
+    let found = row_of(m);
     let Found::At(row) = found else {
         return Admission::Out(Refusal::Field);
     };
@@ -32,14 +40,14 @@ fn admit_pair(m: u16, a: u16, b: u16) -> Admission
     if row.size <= b {
         return Admission::Out(Refusal::Element);
     }
-    Admission::In(row)
+    Admission::In
 }
 
 // The tests of the calls on one element that must not be 0.
 fn admit_nonzero(m: u16, a: u16) -> Admission
-    ensures { λ r. ⌜ Admits (nonzeroTests m a) m r ⌝ }
+    ensures { λ r. ⌜ Admits (nonzeroTests m a) r ⌝ }
 {
-    let found = refusals::row_of(m);
+    let found = row_of(m);
     let Found::At(row) = found else {
         return Admission::Out(Refusal::Field);
     };
@@ -49,7 +57,7 @@ fn admit_nonzero(m: u16, a: u16) -> Admission
     if a == 0 {
         return Admission::Out(Refusal::OfZero);
     }
-    Admission::In(row)
+    Admission::In
 }
 
 // The product of a and b in the field of degree m.
@@ -58,7 +66,7 @@ pub fn product(m: u16, a: u16, b: u16) -> Answer
 {
     match admit_pair(m, a, b) {
         Admission::Out(k) => Answer::Refused(k),
-        Admission::In(_) => Answer::Value(product_in(m, a, b)),
+        Admission::In => Answer::Value(product_in(m, a, b)),
     }
 }
 
@@ -68,20 +76,20 @@ pub fn inverse(m: u16, a: u16) -> Answer
 {
     match admit_nonzero(m, a) {
         Admission::Out(k) => Answer::Refused(k),
-        Admission::In(_) => Answer::Value(inverse_in(m, a)),
+        Admission::In => Answer::Value(inverse_in(m, a)),
     }
 }
 
 // The tests of the position call, each behind those before it.
 fn admit_position(m: u16, r: u16, convention: u16) -> Admission
-    ensures { λ a. ⌜ Admits (positionTests m r convention) m a ⌝ }
+    ensures { λ a. ⌜ Admits (positionTests m r convention) a ⌝ }
 {
-    let found = refusals::row_of(m);
+    let found = row_of(m);
     let Found::At(row) = found else {
         return Admission::Out(Refusal::Field);
     };
     let size = row.size;
-    let told = also(Admission::In(row), 1 < convention, Refusal::Convention);
+    let told = also(Admission::In, 1 < convention, Refusal::Convention);
     let within = also(told, size <= r, Refusal::Element);
     also(within, r == 0, Refusal::OfZero)
 }
@@ -94,12 +102,12 @@ pub fn position(m: u16, r: u16, convention: u16) -> Answer
 {
     match admit_position(m, r, convention) {
         Admission::Out(k) => Answer::Refused(k),
-        Admission::In(row) => {
+        Admission::In => {
             let j = position_in(m, r);
             if convention == 0 {
                 return Answer::Value(j);
             }
-            let size = row.size;
+            let size = size_of(m);
             let order = size - 1;
             Answer::Value((order - j) % order)
         }
@@ -107,11 +115,11 @@ pub fn position(m: u16, r: u16, convention: u16) -> Answer
 }
 
 // The roots of z^2 + az + b in the field of degree m.
-pub fn quadratic(m: u16, a: u16, b: u16) -> Quadratic
+pub fn quadratic(m: u16, a: u16, b: u16) -> Roots
     ensures { λ r. ⌜ TellsQuadratic m a b r ⌝ }
 {
     match admit_pair(m, a, b) {
-        Admission::Out(k) => Quadratic::Refused(k),
-        Admission::In(_) => roots_in(m, a, b),
+        Admission::Out(k) => Roots::Refused(k),
+        Admission::In => Roots::Found(roots_in(m, a, b)),
     }
 }

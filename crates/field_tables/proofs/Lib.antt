@@ -1,3 +1,1 @@
-pub mod Copies
-pub mod Unrolling
 pub mod Printed

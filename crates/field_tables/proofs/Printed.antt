@@ -7,8 +7,8 @@ use mathlib.Core.List.{List, [], _∷_, _++_}
 use Prim.Native.Nat.{ℕ, _<_}
 use lib.ListN.{replicate}
 use lib.Seq.{ext-getD}
-use Rattle.refusals.specs.Rows.{polyIn}
-use Rattle.refusals.proofs.Rows.{row4}
+use Rattle.field.specs.Rows.{polyIn}
+use Rattle.field.proofs.Known.{row4}
 use Rattle.field.specs.Field.{fieldAt}
 use Rattle.field.specs.Tables.{Halves}
 use Rattle.field.proofs.Generator.{generated}

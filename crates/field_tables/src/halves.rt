@@ -1,6 +1,9 @@
 // The quadratic tables (tools/tables.py makes them): at i the even j with j^2 + j = i, or 65535 where Tr(i) = 1.
+use crate::constants::SIZE4;
+use crate::constants::SIZE8;
+use crate::constants::SIZE11;
 
-pub const HALF4: [u16; 16] = [
+pub const HALF4: [u16; SIZE4] = [
     0,
     6,
     10,
@@ -19,7 +22,7 @@ pub const HALF4: [u16; 16] = [
     65535,
 ];
 
-pub const HALF8: [u16; 256] = [
+pub const HALF8: [u16; SIZE8] = [
     0,
     214,
     232,
@@ -278,7 +281,7 @@ pub const HALF8: [u16; 256] = [
     65535,
 ];
 
-pub const HALF11: [u16; 2048] = [
+pub const HALF11: [u16; SIZE11] = [
     0,
     65535,
     72,

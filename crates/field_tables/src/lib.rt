@@ -1,8 +1,8 @@
-// The constant tables of each field, the field types over them, and their lending. A table is named in one function and nowhere else: a constant
-// array is built anew wherever it is named, and each naming is proved entry by entry.
+// The constant tables of each field, by value, and the field types over them. A table is named in one function and
+// nowhere else: a constant array is built anew wherever it is named, and each naming is proved entry by entry.
 
+mod antilogs; // the antilogs
 mod halves; // the quadratic tables
 mod logtables; // the logs and the powers
 pub mod constants; // each of these, with what it holds
 pub mod field_types; // the field types
-pub mod lending; // tables lent to inner calls

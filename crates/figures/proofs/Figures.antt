@@ -18,24 +18,24 @@ use Rattle.algebra.specs.Polynomial.{mul as polyMul}
 use Rattle.algebra.specs.Routines.{digit, shiftIn, rem, quo, norm, cofactor, monicRoots, euclid, gcd}
 use Rattle.algebra.proofs.RootList.{rootsOf-top, rootsOf-pair, other-root}
 use Rattle.refusals.specs.Order.{decide}
-use Rattle.refusals.specs.Rows.{knownIn, polyIn}
-use Rattle.refusals.proofs.Rows.{listed}
+use Rattle.field.specs.Rows.{knownIn, polyIn}
+use Rattle.field.proofs.Known.{listed}
 use Rattle.slices.specs.Bounded.{allBelow}
-use Rattle.field.specs.Field.{mul, inverse, numbers, fieldAt}
+use Rattle.field.specs.Field.{mul, inverse, rootsAt, G}
 use Rattle.field.proofs.Instance.{known-numbers}
 use Rattle.table_rules.specs.Cutoff.{inForceBy}
 use Rattle.table_rules.specs.Entries.{unlessEmpty, parts, splitAt, firstAbove, done, step, steps}
 use Rattle.table_rules.specs.Groups.{words, groupsAt, groupCount, sumBelow, agrees}
 use Rattle.table_rules.specs.Layout.{blocks, readBlocks, restBlocks}
 use Rattle.table_rules.specs.Table.{encode, decode}
-use Rattle.table_rules.specs.Splitting.{isDone, rootsAt, slotsBegun, slotsStepped, slotsAfter}
+use Rattle.table_rules.specs.Splitting.{isDone, slotsBegun, slotsStepped, slotsAfter}
 use Rattle.table_rules.specs.Demand.{stepCount, groupsAfter}
 use Rattle.table_rules.proofs.Demand.{demand-3, steps-to-done}
 use Rattle.find_solve.specs.Calls.{solveOutcome}
 use Rattle.figures.specs.Figures.{Figure, Right, StartsWith, figures, accepted, refused, values, afterSteps}
 
 -- ---- field 11: z^2 + z, with a zero at the top. Its roots are 0 and 1, as it is 0 at 0 and the other root is 0 + 1
-known-11 : OnNumbers (numbers (fieldAt 11)) (2 ^ 11)
+known-11 : OnNumbers (G 11) (2 ^ 11)
 unfolding knownIn
 known-11 = known-numbers (listed 11 refl)
 

@@ -16,7 +16,8 @@ use lib.ListN.{length, replicate}
 use Rattle.algebra.specs.Trial.{All}
 use Rattle.table_rules.specs.Cutoff.{inForce}
 use Rattle.table_rules.specs.Layout.{byFactor}
-use Rattle.table_rules.specs.Splitting.{rootsAt, slotsBegun, slotsAfter}
+use Rattle.field.specs.Field.{rootsAt}
+use Rattle.table_rules.specs.Splitting.{slotsBegun, slotsAfter}
 use Rattle.table_rules.specs.Limit.{slots}
 use Rattle.find_solve.specs.Calls.{solveOutcome}
 

@@ -1,16 +1,20 @@
 // Which polynomials and cutoffs are let in, and which cutoff is in force (docs/RULES.md sections 3.1, 3.2 and 8.3).
-// Every call that takes a polynomial begins here.
+// Every call that takes a polynomial begins here, and so does the reader of records.
 ghost use mathlib.Core.Path.{_≡_};
 ghost use mathlib.Core.List.{[], _∷_};
 ghost use lib.Dec.{ltb};
+ghost use lib.ListN.{length};
 ghost use Rattle.refusals.specs.Admitting.{Admits};
-ghost use Rattle.table_rules.specs.Cutoff.{inForce};
+ghost use Rattle.table_rules.specs.Cutoff.{highestCutoff, inForce};
 ghost use Rattle.table_rules.specs.Polynomials.{polynomialTests};
+ghost use Rattle.find_admit.specs.Values.{Measured, valueTests};
+use field::rows::Found;
+use field::rows::row_of;
 use refusals::Admission;
-use refusals::Found;
 use refusals::Refusal;
 use refusals::also;
 use table_rules::COEFFICIENTS;
+use table_rules::HIGHEST_CUTOFF;
 use table_rules::HOUSE_DEFAULT;
 
 // The cutoff in force.
@@ -23,41 +27,71 @@ pub fn in_force(cutoff: u16) -> u16
     cutoff
 }
 
-// Refusals 1 to 5, of a field degree and a polynomial's coefficients.
-pub fn admit_polynomial(m: u16, coeffs: &[u16]) -> Admission
-    ensures { λ r. ⌜ Admits (polynomialTests m (now (coeffs .entry)) []) m r ⌝ }
+// Refusals 1 to 5, of a field degree, the number of coefficients and the largest of them.
+fn admit_values(m: u16, n: usize, top: u16) -> Admission
+    ensures { λ r. ⌜ Admits (valueTests m n top []) r ⌝ }
 {
-    let found = refusals::row_of(m);
+    let found = row_of(m);
     let Found::At(row) = found else {
         return Admission::Out(Refusal::Field);
     };
-    let n = coeffs.len();
     if n == 0 {
         return Admission::Out(Refusal::Empty);
     }
     if COEFFICIENTS < n {
         return Admission::Out(Refusal::Long);
     }
-    if slices::any_from(coeffs, row.size) {
+    if row.size <= top {
         return Admission::Out(Refusal::Element);
     }
-    if slices::all_zero(coeffs) {
+    if top == 0 {
         return Admission::Out(Refusal::AllZero);
     }
-    Admission::In(row)
+    Admission::In
 }
 
-// Refusals 1 to 5 and 7, of these and of lent slots that are too few.
+// Refusals 1 to 6, of these and a cutoff: what the whole call, begin and the reader of records ask.
+pub fn admit_call(m: u16, n: usize, top: u16, cutoff: u16) -> Admission
+    ensures { λ r. ⌜ Admits (valueTests m n top ((6, ltb highestCutoff cutoff) ∷ [])) r ⌝ }
+{
+    let above = HIGHEST_CUTOFF < cutoff;
+    also(admit_values(m, n, top), above, Refusal::Cutoff)
+}
+
+// The largest of a polynomial's coefficients; 0 where there are too many.
+fn largest(coeffs: &[u16]) -> u16
+    ensures { λ r. ⌜ Measured (now (coeffs .entry)) (length (now (coeffs .entry))) r ⌝ }
+{
+    if COEFFICIENTS < coeffs.len() {
+        return 0;
+    }
+    let mut top = 0;
+    let mut k = 0;
+    while k < coeffs.len() {
+        let c = coeffs[k];
+        if top < c {
+            top = c;
+        }
+        k += 1;
+    }
+    top
+}
+
+// Refusals 1 to 5 and 7, of a polynomial and of lent slots that are too few.
 pub fn admit_room(m: u16, coeffs: &[u16], short: bool) -> Admission
-    ensures { λ r. ⌜ Admits (polynomialTests m (now (coeffs .entry)) ((7, short) ∷ [])) m r ⌝ }
+    ensures { λ r. ⌜ Admits (polynomialTests m (now (coeffs .entry)) ((7, short) ∷ [])) r ⌝ }
 {
-    also(admit_polynomial(m, coeffs), short, Refusal::Room)
+    also(
+        admit_values(m, coeffs.len(), largest(coeffs)),
+        short,
+        Refusal::Room,
+    )
 }
 
-// Refusals 1 to 7, of these, a cutoff, and lent slots that are too few or not as many as they must be.
+// Refusals 1 to 7, of a polynomial, a cutoff, and lent slots that are too few or not as many as they must be.
 pub fn admit(m: u16, coeffs: &[u16], cutoff: u16, short: bool) -> Admission
-    ensures { λ r. ⌜ Admits (polynomialTests m (now (coeffs .entry)) ((6, ltb 3 cutoff) ∷ (7, short) ∷ [])) m r ⌝ }
+    ensures { λ r. ⌜ Admits (polynomialTests m (now (coeffs .entry)) ((6, ltb highestCutoff cutoff) ∷ (7, short) ∷ [])) r ⌝ }
 {
-    let found = also(admit_polynomial(m, coeffs), 3 < cutoff, Refusal::Cutoff);
+    let found = admit_call(m, coeffs.len(), largest(coeffs), cutoff);
     also(found, short, Refusal::Room)
 }

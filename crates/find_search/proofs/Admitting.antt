@@ -1,59 +1,30 @@
 -- What is known of what the plain search lets in.
---   letIn-in     what is known of the polynomial;  letIn-fits  of the size of the field
---   searchable   with the tables lent, the elements can be tried
---   letIn-eleven, planed   in a field of more than 256 elements, which is field 11
+--   search-room   the list of what was let in has room for the limit;  roots-room  and so for every root
+--   searchable    in the arm of the field of degree n, with its tables lent, the elements can be tried
 -- Assumes nothing.
-use mathlib.Core.Path.{_≡_, ap, subst}
-use mathlib.Core.List.{List}
-use Prim.Native.Nat.{ℕ, _-_, _*_, _^_, _≤_, _<_}
+use mathlib.Core.Path.{_≡_}
+use mathlib.Core.List.{List, [], _∷_}
+use Prim.Native.Nat.{ℕ, _≤_}
 use native.Mathlib.Omega.{arith}
 use borrow.Author.Tests.{ltb-false}
-use lib.Pow.{pow-pos}
-use lib.ListN.{length, take}
+use lib.Dec.{ltb}
+use lib.ListN.{length}
+use Rattle.refusals.specs.Order.{Passed}
 use Rattle.refusals.proofs.Order.{failed}
-use Rattle.refusals.proofs.Rows.{last-row}
-use Rattle.algebra.specs.Polynomial.{Below}
-use Rattle.table_rules.specs.Splitting.{rootsAt}
-use Rattle.field.specs.Field.{fieldAt}
+use Rattle.field.specs.Field.{fieldAt, rootsAt}
 use Rattle.field.specs.Tables.{Logs, Antilogs}
 use Rattle.table_rules.specs.Limit.{limit}
-use Rattle.table_rules.specs.Polynomials.{PolynomialIn}
-use Rattle.table_rules.proofs.Polynomials.{polynomial-told, roots-few, passed-rest}
-use Rattle.poly.proofs.Lending.{logs-room, lent-is}
-use Rattle.find_search.specs.Searching.{Searchable, LetIn, Planed}
+use Rattle.table_rules.specs.Polynomials.{polynomialTests, PolynomialIn}
+use Rattle.table_rules.proofs.Polynomials.{roots-few, passed-rest}
+use Rattle.poly.proofs.Lending.{lent-at}
+use Rattle.find_search.specs.Searching.{Searchable}
 
-module _ {m size : ℕ} {f roots : List ℕ} (g : LetIn m size f roots) where
-  -- the polynomial
-  pub letIn-in : PolynomialIn m f
-  letIn-in = polynomial-told m f (g .passed)
+pub search-room : (m : ℕ) (f roots : List ℕ) → Passed (polynomialTests m f ((7, ltb (length roots) limit) ∷ [])) → limit ≤ length roots
+search-room m f roots h = ltb-false (length roots) limit (failed (passed-rest m f h))
 
-  -- the size of the field
-  pub letIn-fits : (1 ≤ size) × (size ≤ 2048)
-  letIn-fits = (omega (arith, pow-pos m, g .elements), omega (arith, logs-room m (letIn-in .field), g .elements))
+pub roots-room : {m n : ℕ} {f : List ℕ} → PolynomialIn m f → limit ≤ n → length (rootsAt m f) ≤ n
+roots-room p h = omega (arith, roots-few p)
 
-  -- with the tables lent, the elements can be tried
-  pub searchable : (x y : List ℕ) → Logs (fieldAt m) (take (2 ^ m) x) → Antilogs (fieldAt m) (take (3 * (2 ^ m - 1)) y)
-      → Searchable m (take size x) (take (3 * (size - 1)) y) f roots
-  searchable x y a b = record {
-    tables = lent-is m (letIn-in .field) x y (g .elements) a b;
-    small = letIn-in .small;
-    room = omega (arith, roots-few letIn-in, ltb-false (length roots) limit (failed (passed-rest m f (g .passed))));
-  }
-
-  -- more than 256 elements: field 11
-  pub letIn-eleven : 256 < size → m ≡ 11
-  letIn-eleven h = last-row m (letIn-in .field) (λ e. few (ap (λ (n : ℕ). 2 ^ n) e)) (λ e. few′ (ap (λ (n : ℕ). 2 ^ n) e))
-    where
-      few : 2 ^ m ≡ 16 → ⊥
-      few e = omega (arith, g .elements)
-
-      few′ : 2 ^ m ≡ 256 → ⊥
-      few′ e = omega (arith, g .elements)
-
-  pub planed : 256 < size → Planed f roots
-  planed h = record {
-    small = subst (λ (n : ℕ). Below (2 ^ n) f) (letIn-eleven h) (letIn-in .small);
-    some = letIn-in .some;
-    few = letIn-in .few;
-    room = subst (λ (n : ℕ). length (rootsAt n f) ≤ length roots) (letIn-eleven h) (omega (arith, roots-few letIn-in, ltb-false (length roots) limit (failed (passed-rest m f (g .passed)))));
-  }
+pub searchable : {m n : ℕ} {f ls ts roots : List ℕ} → PolynomialIn m f → limit ≤ length roots → m ≡ n → Logs (fieldAt n) ls → Antilogs (fieldAt n) ts
+    → Searchable m f ls ts roots
+searchable p r e l a = record { polynomial = p; tables = lent-at e (p .field) l a; room = r }

@@ -15,10 +15,9 @@ use lib.Dec.{lit≤}
 use lib.ListN.{length, drop, set, length-append, length-set}
 use Rattle.algebra.specs.Trial.{upFrom, keep}
 use Rattle.algebra.specs.Polynomial.{eval, rootsOf}
-use Rattle.refusals.proofs.Rows.{by-row, listed}
-use Rattle.field.specs.Field.{numbers, fieldAt}
+use Rattle.field.proofs.Known.{by-row, listed}
+use Rattle.field.specs.Field.{rootsAt, G}
 use Rattle.slices.specs.Lists.{copied}
-use Rattle.table_rules.specs.Splitting.{rootsAt}
 use Rattle.poly.specs.Lent.{Lent}
 use Rattle.find_search.specs.Searching.{SearchedOut, test, below, Tried, Noted}
 
@@ -93,21 +92,21 @@ pub tried-moved : {m : ℕ} {f roots s r : List ℕ} {x k j : ℕ} → Tried m f
 tried-moved h e g = rw (e, g) h
 
 -- a root found has its slot, as all roots have
-pub tried-room : {m : ℕ} {f roots roots′ : List ℕ} {x k : ℕ} → Tried m f roots x k roots′ → x < 2 ^ m → eval (numbers (fieldAt m)) f x ≡ 0
+pub tried-room : {m : ℕ} {f roots roots′ : List ℕ} {x k : ℕ} → Tried m f roots x k roots′ → x < 2 ^ m → eval (G m) f x ≡ 0
     → length (rootsAt m f) ≤ length roots → k < length roots
 unfolding rootsOf
 tried-room {m} {f} {roots} {x = x} {k = k} h l z r =
     let d : ℕ = 2 ^ m - suc x in
-    let hit : length (below m f (suc x)) ≡ suc k = ap length (kept-hit (test m f) x (eq-eqb (eval (numbers (fieldAt m)) f x) 0 z)) ∙ length-append (below m f x) (x ∷ []) ∙ (let c = h .count in omega arith) in
+    let hit : length (below m f (suc x)) ≡ suc k = ap length (kept-hit (test m f) x (eq-eqb (eval (G m) f x) 0 z)) ∙ length-append (below m f x) (x ∷ []) ∙ (let c = h .count in omega arith) in
     let more = kept-grows (test m f) (suc x) d in
     let all : suc x + d ≡ 2 ^ m = omega arith in
     let most : length (below m f (suc x)) ≤ length (keep (test m f) (upFrom 0 (2 ^ m))) = subst (λ (n : ℕ). length (below m f (suc x)) ≤ length (keep (test m f) (upFrom 0 n))) all more in
     omega arith
 
-pub tried-hit : {m : ℕ} {f roots roots′ : List ℕ} {x k : ℕ} → Tried m f roots x k roots′ → x < 2 ^ m → eval (numbers (fieldAt m)) f x ≡ 0 → k < length roots
+pub tried-hit : {m : ℕ} {f roots roots′ : List ℕ} {x k : ℕ} → Tried m f roots x k roots′ → x < 2 ^ m → eval (G m) f x ≡ 0 → k < length roots
     → Tried m f roots (x + 1) (k + 1) (set roots′ k x)
 tried-hit {m} {f} {roots} {roots′} {x} {k} h l z r =
-    let hit = kept-hit (test m f) x (eq-eqb (eval (numbers (fieldAt m)) f x) 0 z) in
+    let hit = kept-hit (test m f) x (eq-eqb (eval (G m) f x) 0 z) in
     record {
       within = omega arith;
       count = ap (λ (n : ℕ). n + 1) (h .count) ∙ sym (ap (λ (n : ℕ). length (below m f n)) (add-one x) ∙ ap length hit ∙ length-append (below m f x) (x ∷ []));
@@ -119,10 +118,10 @@ tried-hit {m} {f} {roots} {roots′} {x} {k} h l z r =
       fewer = let w = h .fewer in omega arith;
     }
 
-pub tried-miss : {m : ℕ} {f roots roots′ : List ℕ} {x k : ℕ} → Tried m f roots x k roots′ → x < 2 ^ m → (eval (numbers (fieldAt m)) f x ≡ 0 → ⊥)
+pub tried-miss : {m : ℕ} {f roots roots′ : List ℕ} {x k : ℕ} → Tried m f roots x k roots′ → x < 2 ^ m → (eval (G m) f x ≡ 0 → ⊥)
     → Tried m f roots (x + 1) k roots′
 tried-miss {m} {f} {roots} {roots′} {x} {k} h l z =
-    let miss = kept-miss (test m f) x (ne-eqb (eval (numbers (fieldAt m)) f x) 0 z) in
+    let miss = kept-miss (test m f) x (ne-eqb (eval (G m) f x) 0 z) in
     record {
       within = omega arith;
       count = h .count ∙ sym (ap (λ (n : ℕ). length (below m f n)) (add-one x) ∙ ap length miss);
@@ -142,7 +141,7 @@ tried-end {m} {f} {roots} {x = x} h l =
 
 -- ---- an element noted
 
-pub tried-note : {m : ℕ} {f roots r r′ : List ℕ} {x k k′ v : ℕ} → Tried m f roots x k r → x < 2 ^ m → v ≡ eval (numbers (fieldAt m)) f x
+pub tried-note : {m : ℕ} {f roots r r′ : List ℕ} {x k k′ v : ℕ} → Tried m f roots x k r → x < 2 ^ m → v ≡ eval (G m) f x
     → length (rootsAt m f) ≤ length roots → Noted v x k r k′ r′ → Tried m f roots (x + 1) k′ r′
 tried-note {m} {f} {roots} {r′ = r′} {x} {k′ = k′} {v = v} h l e room n = go (ℕ-discrete v 0)
   where
@@ -151,7 +150,7 @@ tried-note {m} {f} {roots} {r′ = r′} {x} {k′ = k′} {v = v} h l e room n 
     go (no z) = tried-moved (tried-miss h l (λ y. z (e ∙ y))) (n .miss z .0) (n .miss z .1)
 
 -- where a root is found there is room for it
-pub note-room : {m : ℕ} {f roots r : List ℕ} {x k v : ℕ} → Tried m f roots x k r → x < 2 ^ m → v ≡ eval (numbers (fieldAt m)) f x
+pub note-room : {m : ℕ} {f roots r : List ℕ} {x k v : ℕ} → Tried m f roots x k r → x < 2 ^ m → v ≡ eval (G m) f x
     → length (rootsAt m f) ≤ length roots → v ≡ 0 → k < length r
 note-room h l e room z = let r = tried-room h l (sym e ∙ z) room in let g = h .long in omega arith
 

@@ -16,9 +16,8 @@ use lib.Bits.{bitXor, xor-lt}
 use lib.Count.{trailingZeros, under}
 use lib.ListN.{length, set}
 use Rattle.algebra.specs.Polynomial.{eval}
-use Rattle.field.specs.Field.{numbers, fieldAt}
+use Rattle.field.specs.Field.{rootsAt, G}
 use Rattle.field.proofs.Digits.{bit-cases}
-use Rattle.table_rules.specs.Splitting.{rootsAt}
 use Rattle.poly_values.specs.Planes.{occupied, wordsAt, taps11}
 use Rattle.poly_values.specs.Tables.{Values}
 use Rattle.poly_values.proofs.Finishing.{free-hit, free-miss}
@@ -54,11 +53,11 @@ tz-odd (suc d) q h k = go (q % 2) refl (λ p. tz-odd d (q / 2) p (omega (arith, 
 -- ---- elements that are no roots
 
 pub tried-skip : {m : ℕ} {f roots r : List ℕ} {x k : ℕ} (d : ℕ) → Tried m f roots x k r → x + d ≤ 2 ^ m
-    → ((j : ℕ) → j < d → eval (numbers (fieldAt m)) f (x + j) ≡ 0 → ⊥) → Tried m f roots (x + d) k r
+    → ((j : ℕ) → j < d → eval (G m) f (x + j) ≡ 0 → ⊥) → Tried m f roots (x + d) k r
 tried-skip {x = x} zero h l z = tried-next h (add-zero x)
 tried-skip {m} {f} {x = x} (suc d) h l z =
-    tried-next (tried-skip d (tried-miss h (omega arith) (λ e. z 0 (omega arith) (ap (λ (i : ℕ). eval (numbers (fieldAt m)) f i) (add-zero x) ∙ e))) (omega arith)
-    (λ j k e. z (suc j) (omega arith) (ap (λ (i : ℕ). eval (numbers (fieldAt m)) f i) (omega arith) ∙ e))) (omega arith)
+    tried-next (tried-skip d (tried-miss h (omega arith) (λ e. z 0 (omega arith) (ap (λ (i : ℕ). eval (G m) f i) (add-zero x) ∙ e))) (omega arith)
+    (λ j k e. z (suc j) (omega arith) (ap (λ (i : ℕ). eval (G m) f i) (omega arith) ∙ e))) (omega arith)
 
 -- ---- the loop
 
@@ -110,12 +109,12 @@ module _ {f roots : List ℕ} {free x k : ℕ} (w : Wordable f free x k roots) w
         tried-skip (trailingZeros 64 rest) (i .tried) (omega (arith, found, i .place, w .within))
         (λ j h e. w .digits .miss (i .read + j) (omega (arith, found))
         (ap (λ (r : ℕ). r % 2) (sym (digit-left (i .read) j)) ∙ ap (λ (r : ℕ). r / 2 ^ j % 2) (sym (i .left)) ∙ tz-below 64 rest j h)
-        (ap (λ (y : ℕ). eval (numbers (fieldAt 11)) f y) (omega (arith, i .place)) ∙ e))
+        (ap (λ (y : ℕ). eval (G 11) f y) (omega (arith, i .place)) ∙ e))
 
-    root : eval (numbers (fieldAt 11)) f (at + trailingZeros 64 rest) ≡ 0
+    root : eval (G 11) f (at + trailingZeros 64 rest) ≡ 0
     unfolding t
     root =
-        ap (λ (y : ℕ). eval (numbers (fieldAt 11)) f y) (omega (arith, i .place))
+        ap (λ (y : ℕ). eval (G 11) f y) (omega (arith, i .place))
         ∙ w .digits .hit (i .read + t) found (ap (λ (r : ℕ). r % 2) (sym (digit-left (i .read) t)) ∙ ap (λ (r : ℕ). r / 2 ^ t % 2) (sym (i .left)) ∙ odd)
 
     pub room-here : n < length roots′
@@ -141,7 +140,7 @@ module _ {f roots : List ℕ} {free x k : ℕ} (w : Wordable f free x k roots) w
       tried-next (tried-skip (64 - i .read) (i .tried) (omega (arith, i .place, i .within, w .within))
       (λ j h z. w .digits .miss (i .read + j) (omega (arith, i .within))
       (ap (λ (r : ℕ). r % 2) (sym (digit-left (i .read) j)) ∙ ap (λ (r : ℕ). r / 2 ^ j % 2) (sym (i .left) ∙ e) ∙ ap (λ (r : ℕ). r % 2) (div-eq-of-lt (pow-pos j)))
-      (ap (λ (y : ℕ). eval (numbers (fieldAt 11)) f y) (omega (arith, i .place)) ∙ z))) (sym d)
+      (ap (λ (y : ℕ). eval (G 11) f y) (omega (arith, i .place)) ∙ z))) (sym d)
 
 -- ---- the word of the lanes that are 0
 

@@ -13,7 +13,7 @@ use lib.ListN.{length}
 use Rattle.refusals.specs.Order.{outcome, Answers}
 use Rattle.refusals.specs.Numbers.{numberOf}
 use Rattle.slices.specs.Lists.{copied}
-use Rattle.table_rules.specs.Splitting.{rootsAt}
+use Rattle.field.specs.Field.{rootsAt}
 use Rattle.table_rules.specs.Limit.{limit}
 use Rattle.table_rules.specs.Polynomials.{polynomialTests}
 use Rattle.find_search.specs.declared.Searched.{Searched}

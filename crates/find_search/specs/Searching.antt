@@ -1,45 +1,37 @@
 -- The plain search over lent tables.
---   Searchable   what it may take for granted: the tables, coefficients below 2^m, and room for every root
+--   Searchable   what it may take for granted: a polynomial that was let in, the tables, and room for every root
 --   SearchedOut  what it leaves: the roots at the front of the list, ascending, and their number
---   LetIn        what passed the search's tests, in a field of `size` elements
 --   below        the roots below x
 --   Tried        the elements below x were tried: their roots stand at the front of the list, and k is their number
 --   Noted        an element x with the value v was noted: a root goes behind the k that stand there
 --   Free         the set digits of a word are the roots among the 64 elements from x on
---   Wordable     what noting a word may take for granted;  Planed  the search in field 11
+--   Wordable     what noting a word may take for granted
 -- Assumes nothing.
 use mathlib.Core.Path.{_≡_}
 use mathlib.Core.Bool.{Bool}
-use mathlib.Core.List.{List, [], _∷_}
+use mathlib.Core.List.{List}
 use Prim.Native.Nat.{ℕ, _+_, _/_, _%_, _^_, _≤_, _<_}
-use lib.Dec.{ltb}
 use lib.ListN.{length, set}
-use Rattle.refusals.specs.Order.{Passed}
 use Rattle.algebra.specs.Trial.{keep, upFrom}
-use Rattle.algebra.specs.Polynomial.{Below, eval, isRoot}
-use Rattle.field.specs.Field.{numbers, fieldAt}
+use Rattle.algebra.specs.Polynomial.{eval, isRoot}
+use Rattle.field.specs.Field.{rootsAt, G}
 use Rattle.slices.specs.Lists.{copied}
-use Rattle.table_rules.specs.Splitting.{rootsAt}
 use Rattle.poly.specs.Lent.{Lent}
 use Rattle.table_rules.specs.Limit.{limit}
-use Rattle.table_rules.specs.Polynomials.{polynomialTests}
+use Rattle.table_rules.specs.Polynomials.{PolynomialIn}
 
-pub record Searchable (m : ℕ) (ls ts f roots : List ℕ) : Type 0 where
+pub record Searchable (m : ℕ) (f ls ts roots : List ℕ) : Type 0 where
+  pub polynomial : PolynomialIn m f
   pub tables : Lent m ls ts
-  pub small : Below (2 ^ m) f
-  pub room : length (rootsAt m f) ≤ length roots
+  pub room : limit ≤ length roots
 
 pub record SearchedOut (m : ℕ) (f roots : List ℕ) (k : ℕ) (roots′ : List ℕ) : Type 0 where
   pub count : k ≡ length (rootsAt m f)
   pub slots : roots′ ≡ copied (rootsAt m f) roots
 
-pub record LetIn (m size : ℕ) (f roots : List ℕ) : Type 0 where
-  pub passed : Passed (polynomialTests m f ((7, ltb (length roots) limit) ∷ []))
-  pub elements : size ≡ 2 ^ m
-
 -- is f 0 at x?
 abbrev pub test : ℕ → List ℕ → ℕ → Bool
-test m f = isRoot (numbers (fieldAt m)) f
+test m f = isRoot (G m) f
 
 abbrev pub below : ℕ → List ℕ → ℕ → List ℕ
 below m f x = keep (test m f) (upFrom 0 x)
@@ -57,17 +49,11 @@ pub record Noted (v x k : ℕ) (roots : List ℕ) (k′ : ℕ) (roots′ : List 
 
 pub record Free (f : List ℕ) (x free : ℕ) : Type 0 where
   pub small : free < 2 ^ 64
-  pub hit : (l : ℕ) → l < 64 → free / 2 ^ l % 2 ≡ 1 → eval (numbers (fieldAt 11)) f (x + l) ≡ 0
-  pub miss : (l : ℕ) → l < 64 → free / 2 ^ l % 2 ≡ 0 → eval (numbers (fieldAt 11)) f (x + l) ≡ 0 → ⊥
+  pub hit : (l : ℕ) → l < 64 → free / 2 ^ l % 2 ≡ 1 → eval (G 11) f (x + l) ≡ 0
+  pub miss : (l : ℕ) → l < 64 → free / 2 ^ l % 2 ≡ 0 → eval (G 11) f (x + l) ≡ 0 → ⊥
 
 pub record Wordable (f : List ℕ) (free x k : ℕ) (roots : List ℕ) : Type 0 where
   pub tried : Tried 11 f roots x k roots
   pub digits : Free f x free
   pub room : length (rootsAt 11 f) ≤ length roots
   pub within : x + 64 ≤ 2048
-
-pub record Planed (f roots : List ℕ) : Type 0 where
-  pub small : Below 2048 f
-  pub some : 1 ≤ length f
-  pub few : length f ≤ 33
-  pub room : length (rootsAt 11 f) ≤ length roots

@@ -2,10 +2,16 @@
 // are found on bit planes by an additive transform (poly_values); in the small fields the polynomial is evaluated at
 // four elements side by side, so that their chains of table loads overlap.
 ghost use mathlib.Core.Path.{_≡_};
-ghost use Prim.Native.Nat.{_+_, _-_, _*_, _≤_, _<_};
+ghost use Prim.Native.Nat.{_+_, _≤_, _<_};
 ghost use lib.ListN.{length};
+ghost use Rattle.table_rules.specs.Limit.{limit};
+ghost use Rattle.table_rules.specs.Polynomials.{PolynomialIn};
 ghost use Rattle.find_search.specs.Calls.{Searches};
-ghost use Rattle.find_search.specs.Searching.{Searchable, SearchedOut, Tried, Noted, LetIn, Wordable, Planed};
+ghost use Rattle.find_search.specs.Searching.{Searchable, SearchedOut, Tried, Noted, Wordable};
+use field_tables::constants::antilogs4;
+use field_tables::constants::antilogs8;
+use field_tables::constants::logs4;
+use field_tables::constants::logs8;
 use find_admit::admit_room;
 use poly::values::evaluate;
 use poly::values::evaluate_four;
@@ -32,8 +38,8 @@ fn note(v: u16, x: u16, roots: &mut [u16], k: u16) -> u16
 }
 
 // Tries the first four elements.
-fn try_first(m: u16, logs: &[u16], antilogs: &[u16], f: &[u16], roots: &mut [u16]) -> u16
-    requires { ⌜ Searchable m (now logs) (now antilogs) (now f) (now roots) ⌝ }
+fn try_first(m: u16, f: &[u16], logs: &[u16], antilogs: &[u16], roots: &mut [u16]) -> u16
+    requires { ⌜ Searchable m (now f) (now logs) (now antilogs) (now roots) ⌝ }
     ensures { λ k. ⌜ Tried m (now (f .entry)) (now (roots .entry)) 4 k (now (roots .exit)) ⌝ }
 {
     let mut k: u16 = 0;
@@ -47,12 +53,12 @@ fn try_first(m: u16, logs: &[u16], antilogs: &[u16], f: &[u16], roots: &mut [u16
 }
 
 // Lists every element at which f is 0 at the front of the roots, ascending. Returns how many there are.
-pub fn search_lent(m: u16, logs: &[u16], antilogs: &[u16], f: &[u16], roots: &mut [u16]) -> u16
-    requires { ⌜ Searchable m (now logs) (now antilogs) (now f) (now roots) ⌝ }
+pub fn search_lent(m: u16, f: &[u16], logs: &[u16], antilogs: &[u16], roots: &mut [u16]) -> u16
+    requires { ⌜ Searchable m (now f) (now logs) (now antilogs) (now roots) ⌝ }
     ensures { λ k. ⌜ SearchedOut m (now (f .entry)) (now (roots .entry)) k (now (roots .exit)) ⌝ }
 {
     let size = logs.len() as u16;
-    let mut k = try_first(m, logs, antilogs, f, roots);
+    let mut k = try_first(m, f, logs, antilogs, roots);
     let mut x: u16 = 4;
     while x < size {
         let v = evaluate_four(m, logs, antilogs, f, x);
@@ -63,26 +69,6 @@ pub fn search_lent(m: u16, logs: &[u16], antilogs: &[u16], f: &[u16], roots: &mu
         x += 4;
     }
     k
-}
-
-// The roots of an accepted polynomial, in a field of `size` elements, whose tables are lent into rooms that hold them.
-fn search_over(
-    m: u16,
-    size: usize,
-    logs: &mut [u16],
-    antilogs: &mut [u16],
-    f: &[u16],
-    roots: &mut [u16],
-) -> u16
-    requires { ⌜ LetIn m size (now f) (now roots)
-        × (size ≤ length (now logs))
-        × (3 * (size - 1) ≤ length (now antilogs)) ⌝ }
-    ensures { λ k. ⌜ SearchedOut m (now (f .entry)) (now (roots .entry)) k (now (roots .exit)) ⌝ }
-{
-    field_tables::lending::logs(m, logs);
-    field_tables::lending::antilogs(m, antilogs);
-    let end = 3 * (size - 1);
-    search_lent(m, &logs[..size], &antilogs[..end], f, roots)
 }
 
 // Puts the elements x + l, for the set digits l of free, behind the k roots at the front of the list. Returns how many there are then.
@@ -106,7 +92,7 @@ fn note_word(f: &[u16], free: u64, x: u16, roots: &mut [u16], k: u16) -> u16
 
 // The roots in field 11, by the values at every element on bit planes: 64 elements a word.
 fn search11(f: &[u16], roots: &mut [u16]) -> u16
-    requires { ⌜ Planed (now f) (now roots) ⌝ }
+    requires { ⌜ PolynomialIn 11 (now f) × (limit ≤ length (now roots)) ⌝ }
     ensures { λ k. ⌜ SearchedOut 11 (now (f .entry)) (now (roots .entry)) k (now (roots .exit)) ⌝ }
 {
     // any number fills the room: zeros would be a call of memset, which is slower
@@ -122,22 +108,17 @@ fn search11(f: &[u16], roots: &mut [u16]) -> u16
     k
 }
 
-// The same: in the small fields element by element, with rooms of the field's size, and in field 11 by words.
-fn search_in(m: u16, size: usize, f: &[u16], roots: &mut [u16]) -> u16
-    requires { ⌜ LetIn m size (now f) (now roots) ⌝ }
+// The roots of an accepted polynomial: in the small fields element by element, over the field's tables, which are lent
+// here; in field 11 by words.
+fn search_in(m: u16, f: &[u16], roots: &mut [u16]) -> u16
+    requires { ⌜ PolynomialIn m (now f) × (limit ≤ length (now roots)) ⌝ }
     ensures { λ k. ⌜ SearchedOut m (now (f .entry)) (now (roots .entry)) k (now (roots .exit)) ⌝ }
 {
-    if size <= 16 {
-        let mut few = [0u16; 16];
-        let mut powers = [0u16; 45];
-        return search_over(m, size, &mut few, &mut powers, f, roots);
+    match m {
+        4 => search_lent(m, f, &logs4(), &antilogs4(), roots),
+        8 => search_lent(m, f, &logs8(), &antilogs8(), roots),
+        _ => search11(f, roots),
     }
-    if size <= 256 {
-        let mut logs = [0u16; 256];
-        let mut antilogs = [0u16; 765];
-        return search_over(m, size, &mut logs, &mut antilogs, f, roots);
-    }
-    search11(f, roots)
 }
 
 // The plain search: every element is tried, the distinct roots stand ascending at the front of the list, and their number is returned.
@@ -146,6 +127,6 @@ pub fn search(m: u16, coeffs: &[u16], roots: &mut [u16]) -> Searched
 {
     match admit_room(m, coeffs, roots.len() < LIMIT) {
         Admission::Out(k) => Searched::NotSearched(k),
-        Admission::In(row) => Searched::Seen(search_in(m, row.size as usize, coeffs, roots)),
+        Admission::In => Searched::Seen(search_in(m, coeffs, roots)),
     }
 }

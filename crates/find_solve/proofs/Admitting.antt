@@ -1,82 +1,65 @@
 -- What is known of what the whole call lets in.
---   admitted-in                       what is known of the polynomial;  cutoff-most  of the cutoff;  list-room  and of the list
---   solvable                          with the tables lent, the engine can run;  solved-at  what it gives at the cutoff in force
+--   admitted                          the cutoff in force is from 1 to 3, and the list has its room
+--   solvable                          in the arm of the field of degree n, with its tables lent, the engine can run
 --   solve-begins, begun-stepping      it can begin a table, and step what begin leaves
+--   solved-at                         what it gives at the cutoff in force
 -- Assumes nothing.
 use mathlib.Core.Path.{_≡_, sym, _∙_, subst}
 use mathlib.Core.List.{List, [], _∷_}
-use Prim.Native.Nat.{ℕ, _-_, _*_, _^_, _≤_}
+use Prim.Native.Nat.{ℕ, _≤_, _*_}
 use native.Mathlib.Omega.{arith}
 use borrow.Author.Tests.{ltb-false}
 use lib.Dec.{ltb}
-use lib.Pow.{pow-pos}
-use lib.ListN.{length, take}
+use lib.ListN.{length}
 use Rattle.refusals.specs.Order.{Passed}
 use Rattle.refusals.proofs.Order.{failed, others}
 use Rattle.field.specs.Field.{fieldAt}
 use Rattle.field.specs.Tables.{Logs, Antilogs, Halves}
 use Rattle.table_rules.specs.Layout.{byFactor}
-use Rattle.table_rules.specs.Cutoff.{houseDefault, inForce}
+use Rattle.table_rules.specs.Cutoff.{highestCutoff, houseDefault, inForce}
 use Rattle.table_rules.specs.Splitting.{slotsBegun}
 use Rattle.table_rules.proofs.HouseDefault.{inForce-least, inForce-most}
 use Rattle.table_rules.proofs.Demand.{begin-slots}
-use Rattle.table_rules.specs.Limit.{limit, slots}
+use Rattle.table_rules.specs.Limit.{limit, slots, widest}
 use Rattle.table_begin.specs.SplitPart.{Beginnable}
-use Rattle.table_rules.specs.Polynomials.{PolynomialIn}
+use Rattle.table_rules.specs.Polynomials.{polynomialTests, PolynomialIn}
 use Rattle.table_rules.proofs.Polynomials.{polynomial-told, passed-rest}
-use Rattle.poly.proofs.Lending.{logs-room, lent-is}
+use Rattle.poly.proofs.Lending.{lent-at, halves-at}
 use Rattle.table_begin.proofs.Writing.{rows-room}
-use Rattle.find_solve.specs.Solving.{Stepping, Solvable, SolvedOut, Admitted}
+use Rattle.find_solve.specs.Solving.{Stepping, Solvable, SolvedOut}
 use Rattle.find_solve.specs.declared.Counts.{Counts}
 use Rattle.find_solve.proofs.Running.{begun-after}
 
 -- ---- what was let in
 
-module _ {m size c : ℕ} {f roots : List ℕ} (g : Admitted m size c f roots) where
-  -- the polynomial
-  pub admitted-in : PolynomialIn m f
-  admitted-in = polynomial-told m f (g .passed)
+pub admitted : (m c : ℕ) (f roots : List ℕ) {k : ℕ} → Passed (polynomialTests m f ((6, ltb highestCutoff c) ∷ (7, ltb (length roots) limit) ∷ [])) → k ≡ inForce c
+    → PolynomialIn m f × (1 ≤ k) × (k ≤ highestCutoff) × (limit ≤ length roots)
+admitted m c f roots h e =
+    let six = passed-rest m f h in
+    let most : c ≤ highestCutoff = ltb-false highestCutoff c (failed six) in (
+      polynomial-told m f h,
+      subst (λ (w : ℕ). 1 ≤ w) (sym e) (inForce-least houseDefault c (omega arith)),
+      subst (λ (w : ℕ). w ≤ highestCutoff) (sym e) (inForce-most houseDefault c (omega arith) most),
+      ltb-false (length roots) limit (failed (others six)),
+    )
 
-  six : Passed ((6, ltb 3 c) ∷ (7, ltb (length roots) limit) ∷ [])
-  six = passed-rest m f (g .passed)
-
-  -- the cutoff
-  cutoff-most : c ≤ 3
-  cutoff-most = ltb-false 3 c (failed six)
-
-  -- the list
-  pub list-room : limit ≤ length roots
-  list-room = ltb-false (length roots) limit (failed (others six))
-
-  -- the size of the field
-  pub size-fits : (1 ≤ size) × (size ≤ 2048)
-  size-fits = (omega (arith, pow-pos m, g .elements), omega (arith, logs-room m (admitted-in .field), g .elements))
-
-  -- with the tables lent, the engine can run
-  pub solvable : {k : ℕ} (x y z : List ℕ) → Logs (fieldAt m) (take (2 ^ m) x) → Antilogs (fieldAt m) (take (3 * (2 ^ m - 1)) y)
-      → Halves (fieldAt m) (take (2 ^ m) z) → k ≡ inForce c → Solvable m k f (take size x) (take (3 * (size - 1)) y) (take size z) roots
-  solvable x y z a b h i = subst (λ (w : ℕ). Solvable m w f (take size x) (take (3 * (size - 1)) y) (take size z) roots) (sym i) (record {
-    polynomial = admitted-in;
-    least = inForce-least houseDefault c (omega arith);
-    most = inForce-most houseDefault c (omega arith) cutoff-most;
-    tables = lent-is m (admitted-in .field) x y (g .elements) a b;
-    halves = subst (λ (n : ℕ). Halves (fieldAt m) (take n z)) (sym (g .elements)) h;
-    room = list-room;
-  })
+pub solvable : {m c n : ℕ} {f ls ts hs roots : List ℕ} → PolynomialIn m f × (1 ≤ c) × (c ≤ highestCutoff) × (limit ≤ length roots) → m ≡ n
+    → Logs (fieldAt n) ls → Antilogs (fieldAt n) ts → Halves (fieldAt n) hs → Solvable m c f ls ts hs roots
+solvable p e l a h = record {
+  polynomial = p .0;
+  least = p .1;
+  most = p .2;
+  tables = lent-at e (p .0 .field) l a;
+  halves = halves-at e h;
+  room = p .3;
+}
 
 -- ---- the engine
 
 module _ {m c : ℕ} {f ls ts hs roots : List ℕ} (g : Solvable m c f ls ts hs roots) where
   -- its table can be begun
-  pub solve-begins : {table rows : List ℕ} → length table ≡ slots → 352 ≤ length rows → Beginnable m ls ts f table rows
-  solve-begins e r = record {
-    tables = g .tables;
-    small = g .polynomial .small;
-    few = g .polynomial .few;
-    nonzero = g .polynomial .nonzero;
-    room = e;
-    room-rows = rows-room m (g .polynomial .field) r;
-  }
+  pub solve-begins : {table rows : List ℕ} → length table ≡ slots → widest * limit ≤ length rows → Beginnable m f ls ts table rows
+  solve-begins e r = record { polynomial = g .polynomial; tables = g .tables; room = e; room-rows = rows-room m (g .polynomial .field) r }
 
   -- and stepped
   pub begun-stepping : {table : List ℕ} → table ≡ slotsBegun byFactor slots m c f → Stepping m c f table

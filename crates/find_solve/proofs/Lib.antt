@@ -2,4 +2,5 @@
 pub mod Running
 pub mod Tracing
 pub mod Admitting
+pub mod Lowest
 pub mod Coincide

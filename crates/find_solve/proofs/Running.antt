@@ -1,41 +1,38 @@
 -- A begun table is stepped until it is done: what the engine's loop keeps.
---   never-refused   no test of a step holds;  found-none, found-at  what is found of the next step
+--   found-none, found-at   what is found of the next step
 --   begun-after     the table after n steps is one that steps alone wrote
 --   run-on, run-end   a step, and the end
 -- Assumes nothing.
 use mathlib.Core.Path.{_≡_, refl, sym, ap, _∙_, subst}
-use mathlib.Core.Bool.{Bool, true, false, not}
+use mathlib.Core.Bool.{Bool, true, false}
 use mathlib.Core.List.{List}
 use Prim.Native.Nat.{ℕ, zero, suc, _≤_, _<_}
 use native.Mathlib.Decide.{decLt}
 use native.Mathlib.Omega.{arith}
-use borrow.Author.Tests.{eq-eqb}
-use lib.ListN.{length, getD}
-use Rattle.refusals.specs.Order.{Passed}
-use Rattle.refusals.specs.Order.Passed.{none}
-use Rattle.refusals.proofs.Order.{passes}
+use lib.ListN.{length}
+use Rattle.table_rules.specs.Cutoff.{highestCutoff}
 use Rattle.table_rules.specs.Layout.{byFactor}
 use Rattle.table_rules.specs.Table.{encode, sound}
 use Rattle.table_rules.specs.Polynomials.{PolynomialIn}
 use Rattle.table_rules.proofs.Polynomials.{roots-few}
-use Rattle.table_rules.specs.Splitting.{isDone, stuck, rootsAt, slotsRoots, slotsDone, slotsStuck, slotsStepped, slotsAfter}
-use Rattle.table_rules.specs.Demand.{Demand3, stepCount, groupsAfter}
+use Rattle.table_rules.specs.Splitting.{isDone, stuck, slotsRoots, slotsDone, slotsStuck, slotsStepped, slotsAfter}
+use Rattle.table_rules.specs.Demand.{Demand3, stepCount, groupsAfter, groupsSlots}
 use Rattle.table_rules.proofs.Layouts.{byFactor-lawful}
 use Rattle.table_rules.proofs.Soundness.{done-encode, stuck-encode, roots-encode}
 use Rattle.table_rules.proofs.Keeping.{sound-length}
 use Rattle.table_rules.proofs.Demand.{demand-3, steps-to-done}
 use Rattle.poly.specs.Lent.{Lent}
 use Rattle.table_rules.specs.Limit.{limit, slots, isSound}
-use Rattle.table_check.specs.Verdicts.{stepTests}
-use Rattle.find_solve.specs.Solving.{begunAfter, Stepping, RunOut, Solvable}
-use Rattle.field.specs.Field.{fieldAt}
+use Rattle.find_solve.specs.Solving.{Stepping, RunOut, Solvable}
+use Rattle.field.specs.Field.{fieldAt, rootsAt}
 use Rattle.field.specs.Tables.{Halves}
 use Rattle.table_finish.specs.Finishing.{Listable}
 use Rattle.table_check.specs.Verdicts.{Chosen}
-use Rattle.table_check.specs.Walk.{seek}
-use Rattle.table_check.specs.declared.Place.{Place}
-use Rattle.table_check.specs.declared.Place.the-variants.{At, Nowhere}
-use Rattle.table_check.proofs.Findings.{seek-done, seek-chosen}
+use Rattle.table_slots.specs.Slots.{widthOf, cutoffOf, takenOf}
+use Rattle.table_slots.specs.Walk.{soughtIn}
+use Rattle.table_slots.specs.declared.Spot.{Spot}
+use Rattle.table_slots.specs.declared.Spot.the-variants.{At, Nowhere}
+use Rattle.table_slots.proofs.Finding.{seek-done, seek-at}
 
 -- one step more on slots
 after-more : (n : ℕ) (l : List ℕ) → slotsAfter byFactor (suc n) l ≡ slotsStepped byFactor (slotsAfter byFactor n l)
@@ -43,25 +40,25 @@ unfolding slotsAfter
 after-more zero l = refl
 after-more (suc n) l = after-more n (slotsStepped byFactor l)
 
--- slot 3 counts the steps
-pub taken-at : (m c : ℕ) (f : List ℕ) (n : ℕ) → getD (begunAfter m c f n) 3 0 ≡ n
+-- the head counts the steps
+pub taken-at : (m c : ℕ) (f : List ℕ) (n : ℕ) → takenOf (groupsSlots m c f n) ≡ n
 unfolding encode
 taken-at m c f n = refl
 
 -- the table after n steps is one that steps alone wrote
-pub begun-after : {m c : ℕ} {f : List ℕ} → PolynomialIn m f → 1 ≤ c → c ≤ 3 → (n : ℕ) → n ≤ stepCount m c (rootsAt m f) → Stepping m c f (begunAfter m c f n)
+pub begun-after : {m c : ℕ} {f : List ℕ} → PolynomialIn m f → 1 ≤ c → c ≤ highestCutoff → (n : ℕ) → n ≤ stepCount m c (rootsAt m f) → Stepping m c f (groupsSlots m c f n)
 begun-after {m} {c} {f} t least most n h = record {
   field = t .field;
   least = least;
   most = most;
   few = roots-few t;
   taken = subst (λ (i : ℕ). i ≤ stepCount m c (rootsAt m f)) (sym (taken-at m c f n)) h;
-  slots-are = ap (begunAfter m c f) (sym (taken-at m c f n));
+  slots-are = ap (groupsSlots m c f) (sym (taken-at m c f n));
 }
 
 module _ {m c : ℕ} {f table : List ℕ} (s : Stepping m c f table) where
   n : ℕ
-  n = getD table 3 0
+  n = takenOf table
 
   count : ℕ
   count = stepCount m c (rootsAt m f)
@@ -76,18 +73,18 @@ module _ {m c : ℕ} {f table : List ℕ} (s : Stepping m c f table) where
   pub long-now : length table ≡ slots
   long-now = sound-length byFactor-lawful limit table sound-now
 
-  -- slot 0 is the field degree
-  pub width-now : getD table 0 0 ≡ m
+  -- the head names the field
+  pub width-now : widthOf table ≡ m
   unfolding n encode
-  width-now = ap (λ (l : List ℕ). getD l 0 0) (s .slots-are)
+  width-now = ap widthOf (s .slots-are)
 
-  -- slot 1 is the cutoff
-  cutoff-now : getD table 1 0 ≡ c
+  -- and the cutoff
+  cutoff-now : cutoffOf table ≡ c
   unfolding n encode
-  cutoff-now = ap (λ (l : List ℕ). getD l 1 0) (s .slots-are)
+  cutoff-now = ap cutoffOf (s .slots-are)
 
   -- so that the tables lent are those of its field
-  pub lent-now : {ls ts : List ℕ} → Lent m ls ts → Lent (getD table 0 0) ls ts
+  pub lent-now : {ls ts : List ℕ} → Lent m ls ts → Lent (widthOf table) ls ts
   lent-now {ls} {ts} l = subst (λ (w : ℕ). Lent w ls ts) (sym width-now) l
 
   done-now : slotsDone byFactor table ≡ isDone (groupsAfter m c (rootsAt m f) n)
@@ -107,16 +104,15 @@ module _ {m c : ℕ} {f table : List ℕ} (s : Stepping m c f table) where
           let d : isDone (groupsAfter m c (rootsAt m f) n) ≡ true = ap (λ (k : ℕ). isDone (groupsAfter m c (rootsAt m f) k)) e ∙ D .end in
           rw d refl
 
-  never-refused : Passed (stepTests table)
-  never-refused = passes (ap not (eq-eqb (length table) slots long-now)) (passes (ap not sound-now) (passes stuck-now none))
-
   -- where nothing is found the table is done
-  pub found-none : {r : Place} → r ≡ seek c table (getD table 2 0) 4 → r ≡ Nowhere → slotsDone byFactor table ≡ true
-  found-none e f = seek-done table long-now sound-now (e ∙ ap (λ (k : ℕ). seek k table (getD table 2 0) 4) (sym cutoff-now)) f
+  pub found-none : {r : Spot} → r ≡ soughtIn c table → r ≡ Nowhere → slotsDone byFactor table ≡ true
+  found-none e f = seek-done table sound-now (e ∙ ap (λ (k : ℕ). soughtIn k table) (sym cutoff-now)) f
 
   -- and what is found is the place of the next step
-  pub found-at : {r : Place} {o : ℕ} → r ≡ seek c table (getD table 2 0) 4 → r ≡ At o → Chosen table o
-  found-at e f = seek-chosen table long-now sound-now (e ∙ ap (λ (k : ℕ). seek k table (getD table 2 0) 4) (sym cutoff-now)) f never-refused
+  pub found-at : {r : Spot} {o : ℕ} → r ≡ soughtIn c table → r ≡ At o → Chosen table o
+  found-at e f =
+      let w = seek-at table sound-now (e ∙ ap (λ (k : ℕ). soughtIn k table) (sym cutoff-now)) f in
+      record { sound = sound-now; free = stuck-now; more = w .more; at = w .here }
 
   -- a table that is not done has a step to take
   step-left : slotsDone byFactor table ≡ false → n < count
@@ -132,18 +128,18 @@ module _ {m c : ℕ} {f table : List ℕ} (s : Stepping m c f table) where
           let b : _≡_ {A = ℕ} 0 1 = cc in absurd (let x : ⊥ = omega arith in x)
 
   -- a step goes to the next table
-  next-is : slotsDone byFactor table ≡ false → slotsStepped byFactor table ≡ begunAfter m c f (suc n)
+  next-is : slotsDone byFactor table ≡ false → slotsStepped byFactor table ≡ groupsSlots m c f (suc n)
   unfolding n count
   next-is h =
       let l = step-left h in
       ap (slotsStepped byFactor) (s .slots-are ∙ sym (D .slots byFactor-lawful limit (s .most) (s .few) n (s .taken)))
-      ∙ sym (after-more n (begunAfter m c f 0)) ∙ D .slots byFactor-lawful limit (s .most) (s .few) (suc n) l
+      ∙ sym (after-more n (groupsSlots m c f 0)) ∙ D .slots byFactor-lawful limit (s .most) (s .few) (suc n) l
 
   pub run-on : {table′ : List ℕ} → slotsDone byFactor table ≡ false → table′ ≡ slotsStepped byFactor table → Stepping m c f table′
   unfolding n count
   run-on {table′} h e =
-      let to : table′ ≡ begunAfter m c f (suc n) = e ∙ next-is h in
-      let k : getD table′ 3 0 ≡ suc n = ap (λ (l : List ℕ). getD l 3 0) to ∙ taken-at m c f (suc n) in
+      let to : table′ ≡ groupsSlots m c f (suc n) = e ∙ next-is h in
+      let k : takenOf table′ ≡ suc n = ap takenOf to ∙ taken-at m c f (suc n) in
       let l = step-left h in
       record {
         field = s .field;
@@ -151,14 +147,14 @@ module _ {m c : ℕ} {f table : List ℕ} (s : Stepping m c f table) where
         most = s .most;
         few = s .few;
         taken = subst (λ (i : ℕ). i ≤ stepCount m c (rootsAt m f)) (sym k) l;
-        slots-are = to ∙ ap (begunAfter m c f) (sym k);
+        slots-are = to ∙ ap (groupsSlots m c f) (sym k);
       }
 
-  pub run-count : {table′ : List ℕ} → slotsDone byFactor table ≡ false → table′ ≡ slotsStepped byFactor table → getD table′ 3 0 ≡ suc (getD table 3 0)
+  pub run-count : {table′ : List ℕ} → slotsDone byFactor table ≡ false → table′ ≡ slotsStepped byFactor table → takenOf table′ ≡ suc (takenOf table)
   unfolding n
-  run-count {table′} h e = ap (λ (l : List ℕ). getD l 3 0) (e ∙ next-is h) ∙ taken-at m c f (suc n)
+  run-count {table′} h e = ap takenOf (e ∙ next-is h) ∙ taken-at m c f (suc n)
 
-  pub run-left : slotsDone byFactor table ≡ false → getD table 3 0 < stepCount m c (rootsAt m f)
+  pub run-left : slotsDone byFactor table ≡ false → takenOf table < stepCount m c (rootsAt m f)
   unfolding n count
   run-left = step-left
 
@@ -166,7 +162,7 @@ module _ {m c : ℕ} {f table : List ℕ} (s : Stepping m c f table) where
   unfolding n count
   run-end h =
       let e : n ≡ count = steps-to-done m (s .field) c (s .least) f n (s .taken) (sym done-now ∙ h) in
-      record { slots-are = s .slots-are ∙ ap (begunAfter m c f) e }
+      record { slots-are = s .slots-are ∙ ap (groupsSlots m c f) e }
 
 -- ---- at the end
 
@@ -174,18 +170,18 @@ module _ {m c : ℕ} {f table : List ℕ} (s : Stepping m c f table) where
 pub out-stepping : {m c : ℕ} {f table table′ : List ℕ} → Stepping m c f table → RunOut m c f table′ → Stepping m c f table′
 out-stepping {m} {c} {f} {table′ = table′} s r =
     let n : ℕ = stepCount m c (rootsAt m f) in
-    let k : getD table′ 3 0 ≡ n = ap (λ (l : List ℕ). getD l 3 0) (r .slots-are) ∙ taken-at m c f n in
+    let k : takenOf table′ ≡ n = ap takenOf (r .slots-are) ∙ taken-at m c f n in
     record {
       field = s .field;
       least = s .least;
       most = s .most;
       few = s .few;
       taken = subst (λ (i : ℕ). i ≤ n) (sym k) (omega arith);
-      slots-are = r .slots-are ∙ ap (begunAfter m c f) (sym k);
+      slots-are = r .slots-are ∙ ap (groupsSlots m c f) (sym k);
     }
 
-pub out-taken : {m c : ℕ} {f table : List ℕ} → RunOut m c f table → getD table 3 0 ≡ stepCount m c (rootsAt m f)
-out-taken {m} {c} {f} r = ap (λ (l : List ℕ). getD l 3 0) (r .slots-are) ∙ taken-at m c f (stepCount m c (rootsAt m f))
+pub out-taken : {m c : ℕ} {f table : List ℕ} → RunOut m c f table → takenOf table ≡ stepCount m c (rootsAt m f)
+out-taken {m} {c} {f} r = ap takenOf (r .slots-are) ∙ taken-at m c f (stepCount m c (rootsAt m f))
 
 -- what finish asks of it
 pub out-asks : {m c : ℕ} {f ls ts hs table table′ roots : List ℕ} → Solvable m c f ls ts hs roots → Stepping m c f table → RunOut m c f table′

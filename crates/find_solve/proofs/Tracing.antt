@@ -26,8 +26,8 @@ use Rattle.algebra.specs.Routines.{monic, rem, norm, gcd, euclid, monicRoots}
 use Rattle.algebra.proofs.Trial.{all-keep, all-map, distinct-keep, keep-passed}
 use Rattle.algebra.proofs.Lengths.{length-rem, length-add, length-add-left}
 use Rattle.algebra.proofs.StaysBelow.{add-below, eval-below, keep-below, monic-below, norm-below, power-below, rem-below, replicate-below, rootsOf-below, traceOf-below}
-use Rattle.refusals.specs.Rows.{known}
-use Rattle.refusals.proofs.Rows.{by-row, listed}
+use Rattle.field.specs.Rows.{known}
+use Rattle.field.proofs.Known.{by-row, listed}
 use Rattle.algebra.proofs.NumberMonic.{norm-made}
 use Rattle.algebra.proofs.NumberEvaluation.{eval-add, eval-top}
 use Rattle.algebra.proofs.NumberDivision.{eval-rem}
@@ -38,25 +38,27 @@ use Rattle.table_rules.specs.Groups.{group}
 use Rattle.table_rules.specs.Entries.{entryAt, firstAbove}
 use Rattle.table_rules.specs.Layout.{byFactor}
 use Rattle.table_rules.specs.Table.{Table, decode}
-use Rattle.table_rules.specs.Splitting.{bitAt, firstFactor, halvingAt, rootsAt}
+use Rattle.table_rules.specs.Splitting.{bitAt, firstFactor, halvingAt}
 use Rattle.table_rules.specs.Demand.{groupsAfter}
 use Rattle.table_rules.proofs.Layouts.{byFactor-lawful}
 use Rattle.table_rules.proofs.Soundness.{decode-encode}
 use Rattle.table_rules.proofs.Demand.{demand-3}
-use Rattle.poly.specs.Lent.{G, Lent, Row, held}
+use Rattle.field.specs.Field.{G, rootsAt}
+use Rattle.poly.specs.Lent.{Lent, Row, held}
 use Rattle.poly_powers.specs.Powers.{Summable, traceSum}
 use Rattle.poly.proofs.Logs.{field-of, numbers-of, held-long}
 use Rattle.poly_powers.proofs.TraceLoops.{rows-fit, next-place, part-front, part-long}
 use Rattle.poly_powers.proofs.TraceValues.{traceSum-below, powerRows-long, powerRows-row, trace-value}
-use Rattle.table_rules.specs.Limit.{limit, slots}
+use Rattle.table_rules.specs.Limit.{limit, slots, widest}
 use Rattle.table_check.specs.Verdicts.{Chosen}
-use Rattle.table_step.specs.Parting.{Ready, factorAt}
+use Rattle.table_step.specs.Parting.{Ready}
+use Rattle.table_slots.specs.Slots.{takenOf, levelAt, factorAt}
 use Rattle.table_begin.specs.SplitPart.{Powered}
 use Rattle.table_rules.specs.Polynomials.{PolynomialIn}
 use Rattle.table_step.proofs.Commons.{level-fits, level-power}
-use Rattle.table_step.proofs.Replacing.{factor-is, split-asks}
-use Rattle.find_solve.specs.Solving.{Stepping, Powers, Traced, Traceable, TracedTo, Advancing, Advanced, Running, Solvable, levelSum, levelSums}
-use Rattle.find_solve.proofs.Running.{width-now, lent-now, long-now, run-on}
+use Rattle.table_step.proofs.Replacing.{factor-is, level-below-width}
+use Rattle.find_solve.specs.Solving.{Stepping, Traced, Traceable, TracedTo, Advancing, Advanced, Running, Solvable, levelSum, levelSums}
+use Rattle.find_solve.proofs.Running.{width-now, long-now, run-on}
 
 -- ---- the sum of a level
 
@@ -228,7 +230,7 @@ all-both : {A : Type 0} (P Q : A → Type 0) (s : List A) → All P s → All Q 
 all-both P Q [] h g = tt
 all-both P Q (x ∷ s) h g = ((h .0, g .0), all-both P Q s (h .1) (g .1))
 
-module _ {m n : ℕ} {f ls ts rows : List ℕ} (l : Lent m ls ts) (hf : Below (2 ^ m) f) (g : Powers m f n rows) where
+module _ {m n : ℕ} {f ls ts rows : List ℕ} (l : Lent m ls ts) (hf : Below (2 ^ m) f) (g : Powered m f n rows) where
   abbrev N : OnNumbers (G m) (2 ^ m)
   N = numbers-of l
 
@@ -278,7 +280,7 @@ module _ {m n : ℕ} {f ls ts rows : List ℕ} (l : Lent m ls ts) (hf : Below (2
   all-roots =
       let F : List ℕ = monic (G m) (g .low) in
       let small : Below (2 ^ m) F = monic-below N (g .low) small-low in
-      let rs : List ℕ = rootsOf (G m) (2 ^ m) F in
+      let rs : List ℕ = rootsAt m F in
       let both : All (λ r. (r < 2 ^ m) × T (isRoot (G m) F r)) rs =
       all-both (λ r. r < 2 ^ m) (λ r. T (isRoot (G m) F r)) rs (rootsOf-below (G m) (2 ^ m) F) (keep-passed (isRoot (G m) F) (upFrom 0 (2 ^ m))) in
       subst (All (λ r. (r < 2 ^ m) × (eval (G m) F r ≡ 0))) (rootsOf-norm N f hf (g .made))
@@ -309,7 +311,7 @@ module _ {m n : ℕ} {f ls ts rows : List ℕ} (l : Lent m ls ts) (hf : Below (2
       → gcd (G m) (factorAt table o) (levelSum m n rows i) ≡ halvingAt m .low i (factorAt table o)
   unfolding gcd euclid
   begun-same {c} {table} {o} s h i =
-      let k : ℕ = getD table 3 0 in
+      let k : ℕ = takenOf table in
       let t : Table = groupsAfter m c (rootsAt m f) k in
       let is : decode byFactor table ≡ t = ap (decode byFactor) (s .slots-are) ∙ decode-encode byFactor-lawful slots t in
       let D = demand-3 m (s .field) c (s .least) f .order k in
@@ -321,26 +323,31 @@ module _ {m n : ℕ} {f ls ts rows : List ℕ} (l : Lent m ls ts) (hf : Below (2
 -- ---- `advance`
 
 module _ {m : ℕ} {ls ts : List ℕ} {n : ℕ} {rows traces : List ℕ} {k : ℕ} {table : List ℕ} {o : ℕ} (g : Advancing m ls ts n rows traces k table o) where
-  -- the sum of the level has its place
-  pub advance-fits : getD table o 0 * n + n ≤ length traces
-  advance-fits = rows-fit (getD table o 0) m n (g .traceable .level) (g .traceable .room) refl
+  module _ {i : ℕ} (at : i ≡ levelAt table o) where
+    -- the sums up to the level can be taken
+    pub advance-asks : Traceable m ls ts n rows traces k i
+    advance-asks = subst (Traceable m ls ts n rows traces k) (sym at) (g .traceable)
 
-  -- and what stands there can be lent to the step
-  pub advance-ready : {j : ℕ} {traces₁ : List ℕ} → TracedTo m n rows (getD table o 0) j traces₁ → length traces₁ ≡ length traces
-      → Ready table ls ts o (take (getD table o 0 * n + n - getD table o 0 * n) (drop (getD table o 0 * n) traces₁))
-  advance-ready {j} {traces₁} t e =
-      let i : ℕ = getD table o 0 in
-      let d : i * n + n - i * n ≡ n = omega arith in
-      let r : j * n ≤ length traces₁ = subst (λ x. j * n ≤ x) (sym e) (le-trans (mul-le-mul-right n (t .within)) (g .traceable .room)) in
-      let is : levelSum m n rows i ≡ take (i * n + n - i * n) (drop (i * n) traces₁) = sym (ap (λ x. take x (drop (i * n) traces₁)) d ∙ traced-at m n rows (t .above) r (t .traced)) in
-      let few : length (levelSum m n rows i) ≤ limit = omega (arith, level-long m n rows i, g .few) in
-      subst (Ready table ls ts o) is (record {
-        chosen = g .chosen;
-        tables = subst (λ w. Lent w ls ts) (sym (g .width)) (g .traceable .tables);
-        small = subst (λ w. Below (2 ^ w) (levelSum m n rows i)) (sym (g .width)) (level-below (g .traceable .tables) n rows i);
-        few = few;
-        same = subst (λ w. gcd (G w) (factorAt table o) (levelSum m n rows i) ≡ halvingAt w .low i (factorAt table o)) (sym (g .width)) (g .same);
-      })
+    -- that of the level has its place
+    pub advance-fits : i * n + n ≤ length traces
+    advance-fits = rows-fit i m n (advance-asks .level) (g .traceable .room) refl
+
+    -- and what stands there can be lent to the step
+    pub advance-ready : {j : ℕ} {traces₁ : List ℕ} → TracedTo m n rows i j traces₁ → length traces₁ ≡ length traces
+        → Ready table ls ts o (take (i * n + n - i * n) (drop (i * n) traces₁))
+    advance-ready {j} {traces₁} t e =
+        let d : i * n + n - i * n ≡ n = omega arith in
+        let r : j * n ≤ length traces₁ = subst (λ x. j * n ≤ x) (sym e) (le-trans (mul-le-mul-right n (t .within)) (g .traceable .room)) in
+        let is : levelSum m n rows i ≡ take (i * n + n - i * n) (drop (i * n) traces₁) = sym (ap (λ x. take x (drop (i * n) traces₁)) d ∙ traced-at m n rows (t .above) r (t .traced)) in
+        let few : length (levelSum m n rows i) ≤ limit = omega (arith, level-long m n rows i, g .few) in
+        subst (Ready table ls ts o) is (record {
+          chosen = g .chosen;
+          tables = subst (λ w. Lent w ls ts) (sym (g .width)) (g .traceable .tables);
+          small = subst (λ w. Below (2 ^ w) (levelSum m n rows i)) (sym (g .width)) (level-below (g .traceable .tables) n rows i);
+          few = few;
+          same = subst (λ w. gcd (G w) (factorAt table o) (levelSum m n rows i) ≡ halvingAt w .low (levelAt table o) (factorAt table o)) (sym (g .width))
+              (ap (λ x. gcd (G m) (factorAt table o) (levelSum m n rows x)) at ∙ g .same);
+        })
 
 -- ---- `run`
 
@@ -349,8 +356,8 @@ pub powers-few : {m : ℕ} {f ls ts low : List ℕ} → Lent m ls ts → Polynom
 powers-few {m} {f} l t e = omega (arith, norm-made (numbers-of l) f (t .small) e .shorter, t .few)
 
 -- so that the sums of all levels have their room
-pub powers-fit : (m n : ℕ) → known m ≡ true → n ≤ limit → m * n ≤ 352
-powers-fit m n k h = mul-le-mul {n₂ = 11} {m₂ = 32} (by-row (λ m p. m ≤ 11) (omega arith) (omega arith) (omega arith) (listed m k)) h
+pub powers-fit : (m n : ℕ) → known m ≡ true → n ≤ limit → m * n ≤ widest * limit
+powers-fit m n k h = mul-le-mul {n₂ = widest} {m₂ = limit} (by-row (λ m p. m ≤ widest) (omega arith) (omega arith) (omega arith) (listed m k)) h
 
 -- a begun table after some steps, with the sums of the levels below k
 pub record Going (m c : ℕ) (f : List ℕ) (n : ℕ) (rows traces₀ table₀ traces table : List ℕ) (k : ℕ) : Type 0 where
@@ -365,7 +372,7 @@ module _ {m c : ℕ} {f ls ts : List ℕ} {n : ℕ} {rows traces₀ table₀ : L
   unfolding levelSums
   going-from =
       let z : 0 * n ≡ 0 = omega arith in
-      let e : length traces₀ - 0 * n ≡ 352 = omega (arith, ap length (g .zeros), length-replicate {A = ℕ} 352 0) in
+      let e : length traces₀ - 0 * n ≡ (widest * limit) = omega (arith, ap length (g .zeros), length-replicate {A = ℕ} (widest * limit) 0) in
       record {
         stepping = g .stepping;
         long-table = refl;
@@ -388,7 +395,7 @@ module _ {m c : ℕ} {f ls ts : List ℕ} {n : ℕ} {rows traces₀ table₀ : L
         let lz : length z1 ≡ length (q .low) = length-rem (G m) (q .low) (0 ∷ 1 ∷ []) in
         let hz : Below (2 ^ m) z1 = rem-below (numbers-of (g .tables)) (q .low) (0 ∷ 1 ∷ []) small (small-z (g .tables) (g .polynomial .small) q) in
         let long : length rows ≡ m * n = ap length (q .rows-are) ∙ powerRows-long (g .tables) (q .low) small m z1 lz ∙ ap (λ j. m * j) (q .long) in
-        let fit : m * n ≤ 352 = powers-fit m n (g .tables .degree) few in
+        let fit : m * n ≤ widest * limit = powers-fit m n (g .tables .degree) few in
         let width = width-now (w .stepping) in
         record {
           chosen = h;
@@ -398,12 +405,12 @@ module _ {m c : ℕ} {f ls ts : List ℕ} {n : ℕ} {rows traces₀ table₀ : L
             tables = g .tables;
             logs = subst (Row m) (sym (q .rows-are)) (powerRows-row (g .tables) (q .low) small m z1 hz);
             rows-long = omega arith;
-            room = omega (arith, w .long-traces, ap length (g .zeros), length-replicate {A = ℕ} 352 0);
+            room = omega (arith, w .long-traces, ap length (g .zeros), length-replicate {A = ℕ} (widest * limit) 0);
             within = w .within;
-            level = omega (arith, split-asks table h (lent-now (w .stepping) (g .tables)) .level, width);
+            level = omega (arith, level-below-width table h, width);
             traced = w .traced;
           };
-          same = begun-same (g .tables) (g .polynomial .small) q (w .stepping) h (getD table o 0);
+          same = begun-same (g .tables) (g .polynomial .small) q (w .stepping) h (levelAt table o);
         }
 
     -- and what it leaves
@@ -418,10 +425,6 @@ module _ {m c : ℕ} {f ls ts : List ℕ} {n : ℕ} {rows traces₀ table₀ : L
           traced = a .traced;
         }
 
--- what begin leaves for it
-pub powers-of : {m n : ℕ} {f rows : List ℕ} → Powered m f n rows → Powers m f n (take (m * n) rows)
-powers-of p = record { low = p .low; made = p .made; long = p .long; rows-are = p .rows-are }
-
 -- and the rows of its powers have their room
-pub powered-fit : {m c : ℕ} {f ls ts hs roots rows : List ℕ} {n : ℕ} → Solvable m c f ls ts hs roots → Powered m f n rows → m * n ≤ 352
+pub powered-fit : {m c : ℕ} {f ls ts hs roots rows : List ℕ} {n : ℕ} → Solvable m c f ls ts hs roots → Powered m f n rows → m * n ≤ widest * limit
 powered-fit {m} {n = n} g p = powers-fit m n (g .tables .degree) (subst (λ j. j ≤ limit) (p .long) (powers-few (g .tables) (g .polynomial) (p .made)))

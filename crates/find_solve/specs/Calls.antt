@@ -13,7 +13,8 @@ use lib.ListN.{length}
 use Rattle.refusals.specs.Order.{outcome, Answers}
 use Rattle.refusals.specs.Numbers.{numberOf}
 use Rattle.slices.specs.Lists.{copied}
-use Rattle.table_rules.specs.Splitting.{rootsAt}
+use Rattle.table_rules.specs.Cutoff.{highestCutoff}
+use Rattle.field.specs.Field.{rootsAt}
 use Rattle.table_rules.specs.Demand.{stepsAt}
 use Rattle.table_rules.specs.Limit.{limit}
 use Rattle.table_rules.specs.Polynomials.{polynomialTests}
@@ -21,7 +22,7 @@ use Rattle.find_solve.specs.declared.Solved.{Solved}
 use Rattle.find_solve.specs.declared.Solved.the-variants.{Found, NotSolved}
 
 abbrev pub solveTests : ℕ → ℕ → List ℕ → List ℕ → List (ℕ × Bool)
-solveTests m c cs list = polynomialTests m cs ((6, ltb 3 c) ∷ (7, ltb (length list) limit) ∷ [])
+solveTests m c cs list = polynomialTests m cs ((6, ltb highestCutoff c) ∷ (7, ltb (length list) limit) ∷ [])
 
 abbrev pub solveOutcome : ℕ → ℕ → List ℕ → List ℕ → ℕ × List ℕ
 solveOutcome m c cs list = outcome (solveTests m c cs list) (length (rootsAt m cs) ∷ stepsAt m c cs ∷ [])

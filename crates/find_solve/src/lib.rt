@@ -9,25 +9,40 @@
 // parts a factor P by the roots' next trace bit: gcd(P, Tr(a^i z)), and the rest. Factors of degree at most the cutoff
 // are solved. A step divides by the trace of its level modulo the polynomial, not modulo the factor: the powers of z on
 // begin's way to z^(2^m) are kept, and Tr(a^i z) is a sum of their multiples, taken once a level.
-ghost use mathlib.Core.Path.{_≡_};
-ghost use Prim.Native.Nat.{_-_, _*_, _≤_};
+ghost use Prim.Native.Nat.{_≤_};
 ghost use lib.ListN.{length};
-ghost use Rattle.table_rules.specs.Cutoff.{inForce};
+ghost use Rattle.table_rules.specs.Cutoff.{highestCutoff};
+ghost use Rattle.table_rules.specs.Limit.{limit};
+ghost use Rattle.table_rules.specs.Polynomials.{PolynomialIn};
 ghost use Rattle.find_solve.specs.Calls.{Solves};
 ghost use Rattle.find_solve.specs.Solving.{Traceable, TracedTo, Advancing, Advanced};
-ghost use Rattle.find_solve.specs.Solving.{Running, RunOut, Solvable, SolvedOut, Admitted};
+ghost use Rattle.find_solve.specs.Solving.{Running, RunOut, Solvable, SolvedOut, SolvedAtAny, Lowly};
+use field_tables::constants::antilogs4;
+use field_tables::constants::antilogs8;
+use field_tables::constants::antilogs11;
+use field_tables::constants::halves4;
+use field_tables::constants::halves8;
+use field_tables::constants::halves11;
+use field_tables::constants::logs4;
+use field_tables::constants::logs8;
+use field_tables::constants::logs11;
+use field_tables::field_types::inverse_in;
+use field_tables::field_types::product_in;
 use find_admit::admit;
 use find_admit::in_force;
+use poly::monic::top;
 use poly_powers::add_trace;
 use refusals::Admission;
 use refusals::Refusal;
 use table_begin::begin_lent;
-use table_check::Place;
-use table_check::find;
 use table_finish::finish_lent;
 use table_rules::LIMIT;
 use table_rules::POWER_ROWS;
-use table_rules::SLOTS;
+use table_slots::SLOTS;
+use table_slots::Spot;
+use table_slots::first_above;
+use table_slots::head_of;
+use table_slots::level_at;
 use table_step::step_lent;
 
 // What the whole call answers: the number of roots and of steps, or what is turned away.
@@ -78,7 +93,7 @@ fn advance(
     ensures { λ k. ⌜ Advanced m n (now (rows .entry)) (now (table .entry))
         k (now (traces .exit)) (now (table .exit)) ⌝ }
 {
-    let level = table[o];
+    let level = level_at(table, o);
     let k = trace_to(m, logs, antilogs, n, rows, traces, ready, level);
     let b = (level as usize) * n;
     let e = b + n;
@@ -103,12 +118,11 @@ pub fn run(
 {
     let mut ready: u16 = 0;
     loop {
-        let count = table[2];
-        match find(table, c, count) {
-            Place::At(o) => {
+        match first_above(table, c) {
+            Spot::At(o) => {
                 ready = advance(m, logs, antilogs, n, rows, traces, ready, table, o);
             }
-            Place::Nowhere => {
+            Spot::Nowhere => {
                 return;
             }
         }
@@ -137,7 +151,7 @@ pub fn solve_lent(
     let mut table = [0u16; SLOTS];
     let mut rows = [0u16; POWER_ROWS];
     let mut traces = [0u16; POWER_ROWS];
-    let n = begin_lent(m, c, logs, antilogs, coeffs, &mut table, &mut rows);
+    let n = begin_lent(m, c, coeffs, logs, antilogs, &mut table, &mut rows);
     let e = (m as usize) * n;
     run(
         m,
@@ -151,78 +165,41 @@ pub fn solve_lent(
         &mut table,
     );
     let s = finish_lent(logs, antilogs, halves, &table, roots);
+    let h = head_of(&table);
     Counts {
         s: s as u16,
-        steps: table[3],
+        steps: h.steps,
     }
 }
 
-// The roots and steps of an accepted polynomial, in a field of `size` elements, whose tables are lent into rooms that hold them.
-fn solve_over(
-    m: u16,
-    size: usize,
-    logs: &mut [u16],
-    antilogs: &mut [u16],
-    halves: &mut [u16],
-    coeffs: &[u16],
-    cutoff: u16,
-    roots: &mut [u16],
-) -> Counts
-    requires { ⌜ Admitted m size cutoff (now coeffs) (now roots)
-        × (size ≤ length (now logs))
-        × (3 * (size - 1) ≤ length (now antilogs))
-        × (size ≤ length (now halves)) ⌝ }
-    ensures { λ r. ⌜ SolvedOut m (inForce cutoff) (now (coeffs .entry)) (now (roots .entry)) r (now (roots .exit)) ⌝ }
+// The roots of an accepted polynomial with n coefficients up to its leading one, at most 2: degree 1 has one, a quotient,
+// and degree 0 has none. It takes no table and no step.
+fn solve_low(m: u16, n: usize, coeffs: &[u16], roots: &mut [u16]) -> Counts
+    requires { ⌜ Lowly m (now coeffs) n × (1 ≤ length (now roots)) ⌝ }
+    ensures { λ r. ⌜ SolvedAtAny m (now (coeffs .entry)) (now (roots .entry)) r (now (roots .exit)) ⌝ }
 {
-    field_tables::lending::logs(m, logs);
-    field_tables::lending::antilogs(m, antilogs);
-    field_tables::lending::halves(m, halves);
-    let c = in_force(cutoff);
-    let end = 3 * (size - 1);
-    solve_lent(
-        m,
-        c,
-        coeffs,
-        &logs[..size],
-        &antilogs[..end],
-        &halves[..size],
-        roots,
-    )
+    if n < 2 {
+        return Counts { s: 0, steps: 0 };
+    }
+    roots[0] = product_in(m, inverse_in(m, coeffs[1]), coeffs[0]);
+    Counts { s: 1, steps: 0 }
 }
 
-// The same, with rooms of the field's size: to zero the largest costs more than a small field's whole call.
-fn solve_in(m: u16, size: usize, coeffs: &[u16], cutoff: u16, roots: &mut [u16]) -> Counts
-    requires { ⌜ Admitted m size cutoff (now coeffs) (now roots) ⌝ }
-    ensures { λ r. ⌜ SolvedOut m (inForce cutoff) (now (coeffs .entry)) (now (roots .entry)) r (now (roots .exit)) ⌝ }
+// The roots and steps of an accepted polynomial, at a cutoff from 1 to 3. From degree 2 on the field's tables are lent
+// here.
+pub fn solve_in(m: u16, c: u16, coeffs: &[u16], roots: &mut [u16]) -> Counts
+    requires { ⌜ PolynomialIn m (now coeffs) × (1 ≤ c) × (c ≤ highestCutoff) × (limit ≤ length (now roots)) ⌝ }
+    ensures { λ r. ⌜ SolvedOut m c (now (coeffs .entry)) (now (roots .entry)) r (now (roots .exit)) ⌝ }
 {
-    if size <= 256 {
-        let mut few = [0u16; 256];
-        let mut powers = [0u16; 765];
-        let mut solutions = [0u16; 256];
-        return solve_over(
-            m,
-            size,
-            &mut few,
-            &mut powers,
-            &mut solutions,
-            coeffs,
-            cutoff,
-            roots,
-        );
+    let n = top(coeffs);
+    if n <= 2 {
+        return solve_low(m, n, coeffs, roots);
     }
-    let mut logs = [0u16; 2048];
-    let mut antilogs = [0u16; 6141];
-    let mut halves = [0u16; 2048];
-    solve_over(
-        m,
-        size,
-        &mut logs,
-        &mut antilogs,
-        &mut halves,
-        coeffs,
-        cutoff,
-        roots,
-    )
+    match m {
+        4 => solve_lent(m, c, coeffs, &logs4(), &antilogs4(), &halves4(), roots),
+        8 => solve_lent(m, c, coeffs, &logs8(), &antilogs8(), &halves8(), roots),
+        _ => solve_lent(m, c, coeffs, &logs11(), &antilogs11(), &halves11(), roots),
+    }
 }
 
 // The whole call: all distinct roots, ascending, at the front of the list, and the number of roots and of steps.
@@ -231,8 +208,8 @@ pub fn solve(m: u16, coeffs: &[u16], cutoff: u16, roots: &mut [u16]) -> Solved
 {
     match admit(m, coeffs, cutoff, roots.len() < LIMIT) {
         Admission::Out(k) => Solved::NotSolved(k),
-        Admission::In(row) => {
-            let n = solve_in(m, row.size as usize, coeffs, cutoff, roots);
+        Admission::In => {
+            let n = solve_in(m, in_force(cutoff), coeffs, roots);
             Solved::Found {
                 s: n.s,
                 steps: n.steps,

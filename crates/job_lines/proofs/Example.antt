@@ -8,7 +8,7 @@ use Prim.Native.Nat.{ℕ}
 use Rattle.algebra.specs.Trial.{upFrom}
 use Rattle.algebra.specs.Field.{power, trace}
 use Rattle.algebra.specs.Polynomial.{eval, rootsOf}
-use Rattle.refusals.specs.Rows.{knownIn, polyIn}
+use Rattle.field.specs.Rows.{knownIn, polyIn}
 use Rattle.field.specs.Field.{mul}
 use Rattle.table_rules.specs.Cutoff.{inForceBy}
 use Rattle.table_rules.specs.Groups.{groupsAt, groupCount, sumBelow, agrees}

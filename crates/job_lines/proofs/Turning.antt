@@ -13,10 +13,10 @@ use Rattle.refusals.specs.Numbers.{numberOf}
 use Rattle.refusals.specs.declared.Refusal.{Refusal}
 use Rattle.slices.specs.Lists.{pasted, copied}
 use Rattle.slices.proofs.Lists.{pasted-copied}
-use Rattle.job_records.specs.Layout.{words, part}
-use Rattle.job_records.specs.Cutoffs.{resolved}
+use Rattle.job_records.specs.Layout.{headLength, words, part}
+use Rattle.job_records.specs.Cutoffs.{statedBy, asked}
 use Rattle.job_records.specs.Reading.{Outcome, paper, readAt}
-use Rattle.job_text.specs.Lines.{Wrote}
+use Rattle.job_text.specs.Lines.{Wrote, longestLine}
 use Rattle.job_records.specs.declared.Job.{Job}
 use Rattle.job_records.specs.declared.Read.{Read}
 use Rattle.job_records.specs.declared.Read.the-variants.{End, Record, Refused, Stopped}
@@ -26,7 +26,7 @@ use Rattle.job_lines.specs.declared.Place.{Place}
 use Rattle.job_lines.specs.declared.Next.{Next}
 use Rattle.job_lines.specs.declared.Next.the-variants.{Over, On}
 use Rattle.job_lines.specs.declared.Turn.{Turn}
-use Rattle.job_lines.proofs.Accepted.{stated-resolved, record-passes}
+use Rattle.job_lines.proofs.Accepted.{record-passes}
 
 -- by what reading gave
 made : {file old new : List ℕ} {at k n : ℕ} {next : Next} {o : Outcome} → readAt file at ≡ o → n ≡ length (lineFor file k o)
@@ -55,19 +55,19 @@ module _ {file old : List ℕ} {at k : ℕ} {r : Read} (e : paper r ≡ readAt f
       → Turned file at k old (record { len = n; next = On (record { at = next; k = k + 1 }) }) new
   turn-refuse f w = lined (sym e ∙ ap paper f) w refl
 
-  pub turn-record : {j : Job} {c n : ℕ} {bytes new : List ℕ} → r ≡ Record j → c ≡ resolved (j .cutoff) → bytes ≡ part file (j .start) (j .len)
+  pub turn-record : {j : Job} {c n : ℕ} {bytes new : List ℕ} → r ≡ Record j → c ≡ asked (statedBy (j .cutoff)) → bytes ≡ part file (j .start) (j .len)
       → Wrote (solvedLine k (j .m) c (words bytes)) 0 old n new
       → Turned file at k old (record { len = n; next = On (record { at = j .next; k = k + 1 }) }) new
   turn-record {j} {c} {n} {new = new} f d b w =
       lined (sym e ∙ ap paper f)
-      (subst (λ d. Wrote (solvedLine k (j .m) d (words (part file (j .start) (j .len)))) 0 old n new) (d ∙ stated-resolved (j .cutoff))
+      (subst (λ d. Wrote (solvedLine k (j .m) d (words (part file (j .start) (j .len)))) 0 old n new) d
       (subst (λ bs. Wrote (solvedLine k (j .m) c (words bs)) 0 old n new) b w)) refl
 
 -- what the reader accepts
-pub record-solvable : (file : List ℕ) (at : ℕ) (r : Read) {j : Job} {c : ℕ} {bytes out : List ℕ} → paper r ≡ readAt file at → r ≡ Record j → c ≡ resolved (j .cutoff)
-    → bytes ≡ part file (j .start) (j .len) → 221 ≤ length out → Solvable (j .m) c (words bytes) out
+pub record-solvable : (file : List ℕ) (at : ℕ) (r : Read) {j : Job} {c : ℕ} {bytes out : List ℕ} → paper r ≡ readAt file at → r ≡ Record j → c ≡ asked (statedBy (j .cutoff))
+    → bytes ≡ part file (j .start) (j .len) → longestLine ≤ length out → Solvable (j .m) c (words bytes) out
 record-solvable file at r {j} e f d b l = record {
-  passed = rw (b, d ∙ stated-resolved (j .cutoff)) (record-passes file at (sym e ∙ ap paper f));
+  passed = rw (b, d) (record-passes file at (sym e ∙ ap paper f));
   room = l;
 }
 
@@ -83,7 +83,7 @@ turn-fits {file} {old} {at = at} {k} t l =
 
 -- what is known of the next place
 pub record TurnedOn (file : List ℕ) (at k : ℕ) (p : Place) : Type 0 where
-  pub ahead : at + 5 ≤ p .at
+  pub ahead : at + headLength ≤ p .at
   pub within : p .at ≤ length file
   pub number : p .k ≡ k + 1
 

@@ -1,5 +1,4 @@
 -- What is printed for a record, and for a file (docs/RULES.md section 6).
---   cutoffOf    the cutoff that a record asks for: what it states, or the house default
 --   turnedLine  the line of a record that is refused;  solvedLine  of one that is accepted: the roots and the steps of the whole call
 --   lineBy      the line of a number with the values that reading gave;  lineFor  of what reading gave
 --   linesFrom   the lines of what reading gave, one after the other; the first has the number k
@@ -17,21 +16,17 @@ use Prim.Native.Nat.{ℕ, _+_, _≤_}
 use lib.ListN.{length}
 use Rattle.refusals.specs.Order.{Passed}
 use Rattle.slices.specs.Lists.{pasted}
-use Rattle.table_rules.specs.Cutoff.{houseDefault}
-use Rattle.table_rules.specs.Splitting.{rootsAt}
+use Rattle.field.specs.Field.{rootsAt}
 use Rattle.table_rules.specs.Demand.{stepsAt}
-use Rattle.job_records.specs.Layout.{words, part}
+use Rattle.job_records.specs.Layout.{headLength, words, part}
+use Rattle.job_records.specs.Cutoffs.{asked}
 use Rattle.job_records.specs.Reading.{Outcome, callTests, paper, readAt, bytesOf}
 use Rattle.job_records.specs.Files.{Reads}
 use Rattle.job_records.specs.declared.Read.{Read}
-use Rattle.job_text.specs.Lines.{lineOf}
+use Rattle.job_text.specs.Lines.{lineOf, longestLine}
 use Rattle.job_lines.specs.declared.Next.{Next}
 use Rattle.job_lines.specs.declared.Next.the-variants.{Over, On}
 use Rattle.job_lines.specs.declared.Turn.{Turn}
-
-abbrev pub cutoffOf : List ℕ → ℕ
-cutoffOf [] = houseDefault
-cutoffOf (c ∷ cs) = c
 
 abbrev pub turnedLine : ℕ → ℕ → List ℕ
 turnedLine k number = lineOf k number 0 []
@@ -45,7 +40,7 @@ lineBy file k number [] = turnedLine k number
 lineBy file k number (next ∷ []) = turnedLine k number
 lineBy file k number (next ∷ m ∷ []) = turnedLine k number
 lineBy file k number (next ∷ m ∷ start ∷ []) = turnedLine k number
-lineBy file k number (next ∷ m ∷ start ∷ len ∷ cutoff) = solvedLine k m (cutoffOf cutoff) (words (part file start len))
+lineBy file k number (next ∷ m ∷ start ∷ len ∷ cutoff) = solvedLine k m (asked cutoff) (words (part file start len))
 
 -- where reading ends there is no line
 abbrev pub lineFor : List ℕ → ℕ → Outcome → List ℕ
@@ -84,11 +79,11 @@ TurnedBy read bytes k old r new = (file : List ℕ) (at : ℕ) → paper read �
 
 abbrev pub Ahead : Read → List ℕ → ℕ → Type 0
 Ahead read bytes n = (file : List ℕ) (at : ℕ) → paper read ≡ readAt file at → bytes ≡ bytesOf file read
-    → length file ≤ 65536 → at ≤ length file → at + 5 ≤ n
+    → length file ≤ 65536 → at ≤ length file → at + headLength ≤ n
 
 pub record Solvable (m c : ℕ) (cs out : List ℕ) : Type 0 where
   pub passed : Passed (callTests m c cs)
-  pub room : 221 ≤ length out
+  pub room : longestLine ≤ length out
 
 pub data Prints (file : List ℕ) : ℕ → ℕ → List ℕ → Type 0 where
   last : {at k : ℕ} → onFrom k (readAt file at) ≡ [] → Prints file at k (lineFor file k (readAt file at))

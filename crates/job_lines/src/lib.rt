@@ -5,10 +5,10 @@ ghost use lib.ListN.{length};
 ghost use Rattle.refusals.specs.Numbers.{numberOf};
 ghost use Rattle.job_records.specs.Layout.{words};
 ghost use Rattle.job_records.specs.Reading.{Stands};
-ghost use Rattle.job_text.specs.Lines.{Wrote};
+ghost use Rattle.job_text.specs.Lines.{Wrote, longestLine};
 ghost use Rattle.job_lines.specs.Printing.{turnedLine, solvedLine, TurnedBy, Solvable};
-use find_solve::Solved;
-use find_solve::solve;
+use find_admit::in_force;
+use find_solve::solve_in;
 use job_records::Read;
 use job_text::line;
 use refusals::Refusal;
@@ -35,7 +35,7 @@ pub struct Turn {
 
 // The line of a refused record, to the front of out; its length.
 fn turned_line(k: u32, refusal: Refusal, out: &mut [u8]) -> usize
-    requires { ⌜ 221 ≤ length (now out) ⌝ }
+    requires { ⌜ longestLine ≤ length (now out) ⌝ }
     ensures { λ n. ⌜ Wrote (turnedLine k (numberOf refusal)) 0 (now (out .entry)) n (now (out .exit)) ⌝ }
 {
     let none = [0u16; 1];
@@ -51,15 +51,13 @@ fn solved_line(k: u32, m: u16, cutoff: u16, bytes: &[u8], out: &mut [u8]) -> usi
     let mut room = [0u16; COEFFICIENTS];
     let n = job_records::coefficients(bytes, &mut room);
     let mut roots = [0u16; LIMIT];
-    match solve(m, &room[..n], cutoff, &mut roots) {
-        Solved::Found { s, steps } => line(k, 0, s, steps, &roots, out),
-        Solved::NotSolved(_) => 0, // never: the reader's tests are the whole call's
-    }
+    let done = solve_in(m, in_force(cutoff), &room[..n], &mut roots);
+    line(k, 0, done.s, done.steps, &roots, out)
 }
 
 // The line of what was read, with its coefficient bytes, to the front of out, and where reading goes on.
 pub fn take_turn(read: Read, bytes: &[u8], k: u32, out: &mut [u8]) -> Turn
-    requires { ⌜ (221 ≤ length (now out)) × (k + 1 < 2 ^ 32) × Stands read (now bytes) ⌝ }
+    requires { ⌜ (longestLine ≤ length (now out)) × (k + 1 < 2 ^ 32) × Stands read (now bytes) ⌝ }
     ensures { λ r. ⌜ TurnedBy read (now (bytes .entry)) k (now (out .entry)) r (now (out .exit)) ⌝ }
 {
     let after = k + 1;
@@ -79,7 +77,7 @@ pub fn take_turn(read: Read, bytes: &[u8], k: u32, out: &mut [u8]) -> Turn
         Read::Record(job) => {
             let cutoff = job.cutoff;
             Turn {
-                len: solved_line(k, job.m as u16, job_records::resolve(cutoff), bytes, out),
+                len: solved_line(k, job.m as u16, job_records::asked(cutoff), bytes, out),
                 next: Next::On(Place {
                     at: job.next,
                     k: after,

@@ -6,7 +6,7 @@ use mathlib.Core.Path.{refl}
 use mathlib.Core.List.{List, [], _∷_}
 use Prim.Native.Nat.{ℕ}
 use Rattle.refusals.specs.Order.{decide}
-use Rattle.refusals.specs.Rows.{knownIn}
+use Rattle.field.specs.Rows.{knownIn}
 use Rattle.slices.specs.Bounded.{allBelow}
 use Rattle.job_records.specs.Layout.{words}
 use Rattle.job_records.specs.Reading.{Outcome, judged, readHere}

@@ -2,9 +2,8 @@
 --   Outcome      reading ends, or it gives a number with its values
 --   paper        the outcome of each answer of the code: a place to go on comes first among the values; an accepted record also has
 --                its m, where its coefficient bytes start, how many they are, and the cutoff that it states
---   highestCutoff   above it a cutoff is refused
 --   startTests   the tests of the bytes from a place on: one byte remains, no mark, any later shortage
---   valueTests, callTests, recordTests  the tests of a complete record, in the whole call's order: 4 to 6, all, and those of the record at the front of bytes
+--   callTests, recordTests  the tests of a complete record, in the whole call's order, and those of the record at the front of bytes
 --   judged       the outcome of a complete record at a place
 --   readHere     the outcome of the bytes from a place on
 --   readAt       the outcome at a place of a file
@@ -13,29 +12,27 @@
 --                the file, and the place behind
 --   bytesOf      the coefficient bytes of what was read, as that part of the file; none where no record was accepted
 --   Stands       what was read, with these bytes, stands somewhere in a file
---   Judges       what the tests find
---   Largest      a number is below a bound exactly if all of a list are
 --   answered     the code's answer for a complete record, by what the tests found
 --   Spelled      the words of bytes stand at the front of a room; what is behind them is as it was
 -- Assumes nothing.
 use mathlib.Core.Bool.{Bool, not}
 use mathlib.Core.List.{List, [], _∷_}
 use mathlib.Core.Path.{_≡_}
-use Prim.Native.Nat.{ℕ, _+_, _≤_, _<_}
+use Prim.Native.Nat.{ℕ, _+_, _≤_}
 use lib.ListN.{length, drop}
 use lib.Dec.{ltb}
-use Rattle.refusals.specs.Order.{decide, Given, Passed}
+use Rattle.refusals.specs.Order.{decide}
 use Rattle.refusals.specs.Numbers.{numberOf}
-use Rattle.slices.specs.Bounded.{allBelow, anyFrom, allZero}
 use Rattle.slices.specs.Lists.{copied}
+use Rattle.table_rules.specs.Cutoff.{highestCutoff}
 use Rattle.table_rules.specs.Polynomials.{polynomialTests}
 use Rattle.job_records.specs.Layout.{headLength, marked, degreeByte, cutoffByte, bodyLength, recordLength, words, part, coefficients}
 use Rattle.job_records.specs.Cutoffs.{stated, statedBy}
 use Rattle.job_records.specs.declared.Cutoff.{Cutoff}
 use Rattle.job_records.specs.declared.Read.{Read}
 use Rattle.job_records.specs.declared.Read.the-variants.{End, Record, Refused, Stopped}
-use Rattle.job_records.specs.declared.Verdict.{Verdict}
-use Rattle.job_records.specs.declared.Verdict.the-variants.{Accepted, Turned}
+use Rattle.refusals.specs.declared.Admission.{Admission}
+use Rattle.refusals.specs.declared.Admission.the-variants.{In, Out}
 
 pub data Outcome : Type 0 where
   ends : Outcome
@@ -47,14 +44,8 @@ paper (Record j) = Outcome.gives 0 (j .next ∷ j .m ∷ j .start ∷ j .len ∷
 paper (Refused k next) = Outcome.gives (numberOf k) (next ∷ [])
 paper (Stopped k) = Outcome.gives (numberOf k) []
 
-abbrev pub highestCutoff : ℕ
-highestCutoff = 3
-
 abbrev pub startTests : List ℕ → List (ℕ × Bool)
 startTests rest = (12, ltb (length rest) 2) ∷ (11, not (marked rest)) ∷ (12, ltb (length rest) (recordLength rest)) ∷ []
-
-abbrev pub valueTests : ℕ → ℕ → List ℕ → List (ℕ × Bool)
-valueTests size c cs = (4, anyFrom size cs) ∷ (5, allZero cs) ∷ (6, ltb highestCutoff c) ∷ []
 
 abbrev pub callTests : ℕ → ℕ → List ℕ → List (ℕ × Bool)
 callTests m c cs = polynomialTests m cs ((6, ltb highestCutoff c) ∷ [])
@@ -105,16 +96,9 @@ pub record Stands (r : Read) (bytes : List ℕ) : Type 0 where
   pub read : paper r ≡ readAt file at
   pub lent : bytes ≡ bytesOf file r
 
-abbrev pub Judges : List (ℕ × Bool) → Verdict → Type 0
-Judges tests Accepted = Passed tests
-Judges tests (Turned k) = Given (numberOf k) tests
-
-pub record Largest (ws : List ℕ) (top : ℕ) : Type 0 where
-  pub same : (q : ℕ) → 0 < q → allBelow q ws ≡ ltb top q
-
-abbrev pub answered : ℕ → ℕ → Cutoff → ℕ → Verdict → Read
-answered at m cutoff len Accepted = Record (record { m = m; cutoff = cutoff; start = at + headLength; len = len; next = at + headLength + len })
-answered at m cutoff len (Turned k) = Refused k (at + headLength + len)
+abbrev pub answered : ℕ → ℕ → Cutoff → ℕ → Admission → Read
+answered at m cutoff len In = Record (record { m = m; cutoff = cutoff; start = at + headLength; len = len; next = at + headLength + len })
+answered at m cutoff len (Out k) = Refused k (at + headLength + len)
 
 pub record Spelled (bytes room : List ℕ) (n : ℕ) (after : List ℕ) : Type 0 where
   pub count : n ≡ length (words bytes)

@@ -3,21 +3,22 @@
 ghost use mathlib.Core.Path.{_≡_};
 ghost use Prim.Native.Nat.{_+_, _*_, _≤_, _<_, _^_};
 ghost use lib.ListN.{length};
-ghost use Rattle.job_records.specs.Layout.{word, words, part};
-ghost use Rattle.job_records.specs.Cutoffs.{stated, statedBy, resolved};
-ghost use Rattle.job_records.specs.Reading.{paper, answered, bytesOf, readHere, ReadsAt, callTests, valueTests};
-ghost use Rattle.job_records.specs.Reading.{Judges, Largest, Spelled};
-use refusals::Found;
+ghost use Rattle.refusals.specs.Admitting.{Admits};
+ghost use Rattle.find_admit.specs.Values.{Largest};
+ghost use Rattle.job_records.specs.Layout.{headLength, word, words, part};
+ghost use Rattle.job_records.specs.Cutoffs.{stated, statedBy, asked};
+ghost use Rattle.job_records.specs.Reading.{paper, answered, bytesOf, readHere, ReadsAt, callTests, Spelled};
+use find_admit::admit_call;
+use refusals::Admission;
 use refusals::Refusal;
-use table_rules::HOUSE_DEFAULT;
 
 pub mod held; // a reader that holds the file
 
 // What every record begins with.
 const MARK: [u8; 2] = [0x4C, 0x52];
 
-// Above this a cutoff is refused.
-const HIGHEST_CUTOFF: u8 = 3;
+// How many bytes stand before the coefficients: the mark, m, cutoff and n.
+const HEAD: usize = 5;
 
 // The cutoff as a record states it.
 pub enum Cutoff {
@@ -42,12 +43,6 @@ pub enum Read {
     Stopped(Refusal),
 }
 
-// What the whole call's tests find.
-pub enum Verdict {
-    Accepted,
-    Turned(Refusal),
-}
-
 // The number that two bytes spell.
 pub fn word(low: u8, high: u8) -> u16
     ensures { λ r. ⌜ r ≡ word low high ⌝ }
@@ -66,12 +61,12 @@ pub fn cutoff_of(c: u8) -> Cutoff
     }
 }
 
-// The cutoff in force.
-pub fn resolve(cutoff: Cutoff) -> u16
-    ensures { λ r. ⌜ r ≡ resolved cutoff ⌝ }
+// The number of the cutoff that a record asks for: 0 for the house default.
+pub fn asked(cutoff: Cutoff) -> u16
+    ensures { λ r. ⌜ r ≡ asked (statedBy cutoff) ⌝ }
 {
     match cutoff {
-        Cutoff::House => HOUSE_DEFAULT,
+        Cutoff::House => 0,
         Cutoff::Stated(c) => c as u16,
     }
 }
@@ -92,50 +87,24 @@ fn largest(bytes: &[u8]) -> u16
     top
 }
 
-// Tests 4, 5 and 6: a coefficient of `size` or more, none but zeros, a cutoff above the highest.
-fn judge_values(size: u16, c: u8, bytes: &[u8]) -> Verdict
-    requires { ⌜ 0 < size ⌝ }
-    ensures { λ r. ⌜ Judges (valueTests size c (words (now (bytes .entry)))) r ⌝ }
-{
-    let top = largest(bytes);
-    if size <= top {
-        return Verdict::Turned(Refusal::Element);
-    }
-    if top == 0 {
-        return Verdict::Turned(Refusal::AllZero);
-    }
-    if HIGHEST_CUTOFF < c {
-        return Verdict::Turned(Refusal::Cutoff);
-    }
-    Verdict::Accepted
-}
-
-// Tests 1 to 6 on the fields of a complete record.
-fn judge(m: u8, c: u8, n: u8, bytes: &[u8]) -> Verdict
+// The whole call's tests 1 to 6 on the fields of a complete record.
+fn admit_record(m: u8, c: u8, n: u8, bytes: &[u8]) -> Admission
     requires { ⌜ length (now bytes) ≡ 2 * n ⌝ }
-    ensures { λ r. ⌜ Judges (callTests m c (words (now (bytes .entry)))) r ⌝ }
+    ensures { λ r. ⌜ Admits (callTests m c (words (now (bytes .entry)))) r ⌝ }
 {
-    let found = refusals::row_of(m as u16);
-    let Found::At(row) = found else {
-        return Verdict::Turned(Refusal::Field);
-    };
-    match n {
-        0 => Verdict::Turned(Refusal::Empty),
-        1..=33 => judge_values(row.size, c, bytes),
-        34..=255 => Verdict::Turned(Refusal::Long),
-    }
+    admit_call(m as u16, n as usize, largest(bytes), c as u16)
 }
 
 // The answer for a complete record at a place: where it is refused, the place to go on.
-fn answer(at: usize, m: u8, cutoff: Cutoff, len: usize, verdict: Verdict) -> Read
-    requires { ⌜ at + 5 + len < 2 ^ 64 ⌝ }
-    ensures { λ r. ⌜ r ≡ answered at m cutoff len verdict ⌝ }
+fn answer(at: usize, m: u8, cutoff: Cutoff, len: usize, found: Admission) -> Read
+    requires { ⌜ at + headLength + len < 2 ^ 64 ⌝ }
+    ensures { λ r. ⌜ r ≡ answered at m cutoff len found ⌝ }
 {
-    let start = at + 5;
+    let start = at + HEAD;
     let next = start + len;
-    match verdict {
-        Verdict::Turned(refusal) => Read::Refused { refusal, next },
-        Verdict::Accepted => Read::Record(Job {
+    match found {
+        Admission::Out(refusal) => Read::Refused { refusal, next },
+        Admission::In => Read::Record(Job {
             m,
             cutoff,
             start,
@@ -159,18 +128,24 @@ fn read_here(at: usize, rest: &[u8]) -> Read
     if rest[1] != MARK[1] {
         return Read::Stopped(Refusal::Mark);
     }
-    if rest.len() < 5 {
+    if rest.len() < HEAD {
         return Read::Stopped(Refusal::Short); // the head is short
     }
     let m = rest[2];
     let c = rest[3];
     let n = rest[4];
     let len = 2 * (n as usize);
-    let all = 5 + len;
+    let all = HEAD + len;
     if rest.len() < all {
         return Read::Stopped(Refusal::Short); // the coefficients are short
     }
-    answer(at, m, cutoff_of(c), len, judge(m, c, n, &rest[5..all]))
+    answer(
+        at,
+        m,
+        cutoff_of(c),
+        len,
+        admit_record(m, c, n, &rest[HEAD..all]),
+    )
 }
 
 // What stands at a place of the file.

@@ -3,3 +3,4 @@ pub mod Digits
 pub mod Writing
 pub mod Coincide
 pub mod Example
+pub mod Lengths

@@ -5,15 +5,17 @@
 --   spaced     numbers in decimal, a space before each
 --   behind     what a line has behind the outcome
 --   lineOf     the line of a record: its number, its outcome and, where it is accepted, how many roots there are, the steps and the roots
+--   lineRoom   how many bytes a line with s roots has at most: ten of its number, six of each other, a line feed;  longestLine  with the most roots
 --   Wrote      a text stands in a list from a place on, up to an end; all else is as it was
 -- Assumes nothing.
 use mathlib.Core.Path.{_≡_}
 use mathlib.Core.Bool.{cond}
 use mathlib.Core.List.{List, [], _∷_, _++_}
-use Prim.Native.Nat.{ℕ, zero, suc, _+_, _/_, _%_}
+use Prim.Native.Nat.{ℕ, zero, suc, _+_, _*_, _/_, _%_}
 use lib.ListN.{length}
 use lib.Dec.{eqb, ltb}
 use Rattle.slices.specs.Lists.{pasted}
+use Rattle.table_rules.specs.Limit.{limit}
 
 abbrev pub digit : ℕ → ℕ
 digit d = 48 + d
@@ -43,6 +45,12 @@ behind outcome steps roots = cond (eqb outcome 0) (length roots ∷ steps ∷ ro
 
 abbrev pub lineOf : ℕ → ℕ → ℕ → List ℕ → List ℕ
 lineOf k outcome steps roots = decimal k ++ (spaced (outcome ∷ behind outcome steps roots) ++ (lineFeed ∷ []))
+
+abbrev pub lineRoom : ℕ → ℕ
+lineRoom s = 29 + 6 * s
+
+abbrev pub longestLine : ℕ
+longestLine = lineRoom limit
 
 pub record Wrote (text : List ℕ) (at : ℕ) (old : List ℕ) (end : ℕ) (new : List ℕ) : Type 0 where
   pub ended : end ≡ at + length text

@@ -2,7 +2,11 @@
 ghost use Prim.Native.Nat.{_+_, _*_, _≤_};
 ghost use mathlib.Core.List.{[], _∷_};
 ghost use lib.ListN.{length, take};
-ghost use Rattle.job_text.specs.Lines.{decimal, spaced, lineOf, Wrote};
+ghost use Rattle.job_text.specs.Lines.{decimal, spaced, lineOf, lineRoom, Wrote};
+use table_rules::LIMIT;
+
+// The most bytes that a line has (specs/Lines.antt `longestLine`): it has as many roots as the limit.
+pub const LINE: usize = 29 + 6 * LIMIT;
 
 // Writes x in decimal to out from `at` on; the place behind it.
 pub fn decimal(x: u32, at: usize, out: &mut [u8]) -> usize
@@ -50,9 +54,9 @@ fn put_roots(s: usize, roots: &[u16], at: usize, out: &mut [u8]) -> usize
 }
 
 // Writes the line of a record to the front of out: its number k, its outcome and, where that is 0, s, the steps and the first s of the roots.
-// Its length. With 32 roots it has at most 221 bytes.
+// Its length.
 pub fn line(k: u32, outcome: u16, s: u16, steps: u16, roots: &[u16], out: &mut [u8]) -> usize
-    requires { ⌜ (s ≤ length (now roots)) × (29 + 6 * s ≤ length (now out)) ⌝ }
+    requires { ⌜ (s ≤ length (now roots)) × (lineRoom s ≤ length (now out)) ⌝ }
     ensures { λ n. ⌜ Wrote (lineOf k outcome steps (take s (now (roots .entry))))
         0 (now (out .entry)) n (now (out .exit)) ⌝ }
 {

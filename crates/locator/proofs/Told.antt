@@ -8,10 +8,11 @@ use Prim.Native.Nat.{ℕ, zero, suc}
 use lib.Dec.{eqb}
 use Rattle.refusals.proofs.Numbers.{by-number, refused-back, accepted-back}
 use Rattle.refusals.proofs.Told.{told}
-use Rattle.field.specs.Quadratics.{paperRoots}
 use Rattle.field.specs.declared.solver.Quadratic.{Quadratic}
-use Rattle.field.specs.declared.solver.Quadratic.the-variants.{Refused as Turned, NoRoot, One, Two}
-use Rattle.field_elements.specs.Calls.{paper}
+use Rattle.field.specs.declared.solver.Quadratic.the-variants.{NoRoot, One, Two}
+use Rattle.field_elements.specs.declared.Roots.{Roots}
+use Rattle.field_elements.specs.declared.Roots.the-variants.{Found as Solutions, Refused as Turned}
+use Rattle.field_elements.specs.Calls.{paper, paperRoots}
 use Rattle.field_elements.specs.declared.Answer.{Answer}
 use Rattle.field_elements.specs.declared.Answer.the-variants.{Value, Refused}
 use Rattle.find_solve.specs.Calls.{paperSolved}
@@ -59,18 +60,18 @@ rootsBack zero x y = NoRoot
 rootsBack (suc zero) x y = One x
 rootsBack (suc (suc n)) x y = Two x y
 
-pairBack : LocatorPair → Quadratic
-pairBack p = by-number Turned (rootsBack (p .count) (p .lower) (p .upper)) (p .outcome)
+pairBack : LocatorPair → Roots
+pairBack p = by-number Turned (Solutions (rootsBack (p .count) (p .lower) (p .upper))) (p .outcome)
 
-pair-back : (q : Quadratic) → pairBack (asPair (paperRoots q)) ≡ q
+pair-back : (q : Roots) → pairBack (asPair (paperRoots q)) ≡ q
 unfolding pairBack rootsBack
-pair-back (Turned k) = refused-back Turned NoRoot k
-pair-back NoRoot = accepted-back Turned NoRoot
-pair-back (One x) = accepted-back Turned (One x)
-pair-back (Two x y) = accepted-back Turned (Two x y)
+pair-back (Turned k) = refused-back Turned (Solutions NoRoot) k
+pair-back (Solutions NoRoot) = accepted-back Turned (Solutions NoRoot)
+pair-back (Solutions (One x)) = accepted-back Turned (Solutions (One x))
+pair-back (Solutions (Two x y)) = accepted-back Turned (Solutions (Two x y))
 
-pub pair-told : (p q : Quadratic) → asPair (paperRoots p) ≡ asPair (paperRoots q) → p ≡ q
-pair-told = told (λ (q : Quadratic). asPair (paperRoots q)) pairBack pair-back
+pub pair-told : (p q : Roots) → asPair (paperRoots p) ≡ asPair (paperRoots q) → p ≡ q
+pair-told = told (λ (q : Roots). asPair (paperRoots q)) pairBack pair-back
 
 -- ---- the whole call, the search, finish
 

@@ -18,8 +18,7 @@ use Rattle.locator.specs.declared.LocatorPair.{LocatorPair}
 use Rattle.locator.specs.declared.LocatorFound.{LocatorFound}
 use Rattle.locator.specs.declared.LocatorStepped.{LocatorStepped}
 use Rattle.locator.specs.declared.LocatorCorrected.{LocatorCorrected}
-use Rattle.field.specs.Quadratics.{paperRoots}
-use Rattle.field_elements.specs.Calls.{paper, TellsProduct, TellsInverse, TellsPosition, TellsQuadratic}
+use Rattle.field_elements.specs.Calls.{paper, paperRoots, TellsProduct, TellsInverse, TellsPosition, TellsQuadratic}
 use Rattle.find_solve.specs.Calls.{paperSolved, Solves}
 use Rattle.find_search.specs.Calls.{paperSearched, Searches}
 use Rattle.table_begin.specs.Calls.{paperBegun, Begins}

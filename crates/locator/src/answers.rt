@@ -1,7 +1,7 @@
 // What the calls answer, as the structs of the C face.
 ghost use mathlib.Core.Path.{_≡_};
-ghost use Rattle.field.specs.Quadratics.{paperRoots};
-ghost use Rattle.field_elements.specs.Calls.{paper};
+ghost use Rattle.field.specs.Quadratics.{rootsIn};
+ghost use Rattle.field_elements.specs.Calls.{paper, paperRoots};
 ghost use Rattle.find_solve.specs.Calls.{paperSolved};
 ghost use Rattle.find_search.specs.Calls.{paperSearched};
 ghost use Rattle.table_begin.specs.Calls.{paperBegun};
@@ -17,6 +17,7 @@ use crate::LocatorValue;
 use corrector::Corrected;
 use field::solver::Quadratic;
 use field_elements::Answer;
+use field_elements::Roots;
 use find_search::Searched;
 use find_solve::Solved;
 use refusals::number;
@@ -41,16 +42,25 @@ pub fn value_of(a: Answer) -> LocatorValue
 }
 
 // Of the quadratic.
-pub fn pair_of(q: Quadratic) -> LocatorPair
-    ensures { λ r. ⌜ r ≡ asPair (paperRoots q) ⌝ }
+pub fn pair_of(a: Roots) -> LocatorPair
+    ensures { λ r. ⌜ r ≡ asPair (paperRoots a) ⌝ }
 {
-    match q {
-        Quadratic::Refused(k) => LocatorPair {
+    match a {
+        Roots::Refused(k) => LocatorPair {
             outcome: number(k),
             count: 0,
             lower: 0,
             upper: 0,
         },
+        Roots::Found(q) => roots_of(q),
+    }
+}
+
+// Of its roots.
+fn roots_of(q: Quadratic) -> LocatorPair
+    ensures { λ r. ⌜ r ≡ asPair (0, rootsIn q) ⌝ }
+{
+    match q {
         Quadratic::NoRoot => LocatorPair {
             outcome: 0,
             count: 0,

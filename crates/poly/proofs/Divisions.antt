@@ -18,9 +18,9 @@ use Rattle.algebra.specs.Polynomial.{add, Below}
 use Rattle.algebra.specs.Routines.{rem, quo, digit, shiftIn}
 use Rattle.algebra.proofs.Lengths.{length-rem, length-quo}
 use Rattle.algebra.proofs.StaysBelow.{append-below, take-below, drop-below, rem-below, quo-below, below-at}
-use Rattle.field.specs.Field.{mul, fieldAt}
+use Rattle.field.specs.Field.{mul, fieldAt, G}
 use Rattle.field.proofs.Ring.{ring}
-use Rattle.poly.specs.Lent.{G, Lent, Addable, held}
+use Rattle.poly.specs.Lent.{Lent, Addable, held}
 use Rattle.poly.specs.Division.{divided, Divisible}
 use Rattle.poly.proofs.Logs.{field-of, numbers-of, held-below, held-long}
 use Rattle.poly.proofs.Sums.{add-none}

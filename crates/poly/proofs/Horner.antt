@@ -13,9 +13,9 @@ use lib.ListN.{length, getD, drop}
 use lib.Seq.{drop-length, drop-cons}
 use Rattle.algebra.specs.Polynomial.{eval, Below}
 use Rattle.algebra.proofs.StaysBelow.{eval-below, drop-below}
-use Rattle.field.specs.Field.{fieldAt}
+use Rattle.field.specs.Field.{fieldAt, G}
 use Rattle.field.proofs.Ring.{ring}
-use Rattle.poly.specs.Lent.{G, Lent}
+use Rattle.poly.specs.Lent.{Lent}
 use Rattle.poly.proofs.Logs.{field-of, numbers-of, logs-fit, product-fits, product-at}
 
 pub value-none : (m : ℕ) (f : List ℕ) (x : ℕ) → length f ≡ 0 → 0 ≡ eval (G m) f x

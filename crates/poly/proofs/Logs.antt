@@ -21,14 +21,14 @@ use lib.Pow.{pow-pos}
 use lib.ListN.{length, getD, length-map}
 use Rattle.algebra.specs.Field.{OnNumbers, power}
 use Rattle.algebra.specs.Polynomial.{Below}
-use Rattle.refusals.proofs.Rows.{listed}
-use Rattle.field.specs.Field.{Field, size, order, mul, inverse, numbers, fieldAt}
+use Rattle.field.proofs.Known.{listed}
+use Rattle.field.specs.Field.{Field, size, order, mul, inverse, numbers, fieldAt, G}
 use Rattle.field.specs.Tables.{logOf, antilogOf}
 use Rattle.field.proofs.Ring.{power-lt, power-add}
 use Rattle.field.proofs.Generator.{Generated, generated, Small, small, unit, position-is, power-order, inverse-only}
 use Rattle.field.proofs.Logarithms.{log-position, log-lt, log-le, log-product}
 use Rattle.field.proofs.Instance.{known-numbers}
-use Rattle.poly.specs.Lent.{G, Lent, IsLog, Row, logRow, held}
+use Rattle.poly.specs.Lent.{Lent, IsLog, Row, logRow, held}
 
 -- ---- elements, for any field
 

@@ -18,10 +18,10 @@ use lib.Seq.{length-take-le, length-front, take-at}
 use Rattle.algebra.specs.Polynomial.{Below}
 use Rattle.algebra.specs.Routines.{norm}
 use Rattle.algebra.proofs.StaysBelow.{below-at, take-below}
-use Rattle.field.specs.Field.{mul, inverse, fieldAt}
+use Rattle.field.specs.Field.{mul, inverse, fieldAt, G}
 use Rattle.field.proofs.Ring.{ring}
 use Rattle.field.proofs.Generator.{inverse-lt, mul-inverse}
-use Rattle.poly.specs.Lent.{G, Lent}
+use Rattle.poly.specs.Lent.{Lent}
 use Rattle.poly.specs.Monic.{TopIs, front, MadeMonic, Scalable}
 use Rattle.slices.proofs.Filling.{Filling, map-from, map-on, fill-next, fill-end}
 use Rattle.poly.proofs.Logs.{field-of, logs-fit, product-fits, product-at}

@@ -12,7 +12,8 @@ use Rattle.algebra.specs.Routines.{rem}
 use Rattle.algebra.proofs.Lengths.{length-rem}
 use Rattle.slices.specs.Lists.{copied}
 use Rattle.slices.proofs.Lists.{copied-front, length-copied}
-use Rattle.poly.specs.Lent.{G, held}
+use Rattle.field.specs.Field.{G}
+use Rattle.poly.specs.Lent.{held}
 use Rattle.poly.specs.Division.{divided, Divisible, Reducible}
 use Rattle.poly.proofs.Logs.{held-long}
 use Rattle.poly.proofs.Parts.{part-rest, part-none}

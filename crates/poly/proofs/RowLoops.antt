@@ -13,10 +13,10 @@ use lib.Bits.{bitXor}
 use lib.ListN.{length, getD, drop, set, length-map}
 use Rattle.algebra.specs.Polynomial.{add}
 use Rattle.algebra.proofs.StaysBelow.{below-at}
-use Rattle.field.specs.Field.{mul, fieldAt}
+use Rattle.field.specs.Field.{mul, fieldAt, G}
 use Rattle.field.specs.Tables.{logOf, antilogOf}
 use Rattle.field.proofs.Ring.{ring}
-use Rattle.poly.specs.Lent.{G, logRow, held, Addable, Loggable}
+use Rattle.poly.specs.Lent.{logRow, held, Addable, Loggable}
 use Rattle.slices.proofs.Filling.{Filling, fill-from, fill-on, fill-next, fill-end, fill-stop, map-at}
 use Rattle.poly.proofs.Logs.{field-of, logs-fit, log-at, row-fits, row-at, held-long}
 use Rattle.poly.proofs.Sums.{add-at, add-rest, add-none, long-row}

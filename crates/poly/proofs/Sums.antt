@@ -15,9 +15,8 @@ use lib.Bits.{bitXor, xor-zero-r}
 use lib.ListN.{length, getD, drop, length-map}
 use Rattle.algebra.specs.Polynomial.{add}
 use Rattle.algebra.proofs.Lengths.{length-add-left}
-use Rattle.field.specs.Field.{mul, fieldAt}
+use Rattle.field.specs.Field.{mul, fieldAt, G}
 use Rattle.field.proofs.Xor.{xor-assoc}
-use Rattle.poly.specs.Lent.{G}
 
 module _ (m : ℕ) where
   pub add-at : (r q : List ℕ) (i : ℕ) → length q ≤ length r → i < length q → getD (add (G m) r q) i 0 ≡ bitXor (getD r i 0) (getD q i 0)

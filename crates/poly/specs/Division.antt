@@ -9,7 +9,8 @@ use Prim.Native.Nat.{ℕ, _-_, _^_, _≤_}
 use lib.ListN.{length, take}
 use Rattle.algebra.specs.Polynomial.{Below}
 use Rattle.algebra.specs.Routines.{rem, quo}
-use Rattle.poly.specs.Lent.{G, Lent, Row}
+use Rattle.field.specs.Field.{G}
+use Rattle.poly.specs.Lent.{Lent, Row}
 
 -- as many coefficients as f has
 unfoldable pub divided : ℕ → List ℕ → List ℕ → List ℕ

@@ -1,5 +1,4 @@
 -- What the routines are lent, and how they hold a polynomial to divide by.
---   G       the numbers below 2^m with the sum, product and inverse of the known field of degree m
 --   Lent    the degree is known, and the two lists are the field's log and antilog tables
 --   IsLog   x is the log of an element: of the one that the antilog of x is
 --   Row     a list of logs of elements
@@ -12,15 +11,10 @@ use mathlib.Core.Bool.{true}
 use mathlib.Core.List.{List, map}
 use Prim.Native.Nat.{ℕ, _^_, _≤_, _<_}
 use lib.ListN.{length, getD}
-use Rattle.algebra.specs.Field.{Ops}
 use Rattle.algebra.specs.Polynomial.{Below}
-use Rattle.refusals.specs.Rows.{known}
-use Rattle.field.specs.Field.{numbers, fieldAt}
+use Rattle.field.specs.Rows.{known}
+use Rattle.field.specs.Field.{fieldAt}
 use Rattle.field.specs.Tables.{logOf, antilogOf, Logs, Antilogs}
-
--- the field
-abbrev pub G : ℕ → Ops ℕ
-G m = numbers (fieldAt m)
 
 -- the tables
 pub record Lent (m : ℕ) (ls ts : List ℕ) : Type 0 where

@@ -12,7 +12,8 @@ use Prim.Native.Nat.{ℕ, zero, suc, _-_, _^_, _≤_, _<_}
 use lib.ListN.{length, getD, take}
 use Rattle.algebra.specs.Polynomial.{Below}
 use Rattle.algebra.specs.Routines.{norm}
-use Rattle.poly.specs.Lent.{G, Lent}
+use Rattle.field.specs.Field.{G}
+use Rattle.poly.specs.Lent.{Lent}
 
 -- nothing stands above
 pub record TopIs (r : List ℕ) (k : ℕ) : Type 0 where

@@ -5,7 +5,7 @@ use mathlib.Core.Path.{_≡_}
 use mathlib.Core.List.{List}
 use Prim.Native.Nat.{ℕ, _+_}
 use Rattle.algebra.specs.Polynomial.{eval}
-use Rattle.poly.specs.Lent.{G}
+use Rattle.field.specs.Field.{G}
 use Rattle.poly.specs.declared.values.Four.{Four}
 
 pub record FourValues (m : ℕ) (f : List ℕ) (x : ℕ) (v : Four) : Type 0 where

@@ -1,7 +1,8 @@
 // Division by a monic polynomial, in place: from the top each coefficient is the quotient's next digit, and a multiple of the row takes it back.
 ghost use mathlib.Core.Path.{_≡_};
 ghost use Rattle.algebra.specs.Routines.{rem};
-ghost use Rattle.poly.specs.Lent.{G, held};
+ghost use Rattle.field.specs.Field.{G};
+ghost use Rattle.poly.specs.Lent.{held};
 ghost use Rattle.poly.specs.Division.{divided, Divisible, Reducible};
 use crate::rows::add_row;
 

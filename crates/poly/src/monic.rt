@@ -3,8 +3,8 @@ ghost use mathlib.Core.Path.{_≡_};
 ghost use mathlib.Core.List.{map};
 ghost use Prim.Native.Nat.{_<_, _^_};
 ghost use Rattle.algebra.specs.Polynomial.{Below};
-ghost use Rattle.field.specs.Field.{inverse, fieldAt};
-ghost use Rattle.poly.specs.Lent.{G, Lent};
+ghost use Rattle.field.specs.Field.{inverse, fieldAt, G};
+ghost use Rattle.poly.specs.Lent.{Lent};
 ghost use Rattle.poly.specs.Monic.{TopIs, MadeMonic, Scalable};
 
 // The place behind the highest coefficient that is not 0; 0 where there is none.

@@ -2,7 +2,8 @@
 ghost use mathlib.Core.Path.{_≡_};
 ghost use mathlib.Core.List.{map};
 ghost use Rattle.algebra.specs.Polynomial.{add};
-ghost use Rattle.poly.specs.Lent.{G, logRow, held, Addable, Loggable};
+ghost use Rattle.field.specs.Field.{G};
+ghost use Rattle.poly.specs.Lent.{logRow, held, Addable, Loggable};
 
 // The kernel: adds t times the polynomial that the row holds to the front of r.
 pub fn add_row(m: u16, logs: &[u16], antilogs: &[u16], t: u16, row: &[u16], r: &mut [u16])

@@ -4,7 +4,8 @@ ghost use Prim.Native.Nat.{_+_, _<_, _^_};
 ghost use lib.Bits.{bitXor};
 ghost use lib.ListN.{length, getD};
 ghost use Rattle.algebra.specs.Polynomial.{eval, Below};
-ghost use Rattle.poly.specs.Lent.{G, Lent};
+ghost use Rattle.field.specs.Field.{G};
+ghost use Rattle.poly.specs.Lent.{Lent};
 ghost use Rattle.poly.specs.Values.{FourValues};
 
 // The value of f at x.

@@ -7,38 +7,51 @@ ghost use Prim.Native.Nat.{_-_, _*_, _^_, _≤_, _<_};
 ghost use lib.ListN.{length, take};
 ghost use Rattle.algebra.specs.Polynomial.{eval, Below};
 ghost use Rattle.algebra.specs.Routines.{rem, square, frobeniusMod, traceMod, cofactor};
-ghost use Rattle.refusals.specs.Rows.{known};
-ghost use Rattle.field.specs.Field.{fieldAt};
+ghost use Rattle.field.specs.Rows.{known};
+ghost use Rattle.field.specs.Field.{fieldAt, G};
 ghost use Rattle.field.specs.Tables.{Logs, Antilogs};
-ghost use Rattle.poly.specs.Lent.{G, Lent, Loggable, logRow, held};
+ghost use Rattle.poly.specs.Lent.{Lent, Loggable, logRow, held};
 ghost use Rattle.poly.specs.Division.{Reducible};
 ghost use Rattle.poly.specs.Monic.{TopIs, MadeMonic};
 ghost use Rattle.poly_powers.specs.Powers.{Squarable, Startable};
 ghost use Rattle.poly_gcd.specs.Euclid.{Turnable, GcdIs, Cofactorable};
-use field_tables::lending;
+use field_tables::constants::antilogs4;
+use field_tables::constants::antilogs8;
+use field_tables::constants::antilogs11;
+use field_tables::constants::logs4;
+use field_tables::constants::logs8;
+use field_tables::constants::logs11;
 use poly::division;
 use poly::monic;
 use poly::rows;
 use poly::values;
 
-// Lends the log table of the field of degree m.
+// Writes the log table of the field of degree m to the front of the room.
 #[no_mangle]
 pub extern "C" fn polynomial_logs(m: u16, room: &mut [u16])
     requires { ⌜ (known m ≡ true) × (2 ^ m ≤ length (now room)) ⌝ }
     ensures { λ _. ⌜ Logs (fieldAt m) (take (2 ^ m) (now (room .exit)))
         × (length (now (room .exit)) ≡ length (now (room .entry))) ⌝ }
 {
-    lending::logs(m, room);
+    match m {
+        4 => slices::copy(&logs4(), room),
+        8 => slices::copy(&logs8(), room),
+        _ => slices::copy(&logs11(), room),
+    }
 }
 
-// Lends the antilog table of the field of degree m.
+// Writes the antilog table of the field of degree m to the front of the room.
 #[no_mangle]
 pub extern "C" fn polynomial_antilogs(m: u16, room: &mut [u16])
     requires { ⌜ (known m ≡ true) × (3 * (2 ^ m - 1) ≤ length (now room)) ⌝ }
     ensures { λ _. ⌜ Antilogs (fieldAt m) (take (3 * (2 ^ m - 1)) (now (room .exit)))
         × (length (now (room .exit)) ≡ length (now (room .entry))) ⌝ }
 {
-    lending::antilogs(m, room);
+    match m {
+        4 => slices::copy(&antilogs4(), room),
+        8 => slices::copy(&antilogs8(), room),
+        _ => slices::copy(&antilogs11(), room),
+    }
 }
 
 // Writes the row of p.

@@ -14,10 +14,10 @@ use Rattle.algebra.specs.Routines.{monic, quo, cofactor}
 use Rattle.algebra.proofs.Lengths.{length-monic, length-cofactor}
 use Rattle.algebra.proofs.StaysBelow.{monic-below}
 use Rattle.field.specs.Tables.{logOf}
-use Rattle.field.specs.Field.{fieldAt}
+use Rattle.field.specs.Field.{fieldAt, G}
 use Rattle.slices.specs.Lists.{copied}
 use Rattle.slices.proofs.Lists.{copied-front, length-copied}
-use Rattle.poly.specs.Lent.{G, Row, logRow, held}
+use Rattle.poly.specs.Lent.{Row, logRow, held}
 use Rattle.poly.specs.Division.{divided, Divisible}
 use Rattle.poly_gcd.specs.Euclid.{Cofactorable}
 use Rattle.poly.proofs.Logs.{numbers-of, held-row, row-is-row}

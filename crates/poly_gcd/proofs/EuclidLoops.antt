@@ -20,10 +20,10 @@ use Rattle.algebra.specs.Routines.{monic, rem, norm, gcd}
 use Rattle.algebra.proofs.Lengths.{length-rem, gcd-unroll}
 use Rattle.algebra.proofs.StaysBelow.{rem-below, norm-below, monic-below}
 use Rattle.field.specs.Tables.{logOf}
-use Rattle.field.specs.Field.{fieldAt}
+use Rattle.field.specs.Field.{fieldAt, G}
 use Rattle.slices.specs.Lists.{copied}
 use Rattle.slices.proofs.Lists.{copied-front}
-use Rattle.poly.specs.Lent.{G, Lent, Row, Loggable, logRow, held}
+use Rattle.poly.specs.Lent.{Lent, Row, Loggable, logRow, held}
 use Rattle.poly.specs.Division.{divided, Divisible}
 use Rattle.poly.specs.Monic.{front, MadeMonic}
 use Rattle.poly_gcd.specs.Euclid.{Turnable, Reducing, LeftIn, Turned, GcdIs}

@@ -14,7 +14,8 @@ use Rattle.algebra.specs.Routines.{monic}
 use Rattle.algebra.proofs.StaysBelow as S
 use Rattle.algebra.proofs.NumberDivision.{gcd-right}
 use Rattle.algebra.proofs.NumberMonic.{Made, norm-made, norm-none}
-use Rattle.poly.specs.Lent.{G, Lent}
+use Rattle.field.specs.Field.{G}
+use Rattle.poly.specs.Lent.{Lent}
 use Rattle.poly.specs.Monic.{MadeMonic}
 use Rattle.poly_gcd.specs.Euclid.{Turnable, GcdIs}
 use Rattle.poly.proofs.Logs.{numbers-of}

@@ -12,7 +12,8 @@ use Prim.Native.Nat.{ℕ, _+_, _-_, _^_, _≤_, _<_}
 use lib.ListN.{length, take}
 use Rattle.algebra.specs.Polynomial.{Below}
 use Rattle.algebra.specs.Routines.{monic, rem, norm, gcd}
-use Rattle.poly.specs.Lent.{G, Lent}
+use Rattle.field.specs.Field.{G}
+use Rattle.poly.specs.Lent.{Lent}
 use Rattle.poly.specs.Monic.{front}
 
 -- with room for the divisor's leading 1, for a remainder as long as the divisor, and for a row

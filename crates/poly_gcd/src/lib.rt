@@ -1,7 +1,7 @@
 // Euclid's loop: the monic greatest common divisor of a monic polynomial and another. The two slices change roles at each division, so that nothing is copied.
 ghost use mathlib.Core.Path.{_≡_};
 ghost use Rattle.algebra.specs.Routines.{cofactor};
-ghost use Rattle.poly.specs.Lent.{G};
+ghost use Rattle.field.specs.Field.{G};
 ghost use Rattle.poly_gcd.specs.Euclid.{Turnable, Reducing, LeftIn, Turned, GcdIs, Cofactorable};
 use poly::division::divide;
 use poly::monic::make_monic;

@@ -18,10 +18,10 @@ use Rattle.algebra.specs.Polynomial.{add, Below}
 use Rattle.algebra.specs.Routines.{rem, square, frobeniusMod, traceMod}
 use Rattle.algebra.proofs.Lengths.{length-rem, length-square, length-add-left}
 use Rattle.algebra.proofs.StaysBelow.{below-at, rem-below, square-below}
-use Rattle.field.specs.Field.{mul, fieldAt}
+use Rattle.field.specs.Field.{mul, fieldAt, G}
 use Rattle.field.proofs.Ring.{ring}
 use Rattle.slices.specs.Lists.{copied}
-use Rattle.poly.specs.Lent.{G, Lent, held}
+use Rattle.poly.specs.Lent.{Lent, held}
 use Rattle.poly.specs.Division.{divided, Divisible, Reducible}
 use Rattle.poly_powers.specs.Powers.{Spreadable, Squarable}
 use Rattle.slices.proofs.Filling.{Filling, fill-from, fill-on, fill-next, fill-end}

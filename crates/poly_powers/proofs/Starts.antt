@@ -12,9 +12,9 @@ use Rattle.algebra.specs.Polynomial.{Below}
 use Rattle.algebra.specs.Routines.{rem}
 use Rattle.algebra.proofs.Lengths.{length-rem}
 use Rattle.algebra.proofs.StaysBelow.{rem-below}
-use Rattle.field.specs.Field.{fieldAt}
+use Rattle.field.specs.Field.{fieldAt, G}
 use Rattle.field.specs.Tables.{logOf}
-use Rattle.poly.specs.Lent.{G, Lent, Row, Loggable, logRow, held}
+use Rattle.poly.specs.Lent.{Lent, Row, Loggable, logRow, held}
 use Rattle.poly_powers.specs.Powers.{Squarable, Startable, Savable, Saved}
 use Rattle.poly.proofs.Logs.{numbers-of, held-row, held-below, held-long, row-is-row}
 

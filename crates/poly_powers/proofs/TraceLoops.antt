@@ -13,9 +13,9 @@ use lib.ListN.{length, take, drop, length-append, length-map, length-drop}
 use lib.Seq.{take-at, drop-drop, getD-take, getD-drop, length-take-le}
 use Rattle.algebra.specs.Polynomial.{add}
 use Rattle.algebra.specs.Routines.{rem, square}
-use Rattle.field.specs.Field.{mul, fieldAt}
+use Rattle.field.specs.Field.{mul, fieldAt, G}
 use Rattle.field.specs.Tables.{logOf}
-use Rattle.poly.specs.Lent.{G, Row, IsLog, logRow, held, Addable, Loggable}
+use Rattle.poly.specs.Lent.{Row, IsLog, logRow, held, Addable, Loggable}
 use Rattle.poly_powers.specs.Powers.{Savable, Saved, Summable, powerRows, traceSum}
 use Rattle.poly.proofs.Logs.{numbers-of, held-long}
 use Rattle.poly.proofs.Sums.{add-nil, add-assoc, long-row}

@@ -18,9 +18,9 @@ use Rattle.algebra.proofs.StaysBelow.{add-below, eval-below, rem-below, scale-b
 use Rattle.algebra.proofs.NumberElements.{square-mul}
 use Rattle.algebra.proofs.NumberEvaluation.{eval-add, eval-scale, eval-square}
 use Rattle.algebra.proofs.NumberDivision.{eval-rem}
-use Rattle.field.specs.Field.{fieldAt}
+use Rattle.field.specs.Field.{fieldAt, G}
 use Rattle.field.specs.Tables.{logOf}
-use Rattle.poly.specs.Lent.{G, Lent, Row, IsLog, logRow, held}
+use Rattle.poly.specs.Lent.{Lent, Row, IsLog, logRow, held}
 use Rattle.poly_powers.specs.Powers.{powerRows, traceSum}
 use Rattle.poly.proofs.Logs.{numbers-of, held-row, held-below, row-is-row}
 

@@ -15,7 +15,8 @@ use Prim.Native.Nat.{ℕ, zero, suc, _+_, _*_, _^_, _≤_, _<_}
 use lib.ListN.{length, take, drop}
 use Rattle.algebra.specs.Polynomial.{Below, add}
 use Rattle.algebra.specs.Routines.{rem, square, frobeniusMod}
-use Rattle.poly.specs.Lent.{G, Lent, Row, logRow, held}
+use Rattle.field.specs.Field.{G}
+use Rattle.poly.specs.Lent.{Lent, Row, logRow, held}
 
 -- twice as many places
 pub record Spreadable (m : ℕ) (ls ts w s : List ℕ) : Type 0 where

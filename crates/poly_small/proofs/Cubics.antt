@@ -20,7 +20,7 @@ use Rattle.algebra.proofs.StaysBelow.{add-below, rem-below, frobeniusMod-below,
 use Rattle.algebra.proofs.NumberSteps.{field-run, trace-run}
 use Rattle.slices.specs.Lists.{copied}
 use Rattle.slices.proofs.Lists.{copied-front, length-copied}
-use Rattle.poly.specs.Lent.{G}
+use Rattle.field.specs.Field.{G}
 use Rattle.poly_powers.specs.Powers.{Startable}
 use Rattle.poly_gcd.specs.Euclid.{Turnable, GcdIs}
 use Rattle.poly.proofs.Logs.{numbers-of}

@@ -15,7 +15,7 @@ use lib.ListN.{length, take}
 use lib.Seq.{length-take-le}
 use Rattle.algebra.specs.Polynomial.{traceOf}
 use Rattle.algebra.specs.Routines.{gcd}
-use Rattle.poly.specs.Lent.{G}
+use Rattle.field.specs.Field.{G}
 use Rattle.poly_small.specs.Parting.{Cubic, GcdOf, Parts, Partable, Parted}
 
 -- b is 2^i, and no level below i parts the cubic

@@ -1,5 +1,4 @@
 -- Degrees 0 to 2, as the code comes to them.
---   poly-is, poly-never         the polynomial that a row hands out
 --   quadratic-asks              what the quadratic solver asks
 --   quadratic-list              the roots are the values of its answer
 --   front-none, front-one, front-two   lists of no, one and two numbers at the front
@@ -11,40 +10,24 @@
 -- Assumes nothing.
 use mathlib.Core.Path.{_≡_, sym, ap, _∙_, subst}
 use mathlib.Core.Logic.{_≢_}
-use mathlib.Core.Bool.{true, false}
+use mathlib.Core.Bool.{true}
 use mathlib.Core.List.{List, [], _∷_, _++_}
 use Prim.Native.Nat.{ℕ, _^_, _≤_, _<_}
 use native.Mathlib.Omega.{arith}
-use lib.Dec.{T}
 use lib.ListN.{length, getD, take, set, length-set, length-take}
 use lib.Seq.{take-suc-set}
 use Rattle.algebra.specs.Field.{OnNumbers}
-use Rattle.algebra.specs.Polynomial.{Below, rootsOf}
+use Rattle.algebra.specs.Polynomial.{Below}
 use Rattle.algebra.specs.Routines.{monic}
 use Rattle.algebra.proofs.RootList.{rootsOf-none, rootsOf-one, rootsOf-count}
-use Rattle.refusals.specs.Rows.{known, polyOf, rowAt, Listed}
-use Rattle.refusals.specs.declared.Row.{Row}
-use Rattle.refusals.specs.declared.Found.{Found}
-use Rattle.refusals.specs.declared.Found.the-variants.{At, Unknown}
-use Rattle.refusals.proofs.Rows.{listed, row-unknown}
-use Rattle.refusals.proofs.Admitting.{is-listed}
-use Rattle.field.specs.Field.{fieldOf}
+use Rattle.field.specs.Rows.{known, polyOf, Listed}
+use Rattle.field.proofs.Known.{listed}
+use Rattle.field.specs.Field.{fieldOf, G, rootsAt}
 use Rattle.field.specs.Tables.{Halves}
-use Rattle.field.specs.Quadratics.{paperRoots, rootsOfQuadratic}
+use Rattle.field.specs.Quadratics.{rootsIn, rootsOfQuadratic}
 use Rattle.field.specs.declared.solver.Quadratic.{Quadratic}
 use Rattle.field.proofs.Instance.{known-numbers}
-use Rattle.poly.specs.Lent.{G}
 use Rattle.poly_small.specs.Roots.{Front, RootsOut, Halvable, Lowly}
-
--- ---- the field's polynomial
-
--- a known degree has its row
-pub poly-is : (m : ℕ) {f : Found} {row : Row} → f ≡ rowAt m → f ≡ At row → row .poly ≡ polyOf m
-poly-is m e u = sym (is-listed m e u .list .poly)
-
--- so it is never unknown
-pub poly-never : (m n : ℕ) {f : Found} → known m ≡ true → f ≡ rowAt m → f ≡ Unknown → n ≡ polyOf m
-poly-never m n k e u = let z : true ≡ false = sym k ∙ row-unknown m (sym e ∙ u) in absurd (subst T z tt)
 
 -- ---- numbers at the front
 
@@ -80,9 +63,9 @@ quadratic-asks {m} {hs = hs} h e = (
 )
 
 -- the roots are the values of the answer
-pub quadratic-list : (m a b : ℕ) {poly : ℕ} {q r : Quadratic} → poly ≡ polyOf m → paperRoots q ≡ (0, rootsOfQuadratic (fieldOf m poly) a b) → q ≡ r
-    → rootsOf (G m) (2 ^ m) (b ∷ a ∷ 1 ∷ []) ≡ paperRoots r .1
-quadratic-list m a b e h s = ap (λ n. rootsOfQuadratic (fieldOf m n) a b) (sym e) ∙ sym (ap (λ u. u .1) h) ∙ ap (λ u. paperRoots u .1) s
+pub quadratic-list : (m a b : ℕ) {poly : ℕ} {q r : Quadratic} → poly ≡ polyOf m → rootsIn q ≡ rootsOfQuadratic (fieldOf m poly) a b → q ≡ r
+    → rootsAt m (b ∷ a ∷ 1 ∷ []) ≡ rootsIn r
+quadratic-list m a b e h s = ap (λ n. rootsOfQuadratic (fieldOf m n) a b) (sym e) ∙ sym h ∙ ap rootsIn s
 
 -- one root
 pub quadratic-one : {m a b : ℕ} {hs out : List ℕ} (x : ℕ) {rs : List ℕ} → Halvable m hs a b out → rs ≡ x ∷ [] → Front rs 1 (set out 0 x)
@@ -100,18 +83,18 @@ module _ {m : ℕ} {hs p out : List ℕ} (l : Lowly m hs p out) where
   N = known-numbers (listed m (l .degree))
 
   -- a constant has no root
-  pub low-none : length p ≡ 0 → Front (rootsOf (G m) (2 ^ m) (monic (G m) p)) 0 out
+  pub low-none : length p ≡ 0 → Front (rootsAt m (monic (G m) p)) 0 out
   low-none e = front-none out (go p e)
     where
-      go : (p : List ℕ) → length p ≡ 0 → rootsOf (G m) (2 ^ m) (monic (G m) p) ≡ []
+      go : (p : List ℕ) → length p ≡ 0 → rootsAt m (monic (G m) p) ≡ []
       go [] e = rootsOf-none N
       go (x ∷ p) e = absurd (omega arith)
 
   -- z + c has the root c
-  pub low-one : length p ≡ 1 → Front (rootsOf (G m) (2 ^ m) (monic (G m) p)) 1 (set out 0 (getD p 0 0))
+  pub low-one : length p ≡ 1 → Front (rootsAt m (monic (G m) p)) 1 (set out 0 (getD p 0 0))
   low-one e = front-one out (getD p 0 0) (omega (arith, l .room)) (go p (l .small) e)
     where
-      go : (p : List ℕ) → Below (2 ^ m) p → length p ≡ 1 → rootsOf (G m) (2 ^ m) (monic (G m) p) ≡ getD p 0 0 ∷ []
+      go : (p : List ℕ) → Below (2 ^ m) p → length p ≡ 1 → rootsAt m (monic (G m) p) ≡ getD p 0 0 ∷ []
       go [] s e = absurd (omega arith)
       go (x ∷ []) s e = rootsOf-one N x (s .0)
       go (x ∷ y ∷ p) s e = absurd (omega arith)
@@ -130,11 +113,11 @@ module _ {m : ℕ} {hs p out : List ℕ} (l : Lowly m hs p out) where
       go (x ∷ y ∷ p) s e = (s .1 .0, s .0)
 
   -- a quadratic's roots
-  pub low-two : {k : ℕ} {o : List ℕ} → length p ≢ 0 → length p ≢ 1 → Front (rootsOf (G m) (2 ^ m) (getD p 0 0 ∷ getD p 1 0 ∷ 1 ∷ [])) k o
-      → Front (rootsOf (G m) (2 ^ m) (monic (G m) p)) k o
+  pub low-two : {k : ℕ} {o : List ℕ} → length p ≢ 0 → length p ≢ 1 → Front (rootsAt m (getD p 0 0 ∷ getD p 1 0 ∷ 1 ∷ [])) k o
+      → Front (rootsAt m (monic (G m) p)) k o
   low-two {k} {o} a b = go p (two a b)
     where
-      go : (p : List ℕ) → length p ≡ 2 → Front (rootsOf (G m) (2 ^ m) (getD p 0 0 ∷ getD p 1 0 ∷ 1 ∷ [])) k o → Front (rootsOf (G m) (2 ^ m) (monic (G m) p)) k o
+      go : (p : List ℕ) → length p ≡ 2 → Front (rootsAt m (getD p 0 0 ∷ getD p 1 0 ∷ 1 ∷ [])) k o → Front (rootsAt m (monic (G m) p)) k o
       go [] e f = absurd (omega arith)
       go (x ∷ []) e f = absurd (omega arith)
       go (x ∷ y ∷ []) e f = f
@@ -144,9 +127,9 @@ module _ {m : ℕ} {hs p out : List ℕ} (l : Lowly m hs p out) where
 
 -- a list of the roots of monic p, where monic r has the same
 pub front-out : {m : ℕ} {p : List ℕ} (r : List ℕ) {k : ℕ} {o : List ℕ} → known m ≡ true → Below (2 ^ m) p
-    → rootsOf (G m) (2 ^ m) (monic (G m) r) ≡ rootsOf (G m) (2 ^ m) (monic (G m) p) → Front (rootsOf (G m) (2 ^ m) (monic (G m) r)) k o → RootsOut m p k o
+    → rootsAt m (monic (G m) r) ≡ rootsAt m (monic (G m) p) → Front (rootsAt m (monic (G m) r)) k o → RootsOut m p k o
 front-out {m} {p} r {k} {o} d h e f =
-    let s : take k o ≡ rootsOf (G m) (2 ^ m) (monic (G m) p) = f .front ∙ e in
+    let s : take k o ≡ rootsAt m (monic (G m) p) = f .front ∙ e in
     record {
       count = omega (arith, f .count, ap length e, rootsOf-count (known-numbers (listed m d)) p h);
       members = λ x. rw s (λ t. t, λ t. t);

@@ -19,15 +19,15 @@ use native.Mathlib.Omega.{arith}
 use lib.ListN.{length, take, drop, length-append, length-drop}
 use lib.Seq.{length-take-le, take-append-add, take-append-le, take-at}
 use Rattle.algebra.specs.Field.{OnNumbers, squared}
-use Rattle.algebra.specs.Polynomial.{Below, rootsOf, fieldPoly, traceOf}
+use Rattle.algebra.specs.Polynomial.{Below, fieldPoly, traceOf}
 use Rattle.algebra.specs.Routines.{gcd, cofactor, monic}
 use Rattle.algebra.proofs.Lengths.{length-cofactor}
 use Rattle.algebra.proofs.StaysBelow.{gcd-below, cofactor-below, traceOf-below, fieldPoly-below}
 use Rattle.algebra.proofs.RootList.{rootsOf-count, rootsOf-parts, rootsOf-begin}
 use Rattle.algebra.proofs.Parting.{parting-roots}
-use Rattle.field.specs.Field.{fieldAt}
+use Rattle.field.specs.Field.{fieldAt, G, rootsAt}
 use Rattle.field.proofs.Instance.{squared-size}
-use Rattle.poly.specs.Lent.{G, Lent}
+use Rattle.poly.specs.Lent.{Lent}
 use Rattle.poly_gcd.specs.Euclid.{Cofactorable}
 use Rattle.poly.proofs.Logs.{numbers-of, field-of, small-of}
 use Rattle.poly_small.specs.Roots.{Front, RootsOut, Lowly, Solvable}
@@ -87,15 +87,15 @@ module _ {m : ℕ} {ls ts hs p g out : List ℕ} (i : Pieces m ls ts hs p g out)
       }
 
   -- the roots of one part leave room for the others
-  pub piece-room : {k : ℕ} {o : List ℕ} → Front (rootsOf (G m) (2 ^ m) (monic (G m) g)) k o → k ≤ length g
+  pub piece-room : {k : ℕ} {o : List ℕ} → Front (rootsAt m (monic (G m) g)) k o → k ≤ length g
   piece-room f = omega (arith, f .count, rootsOf-count N g small-g)
 
   -- it has few roots
-  pub rest-count : {h : List ℕ} {j : ℕ} {u : List ℕ} → h ≡ cofactor (G m) p g → Front (rootsOf (G m) (2 ^ m) (monic (G m) h)) j u → j ≤ 3
+  pub rest-count : {h : List ℕ} {j : ℕ} {u : List ℕ} → h ≡ cofactor (G m) p g → Front (rootsAt m (monic (G m) h)) j u → j ≤ 3
   rest-count {h} e f = omega (arith, f .count, rest-long e, rootsOf-count N h (subst (Below (2 ^ m)) (sym e) (cofactor-below N p g (i .given .small) small-g)))
 
   -- and they have room behind the first
-  pub rest-room : {k : ℕ} {o : List ℕ} → Front (rootsOf (G m) (2 ^ m) (monic (G m) g)) k o → length o ≡ length out → 3 - length g ≤ length (take (length o - k) (drop k o))
+  pub rest-room : {k : ℕ} {o : List ℕ} → Front (rootsAt m (monic (G m) g)) k o → length o ≡ length out → 3 - length g ≤ length (take (length o - k) (drop k o))
   rest-room {k} {o} f e = omega (arith, piece-room f, i .less, i .given .room, length-take-le (length o - k) (drop k o) (omega (arith, length-drop k o)))
 
   -- what is left without the part stands in front
@@ -104,18 +104,18 @@ module _ {m : ℕ} {ls ts hs p g out : List ℕ} (i : Pieces m ls ts hs p g out)
 
   -- the roots of both parts
   pub pieces-out : {h : List ℕ} {k j : ℕ} {o u : List ℕ} (t : List ℕ) → h ≡ cofactor (G m) p g
-      → Front (rootsOf (G m) (2 ^ m) (monic (G m) g)) k o → Front (rootsOf (G m) (2 ^ m) (monic (G m) h)) j u → RootsOut m p (k + j) (take k o ++ (u ++ t))
+      → Front (rootsAt m (monic (G m) g)) k o → Front (rootsAt m (monic (G m) h)) j u → RootsOut m p (k + j) (take k o ++ (u ++ t))
   pieces-out {h} {k} {j} {o} {u} t e a b =
-      let rg : List ℕ = rootsOf (G m) (2 ^ m) (monic (G m) g) in
-      let rh : List ℕ = rootsOf (G m) (2 ^ m) (monic (G m) h) in
+      let rg : List ℕ = rootsAt m (monic (G m) g) in
+      let rh : List ℕ = rootsAt m (monic (G m) h) in
       let whole : take (k + j) (take k o ++ (u ++ t)) ≡ rg ++ rh =
       ap (λ n. take (n + j) (take k o ++ (u ++ t))) (sym (length-take-le k o (front-within a))) ∙ take-append-add (take k o) (u ++ t) j
       ∙ ap₂ (λ x y. x ++ y) (a .front) (take-append-le j u t (front-within b) ∙ b .front) in
       let is-h : cofactor (G m) p (gcd (G m) p (i .with)) ≡ h = ap (cofactor (G m) p) (sym (i .is)) ∙ sym e in
       let lh : length h ≡ length p - length g = ap length e ∙ length-cofactor (G m) p g in
-      let both : (x : ℕ) → List·Memᴰ x (rootsOf (G m) (2 ^ m) (monic (G m) p)) ↔ (List·Memᴰ x rg ⊎ List·Memᴰ x rh) =
-      λ x. subst (λ v. List·Memᴰ x (rootsOf (G m) (2 ^ m) (monic (G m) p)) ↔ (List·Memᴰ x rg ⊎ List·Memᴰ x (rootsOf (G m) (2 ^ m) (monic (G m) v)))) is-h
-      (subst (λ v. List·Memᴰ x (rootsOf (G m) (2 ^ m) (monic (G m) p)) ↔ (List·Memᴰ x (rootsOf (G m) (2 ^ m) (monic (G m) v)) ⊎ List·Memᴰ x (rootsOf (G m) (2 ^ m) (monic (G m) (cofactor (G m) p (gcd (G m) p (i .with)))))))
+      let both : (x : ℕ) → List·Memᴰ x (rootsAt m (monic (G m) p)) ↔ (List·Memᴰ x rg ⊎ List·Memᴰ x rh) =
+      λ x. subst (λ v. List·Memᴰ x (rootsAt m (monic (G m) p)) ↔ (List·Memᴰ x rg ⊎ List·Memᴰ x (rootsAt m (monic (G m) v)))) is-h
+      (subst (λ v. List·Memᴰ x (rootsAt m (monic (G m) p)) ↔ (List·Memᴰ x (rootsAt m (monic (G m) v)) ⊎ List·Memᴰ x (rootsAt m (monic (G m) (cofactor (G m) p (gcd (G m) p (i .with)))))))
       (sym (i .is)) (rootsOf-parts N p (i .with) (i .given .small) (i .small) x)) in
       record {
         count = omega (
@@ -174,8 +174,8 @@ module _ {m : ℕ} {ls ts hs p out : List ℕ} (s : Solvable m ls ts hs p out) (
     part-long = length-take-le n g (omega (arith, d .count))
 
     -- it has all the roots
-    part-roots : rootsOf (G m) (2 ^ m) (monic (G m) (take n g)) ≡ rootsOf (G m) (2 ^ m) (monic (G m) p)
-    part-roots = ap (λ r. rootsOf (G m) (2 ^ m) (monic (G m) r)) (d .low) ∙ rootsOf-begin M m refl (M .one-below) (field-laws (s .tables)) p (s .small)
+    part-roots : rootsAt m (monic (G m) (take n g)) ≡ rootsAt m (monic (G m) p)
+    part-roots = ap (λ r. rootsAt m (monic (G m) r)) (d .low) ∙ rootsOf-begin M m refl (M .one-below) (field-laws (s .tables)) p (s .small)
 
     -- of degree at most 2
     pub split-low : n < 3 → Lowly m hs (take n g) out
@@ -183,7 +183,7 @@ module _ {m : ℕ} {ls ts hs p out : List ℕ} (s : Solvable m ls ts hs p out) (
         record { degree = s .tables .degree; halves = s .halves; small = part-small; low = omega (arith, part-long); room = omega (arith, part-long, s .room) }
 
     -- its roots are those of the cubic
-    pub split-out : {k : ℕ} {o : List ℕ} → Front (rootsOf (G m) (2 ^ m) (monic (G m) (take n g))) k o → RootsOut m p k o
+    pub split-out : {k : ℕ} {o : List ℕ} → Front (rootsAt m (monic (G m) (take n g))) k o → RootsOut m p k o
     split-out f = front-out (take n g) (s .tables .degree) (s .small) part-roots f
 
     -- of degree 3
@@ -208,6 +208,6 @@ module _ {m : ℕ} {ls ts hs p out : List ℕ} (s : Solvable m ls ts hs p out) (
     pub whole-out : {k : ℕ} {o : List ℕ} → 3 ≤ n → RootsOut m (take 3 g) k o → RootsOut m p k o
     whole-out {k} {o} h r =
         let l : length (take 3 g) ≡ 3 = length-take-le 3 g (omega arith) in
-        let e : rootsOf (G m) (2 ^ m) (monic (G m) (take 3 g)) ≡ rootsOf (G m) (2 ^ m) (monic (G m) p) =
-        ap (λ u. rootsOf (G m) (2 ^ m) (monic (G m) u)) (whole h) ∙ part-roots in
+        let e : rootsAt m (monic (G m) (take 3 g)) ≡ rootsAt m (monic (G m) p) =
+        ap (λ u. rootsAt m (monic (G m) u)) (whole h) ∙ part-roots in
         record { count = omega (arith, r .count); members = λ x. subst (λ u. List·Memᴰ x (take k o) ↔ List·Memᴰ x u) e (r .members x) }

@@ -13,7 +13,8 @@ use Prim.Native.Nat.{ℕ, _^_, _≤_, _<_}
 use lib.ListN.{length, take}
 use Rattle.algebra.specs.Polynomial.{Below, traceOf}
 use Rattle.algebra.specs.Routines.{gcd}
-use Rattle.poly.specs.Lent.{G, Lent}
+use Rattle.field.specs.Field.{G}
+use Rattle.poly.specs.Lent.{Lent}
 use Rattle.poly_small.specs.Roots.{Solvable}
 
 -- with room for the leading 1

@@ -11,12 +11,12 @@ use mathlib.Core.Bool.{true}
 use mathlib.Core.List.{List, List·Memᴰ}
 use Prim.Native.Nat.{ℕ, _^_, _≤_, _<_}
 use lib.ListN.{length, take}
-use Rattle.algebra.specs.Polynomial.{Below, rootsOf}
+use Rattle.algebra.specs.Polynomial.{Below}
 use Rattle.algebra.specs.Routines.{monic}
-use Rattle.refusals.specs.Rows.{known}
-use Rattle.field.specs.Field.{fieldAt}
+use Rattle.field.specs.Rows.{known}
+use Rattle.field.specs.Field.{fieldAt, G, rootsAt}
 use Rattle.field.specs.Tables.{Halves}
-use Rattle.poly.specs.Lent.{G, Lent}
+use Rattle.poly.specs.Lent.{Lent}
 
 -- in this order
 pub record Front (rs : List ℕ) (k : ℕ) (out : List ℕ) : Type 0 where
@@ -26,7 +26,7 @@ pub record Front (rs : List ℕ) (k : ℕ) (out : List ℕ) : Type 0 where
 -- in any order
 pub record RootsOut (m : ℕ) (p : List ℕ) (k : ℕ) (out : List ℕ) : Type 0 where
   pub count : k ≤ length p
-  pub members : (x : ℕ) → List·Memᴰ x (take k out) ↔ List·Memᴰ x (rootsOf (G m) (2 ^ m) (monic (G m) p))
+  pub members : (x : ℕ) → List·Memᴰ x (take k out) ↔ List·Memᴰ x (rootsAt m (monic (G m) p))
 
 -- two elements, and room for two roots
 pub record Halvable (m : ℕ) (hs : List ℕ) (a b : ℕ) (out : List ℕ) : Type 0 where

@@ -1,37 +1,19 @@
 // Degrees 0 to 2: no root, the coefficient itself, and the quadratic solver over a lent half-table.
-ghost use mathlib.Core.Path.{_≡_};
-ghost use mathlib.Core.Bool.{true};
 ghost use mathlib.Core.List.{[], _∷_};
-ghost use Prim.Native.Nat.{_^_};
-ghost use Rattle.refusals.specs.Rows.{known, polyOf};
-ghost use Rattle.algebra.specs.Polynomial.{rootsOf};
 ghost use Rattle.algebra.specs.Routines.{monic};
-ghost use Rattle.poly.specs.Lent.{G};
+ghost use Rattle.field.specs.Field.{G, rootsAt};
 ghost use Rattle.poly_small.specs.Roots.{Halvable, Lowly, Front};
+use field::rows::poly_of;
 use field::solver::Quadratic;
 use field::solver::quadratic_of;
-use refusals::Found;
-
-// The polynomial of the known field of degree m.
-fn poly_of(m: u16) -> u16
-    requires { ⌜ known m ≡ true ⌝ }
-    ensures { λ p. ⌜ p ≡ polyOf m ⌝ }
-{
-    let found = refusals::row_of(m);
-    let Found::At(row) = found else {
-        return 0;
-    };
-    row.poly
-}
 
 // Writes the roots of z^2 + az + b to the front of out. Returns how many there are.
 fn quadratic_roots(m: u16, halves: &[u16], a: u16, b: u16, out: &mut [u16]) -> usize
     requires { ⌜ Halvable m (now halves) a b (now out) ⌝ }
-    ensures { λ k. ⌜ Front (rootsOf (G m) (2 ^ m) (b ∷ a ∷ 1 ∷ [])) k (now (out .exit)) ⌝ }
+    ensures { λ k. ⌜ Front (rootsAt m (b ∷ a ∷ 1 ∷ [])) k (now (out .exit)) ⌝ }
 {
     let poly = poly_of(m);
     match quadratic_of(m, poly, halves, a, b) {
-        Quadratic::Refused(_) => 0,
         Quadratic::NoRoot => 0,
         Quadratic::One(x) => {
             out[0] = x;
@@ -48,7 +30,7 @@ fn quadratic_roots(m: u16, halves: &[u16], a: u16, b: u16, out: &mut [u16]) -> u
 // Writes the roots of the monic polynomial with the low coefficients p, at most 2 of them, to the front of out. Returns how many there are.
 pub fn low_roots(m: u16, halves: &[u16], p: &[u16], out: &mut [u16]) -> usize
     requires { ⌜ Lowly m (now halves) (now p) (now out) ⌝ }
-    ensures { λ k. ⌜ Front (rootsOf (G m) (2 ^ m) (monic (G m) (now (p .entry)))) k (now (out .exit)) ⌝ }
+    ensures { λ k. ⌜ Front (rootsAt m (monic (G m) (now (p .entry)))) k (now (out .exit)) ⌝ }
 {
     if p.len() == 0 {
         return 0;

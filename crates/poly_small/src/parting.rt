@@ -2,7 +2,7 @@
 ghost use Prim.Native.Nat.{_<_, _^_};
 ghost use lib.ListN.{length};
 ghost use Rattle.algebra.specs.Polynomial.{fieldPoly, traceOf};
-ghost use Rattle.poly.specs.Lent.{G};
+ghost use Rattle.field.specs.Field.{G};
 ghost use Rattle.poly_small.specs.Roots.{Solvable, RootsOut};
 ghost use Rattle.poly_small.specs.Parting.{Cubic, GcdOf, Partable, Parted, Pieces, Split};
 use crate::low::low_roots;

@@ -15,9 +15,9 @@ use lib.Seq.{ext-getD, getD-take, getD-append-add, length-take-le}
 use Rattle.algebra.specs.Field.{Ops, OnNumbers}
 use Rattle.algebra.specs.Trial.{All}
 use Rattle.algebra.specs.Polynomial.{add, eval, Below}
-use Rattle.refusals.proofs.Rows.{row11}
-use Rattle.refusals.specs.Rows.{polyIn}
-use Rattle.field.specs.Field.{Field, mul, numbers, fieldOf, fieldAt}
+use Rattle.field.proofs.Known.{row11}
+use Rattle.field.specs.Rows.{polyIn}
+use Rattle.field.specs.Field.{Field, mul, numbers, fieldOf, fieldAt, G}
 use Rattle.field.proofs.Digits.{bit-cases}
 use Rattle.field.proofs.Xor.{xor-assoc}
 use Rattle.field.proofs.Ring.{Monic, mul-zero-r}
@@ -257,12 +257,12 @@ unfolding number polyIn
 field11 = refl
 
 module _ {f p : List ℕ} (v : Values taps11 f p 32) (w : ℕ) (hw : w < 32) {z : ℕ} (e : z ≡ occupied (wordsAt 11 p (w * 11))) (l : ℕ) (hl : l < 64) where
-  pub free-hit : bitXor z 18446744073709551615 / 2 ^ l % 2 ≡ 1 → eval (numbers (fieldAt 11)) f (w * 64 + l) ≡ 0
+  pub free-hit : bitXor z 18446744073709551615 / 2 ^ l % 2 ≡ 1 → eval (G 11) f (w * 64 + l) ≡ 0
   free-hit h =
       ap (λ F. eval (numbers F) f (w * 64 + l)) (sym field11) ∙ sym (v .lanes w hw l hl)
       ∙ lane-is-zero l (wordsAt 11 p (w * 11)) .0 (ap (digit l) (sym e) ∙ bit-cases (λ (d : ℕ). bitXor d 1 ≡ 1 → d ≡ 0) (λ k. refl) (λ k. absurd (omega arith)) (z / 2 ^ l) (sym (not-digit z l hl) ∙ h))
 
-  pub free-miss : bitXor z 18446744073709551615 / 2 ^ l % 2 ≡ 0 → eval (numbers (fieldAt 11)) f (w * 64 + l) ≡ 0 → ⊥
+  pub free-miss : bitXor z 18446744073709551615 / 2 ^ l % 2 ≡ 0 → eval (G 11) f (w * 64 + l) ≡ 0 → ⊥
   free-miss h k =
       let o : digit l z ≡ 0 = ap (digit l) e ∙ lane-is-zero l (wordsAt 11 p (w * 11)) .1 (v .lanes w hw l hl ∙ ap (λ F. eval (numbers F) f (w * 64 + l)) field11 ∙ k) in
       let b : _≡_ {A = ℕ} 1 0 = sym (ap (λ (d : ℕ). bitXor d 1) o) ∙ sym (not-digit z l hl) ∙ h in

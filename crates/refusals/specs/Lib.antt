@@ -1,4 +1,3 @@
 pub mod Order
 pub mod Numbers
-pub mod Rows
 pub mod Admitting

@@ -8,6 +8,7 @@ ghost use Rattle.job_records.specs.Reading.{Stands};
 ghost use Rattle.job_lines.specs.Printing.{Ahead};
 use job_lines::Next;
 use job_records::Read;
+use job_text::LINE;
 use libc::STDERR_FILENO;
 use libc::STDIN_FILENO;
 use libc::STDOUT_FILENO;
@@ -52,7 +53,7 @@ fn print_turn(read: Read, bytes: &[u8], k: u32) -> usize
     requires { ⌜ (k + 1 < 2 ^ 32) × Stands read (now bytes) ⌝ }
     ensures { λ n. ⌜ Ahead read (now (bytes .entry)) n ⌝ }
 {
-    let mut out = [0u8; 221];
+    let mut out = [0u8; LINE];
     let turn = job_lines::take_turn(read, bytes, k, &mut out);
     let len = turn.len;
     if !print(&out[..len]) {

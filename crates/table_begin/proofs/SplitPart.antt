@@ -17,7 +17,7 @@ use lib.Bits.{bitXor, xor-zero-r}
 use lib.ListN.{length, getD, take, drop, set, replicate, length-append, length-set, length-replicate}
 use lib.Seq.{length-take-le, length-front, take-append-le, take-all}
 use Rattle.algebra.specs.Field.{Ops, Laws, OnNumbers}
-use Rattle.algebra.specs.Polynomial.{Below, coef, add, linear, frobenius, fieldPoly, rootsOf}
+use Rattle.algebra.specs.Polynomial.{Below, coef, add, linear, frobenius, fieldPoly}
 use Rattle.algebra.specs.Routines.{monic, rem, gcd, norm, frobeniusMod, monicRoots}
 use Rattle.algebra.proofs.Series.{plus}
 use Rattle.algebra.proofs.Coefficients.{coef-top}
@@ -35,9 +35,9 @@ use Rattle.slices.specs.Lists.{copied}
 use Rattle.slices.specs.Bounded.{allZero}
 use Rattle.slices.proofs.Lists.{copied-front, length-copied, drop-zeros}
 use Rattle.slices.proofs.Bounded.{allBelow-exactly}
-use Rattle.field.specs.Field.{fieldAt}
+use Rattle.field.specs.Field.{fieldAt, G, rootsAt}
 use Rattle.field.proofs.Instance.{squared-size}
-use Rattle.poly.specs.Lent.{G, Lent}
+use Rattle.poly.specs.Lent.{Lent}
 use Rattle.poly.specs.Monic.{front, MadeMonic}
 use Rattle.poly_powers.specs.Powers.{Startable, powerRows}
 use Rattle.poly_gcd.specs.Euclid.{Turnable, GcdIs}
@@ -141,7 +141,7 @@ module _ {m : ℕ} {ls ts p b rows : List ℕ} (g : Residual m ls ts p b rows) w
 
 -- ---- `split_part`
 
-module _ {m : ℕ} {ls ts cs out rows : List ℕ} (g : Splittable m ls ts cs out rows) {out₁ : List ℕ} (e : out₁ ≡ copied cs out) where
+module _ {m : ℕ} {cs ls ts out rows : List ℕ} (g : Splittable m cs ls ts out rows) {out₁ : List ℕ} (e : out₁ ≡ copied cs out) where
   -- the coefficients stand in front
   copy-front : take (length cs) out₁ ≡ cs
   copy-front = ap (take (length cs)) e ∙ copied-front cs out refl
@@ -152,7 +152,7 @@ module _ {m : ℕ} {ls ts cs out rows : List ℕ} (g : Splittable m ls ts cs out
 
   -- what making monic asks
   pub split-asks : Lent m ls ts × Below (2 ^ m) (take (length cs) out₁)
-  split-asks = (g .tables, subst (Below (2 ^ m)) (sym copy-front) (g .small))
+  split-asks = (g .tables, subst (Below (2 ^ m)) (sym copy-front) (g .polynomial .small))
 
   module _ {j : ℕ} {y : List ℕ} (d : MadeMonic m (take (length cs) out₁) j y) where
     -- they were made monic
@@ -177,8 +177,8 @@ module _ {m : ℕ} {ls ts cs out rows : List ℕ} (g : Splittable m ls ts cs out
         go (no n) =
             let none-left : norm (G m) (length cs) cs ≡ none = normed ∙ ap (λ i. front i y) (let z : j ≡ 0 = omega arith in z) in
             let zeros : allZero cs ≡ true =
-            allBelow-exactly 1 cs .1 (below-from 1 cs (λ i l. let z : getD cs i 0 ≡ 0 = norm-none (numbers-of (g .tables)) cs (g .small) none-left i in omega arith)) in
-            absurd (let b : _≡_ {A = Bool} true false = sym zeros ∙ g .nonzero in let o : _≡_ {A = ℕ} 0 1 = cc in let x : ⊥ = omega arith in x)
+            allBelow-exactly 1 cs .1 (below-from 1 cs (λ i l. let z : getD cs i 0 ≡ 0 = norm-none (numbers-of (g .tables)) cs (g .polynomial .small) none-left i in omega arith)) in
+            absurd (let b : _≡_ {A = Bool} true false = sym zeros ∙ g .polynomial .nonzero in let o : _≡_ {A = ℕ} 0 1 = cc in let x : ⊥ = omega arith in x)
 
     -- the low coefficients of the monic polynomial, where they stand
     p : List ℕ
@@ -202,7 +202,7 @@ module _ {m : ℕ} {ls ts cs out rows : List ℕ} (g : Splittable m ls ts cs out
 
     -- and they are elements
     small-p : Below (2 ^ m) p
-    small-p = norm-below (numbers-of (g .tables)) (length cs) cs (g .small) lead
+    small-p = norm-below (numbers-of (g .tables)) (length cs) cs (g .polynomial .small) lead
 
     -- they stand within the slice
     pub split-room : j - 1 ≤ length (y ++ drop (length cs) out₁)
@@ -214,17 +214,17 @@ module _ {m : ℕ} {ls ts cs out rows : List ℕ} (g : Splittable m ls ts cs out
     split-residual h = record {
       tables = g .tables;
       small = small-p;
-      few = omega (arith, long-p, within, split-some, g .few);
-      room = omega (arith, long-p, within, split-some, g .few);
+      few = omega (arith, long-p, within, split-some, g .polynomial .few);
+      room = omega (arith, long-p, within, split-some, g .polynomial .few);
       two = omega arith;
-      room-rows = le-trans (mul-le-mul-left m (let k : length p ≤ limit = omega (arith, long-p, within, split-some, g .few) in k)) (g .room-rows);
+      room-rows = le-trans (mul-le-mul-left m (let k : length p ≤ limit = omega (arith, long-p, within, split-some, g .polynomial .few) in k)) (g .room-rows);
     }
 
     -- the powers are those modulo the polynomial made monic
-    pub split-powered : {rows₁ : List ℕ} → take (m * length (take (j - 1) (y ++ drop (length cs) out₁))) rows₁
-        ≡ powerRows m (take (j - 1) (y ++ drop (length cs) out₁)) m (rem (G m) (take (j - 1) (y ++ drop (length cs) out₁)) (0 ∷ 1 ∷ [])) → Powered m cs (j - 1) rows₁
+    pub split-powered : (rows₁ : List ℕ) → take (m * length (take (j - 1) (y ++ drop (length cs) out₁))) rows₁
+        ≡ powerRows m (take (j - 1) (y ++ drop (length cs) out₁)) m (rem (G m) (take (j - 1) (y ++ drop (length cs) out₁)) (0 ∷ 1 ∷ [])) → Powered m cs (j - 1) (take (m * (j - 1)) rows₁)
     unfolding p
-    split-powered {rows₁} e = record { low = p; made = lead; long = long-p; rows-are = ap (λ k. take (m * k) rows₁) (sym long-p) ∙ e }
+    split-powered rows₁ e = record { low = p; made = lead; long = long-p; rows-are = ap (λ k. take (m * k) rows₁) (sym long-p) ∙ e }
 
     module _ {b : List ℕ} (r : Residue m (take (j - 1) (y ++ drop (length cs) out₁)) b) (h : length b ≡ suc limit) where
       -- what the greatest common divisor asks
@@ -232,9 +232,9 @@ module _ {m : ℕ} {ls ts cs out rows : List ℕ} (g : Splittable m ls ts cs out
       unfolding p
       split-turnable {row} {n} k l = record {
         tables = g .tables;
-        room-row = omega (arith, within, split-some, g .few);
+        room-row = omega (arith, within, split-some, g .polynomial .few);
         room-a = omega (arith, long-out, within, split-some, g .room);
-        room-b = omega (arith, within, split-some, g .few);
+        room-b = omega (arith, within, split-some, g .polynomial .few);
         within = omega arith;
         small-a = small-p;
         small-b = take-below (2 ^ m) n b (r .small);
@@ -245,11 +245,11 @@ module _ {m : ℕ} {ls ts cs out rows : List ℕ} (g : Splittable m ls ts cs out
       unfolding p
       split-is {k} {a} l i =
           let N : OnNumbers (G m) (2 ^ m) = numbers-of (g .tables) in
-          let roots : List ℕ = rootsOf (G m) (2 ^ m) cs in
+          let roots : List ℕ = rootsAt m cs in
           let fewer : k < length cs = omega (arith, i .count, within, split-some) in
           let low : take k a ≡ monicRoots (G m) roots =
           i .low ∙ ap (gcd (G m) p) (take-all (suc limit) b (omega arith)) ∙ r .same
-          ∙ split-part N m refl (N .one-below) (squared-size (fieldAt m) (field-of (g .tables))) cs (g .small) lead in
+          ∙ split-part N m refl (N .one-below) (squared-size (fieldAt m) (field-of (g .tables))) cs (g .polynomial .small) lead in
           record {
             count = sym (length-take-le k a (omega (arith, g .room))) ∙ ap length low ∙ length-monicRoots (G m) roots;
             fewer = fewer;

@@ -11,7 +11,7 @@ use lib.Dec.{eqb, ltb}
 use lib.ListN.{length}
 use Rattle.refusals.specs.Order.{outcome, memory, Answers}
 use Rattle.refusals.specs.Numbers.{numberOf}
-use Rattle.table_rules.specs.Cutoff.{inForce}
+use Rattle.table_rules.specs.Cutoff.{highestCutoff, inForce}
 use Rattle.table_rules.specs.Layout.{byFactor}
 use Rattle.table_rules.specs.Limit.{slots}
 use Rattle.table_rules.specs.Polynomials.{polynomialTests}
@@ -20,7 +20,7 @@ use Rattle.table_begin.specs.declared.Begun.{Begun}
 use Rattle.table_begin.specs.declared.Begun.the-variants.{Ready, NotBegun}
 
 abbrev pub beginTests : ℕ → ℕ → List ℕ → List ℕ → List (ℕ × Bool)
-beginTests m c cs table = polynomialTests m cs ((6, ltb 3 c) ∷ (7, not (eqb (length table) slots)) ∷ [])
+beginTests m c cs table = polynomialTests m cs ((6, ltb highestCutoff c) ∷ (7, not (eqb (length table) slots)) ∷ [])
 
 abbrev pub beginOutcome : ℕ → ℕ → List ℕ → List ℕ → ℕ × List ℕ
 beginOutcome m c cs table = outcome (beginTests m c cs table) []

@@ -3,23 +3,21 @@
 --   Residue     b took its place: it has the same greatest common divisor with that polynomial
 --   Splittable  the part of a polynomial that splits can be written to out, and the powers of z modulo the polynomial to rows
 --   SplitOff    k coefficients at the front of out are the product of (z + r) over all distinct roots
---   Powered     rows hold z, z^2, z^4, .. , m of them, modulo the polynomial of degree d
+--   Powered     rows are z, z^2, z^4, .. , m of them, modulo the polynomial of degree d
 --   Beginnable  the table of a polynomial can be written, with the field's tables lent
---   Writable    the table of a polynomial can be written
 -- Assumes nothing.
 use mathlib.Core.Path.{_≡_}
-use mathlib.Core.Bool.{true, false}
 use mathlib.Core.Option.{some}
 use mathlib.Core.List.{List, [], _∷_}
-use Prim.Native.Nat.{ℕ, suc, _*_, _^_, _≤_, _<_}
+use Prim.Native.Nat.{ℕ, _*_, _^_, _≤_, _<_}
 use lib.ListN.{length, take}
-use Rattle.algebra.specs.Polynomial.{Below, fieldPoly, rootsOf}
+use Rattle.algebra.specs.Polynomial.{Below, fieldPoly}
 use Rattle.algebra.specs.Routines.{rem, norm, gcd, monicRoots}
-use Rattle.refusals.specs.Rows.{known}
-use Rattle.slices.specs.Bounded.{allZero}
-use Rattle.poly.specs.Lent.{G, Lent}
+use Rattle.field.specs.Field.{G, rootsAt}
+use Rattle.poly.specs.Lent.{Lent}
 use Rattle.poly_powers.specs.Powers.{powerRows}
 use Rattle.table_rules.specs.Limit.{limit, slots}
+use Rattle.table_rules.specs.Polynomials.{PolynomialIn}
 
 -- with room for a remainder, for z, and for the rows of m powers
 pub record Residual (m : ℕ) (ls ts p b rows : List ℕ) : Type 0 where
@@ -35,42 +33,29 @@ pub record Residue (m : ℕ) (p b : List ℕ) : Type 0 where
   pub small : Below (2 ^ m) b
   pub same : gcd (G m) p b ≡ gcd (G m) p (fieldPoly (G m) m)
 
--- coefficients that pass the tests, and room for all of them
-pub record Splittable (m : ℕ) (ls ts cs out rows : List ℕ) : Type 0 where
+-- a polynomial that was let in, and room for all of its coefficients
+pub record Splittable (m : ℕ) (cs ls ts out rows : List ℕ) : Type 0 where
+  pub polynomial : PolynomialIn m cs
   pub tables : Lent m ls ts
-  pub small : Below (2 ^ m) cs
-  pub few : length cs ≤ suc limit
-  pub nonzero : allZero cs ≡ false
   pub room : length cs ≤ length out
   pub room-rows : m * limit ≤ length rows
 
 -- fewer than the coefficients given
 pub record SplitOff (m : ℕ) (cs : List ℕ) (k : ℕ) (out : List ℕ) : Type 0 where
-  pub count : k ≡ length (rootsOf (G m) (2 ^ m) cs)
+  pub count : k ≡ length (rootsAt m cs)
   pub fewer : k < length cs
-  pub low : take k out ≡ monicRoots (G m) (rootsOf (G m) (2 ^ m) cs)
+  pub low : take k out ≡ monicRoots (G m) (rootsAt m cs)
 
 -- the polynomial made monic has the low coefficients `low`
 pub record Powered (m : ℕ) (cs : List ℕ) (d : ℕ) (rows : List ℕ) : Type 0 where
   pub low : List ℕ
   pub made : norm (G m) (length cs) cs ≡ some low
   pub long : length low ≡ d
-  pub rows-are : take (m * d) rows ≡ powerRows m low m (rem (G m) low (0 ∷ 1 ∷ []))
+  pub rows-are : rows ≡ powerRows m low m (rem (G m) low (0 ∷ 1 ∷ []))
 
--- coefficients that pass the tests, and a table of all slots
-pub record Beginnable (m : ℕ) (ls ts cs table rows : List ℕ) : Type 0 where
+-- a polynomial that was let in, and a table of all slots
+pub record Beginnable (m : ℕ) (cs ls ts table rows : List ℕ) : Type 0 where
+  pub polynomial : PolynomialIn m cs
   pub tables : Lent m ls ts
-  pub small : Below (2 ^ m) cs
-  pub few : length cs ≤ suc limit
-  pub nonzero : allZero cs ≡ false
   pub room : length table ≡ slots
   pub room-rows : m * limit ≤ length rows
-
--- the same, in a field of `size` elements
-pub record Writable (m size : ℕ) (cs table : List ℕ) : Type 0 where
-  pub degree : known m ≡ true
-  pub elements : size ≡ 2 ^ m
-  pub small : Below (2 ^ m) cs
-  pub few : length cs ≤ suc limit
-  pub nonzero : allZero cs ≡ false
-  pub room : length table ≡ slots

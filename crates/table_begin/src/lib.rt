@@ -3,19 +3,24 @@
 // by m squarings modulo f, so that no element is tried. The powers on the way are kept for the trace sums.
 ghost use mathlib.Core.Path.{_≡_};
 ghost use mathlib.Core.List.{[], _∷_};
-ghost use Prim.Native.Nat.{_*_, _≤_};
+ghost use Prim.Native.Nat.{_*_};
 ghost use lib.ListN.{length, take};
 ghost use Rattle.algebra.specs.Routines.{rem};
-ghost use Rattle.poly.specs.Lent.{G};
+ghost use Rattle.field.specs.Field.{G};
 ghost use Rattle.poly_powers.specs.Powers.{powerRows};
 ghost use Rattle.table_rules.specs.Layout.{byFactor};
-ghost use Rattle.table_rules.specs.Table.{encode};
-ghost use Rattle.table_rules.specs.Splitting.{begunTable, slotsBegun};
-ghost use Rattle.table_rules.specs.Limit.{limit, slots};
+ghost use Rattle.table_rules.specs.Splitting.{slotsBegun};
+ghost use Rattle.table_rules.specs.Limit.{slots};
+ghost use Rattle.table_rules.specs.Polynomials.{PolynomialIn};
 ghost use Rattle.table_begin.specs.Calls.{Begins};
 ghost use Rattle.table_begin.specs.SplitPart.{Residual, Residue, Splittable};
-ghost use Rattle.table_begin.specs.SplitPart.{SplitOff, Powered, Beginnable, Writable};
-use field_tables::lending;
+ghost use Rattle.table_begin.specs.SplitPart.{SplitOff, Powered, Beginnable};
+use field_tables::constants::antilogs4;
+use field_tables::constants::antilogs8;
+use field_tables::constants::antilogs11;
+use field_tables::constants::logs4;
+use field_tables::constants::logs8;
+use field_tables::constants::logs11;
 use find_admit::admit;
 use find_admit::in_force;
 use poly::monic::make_monic;
@@ -26,8 +31,9 @@ use refusals::Refusal;
 use table_rules::COEFFICIENTS;
 use table_rules::LIMIT;
 use table_rules::POWER_ROWS;
-use table_rules::SLOTS;
 use table_rules::SQUARE;
+use table_slots::SLOTS;
+use table_slots::lay;
 
 // What begin answers.
 pub enum Begun {
@@ -71,15 +77,15 @@ pub struct Degrees {
 // modulo the polynomial to rows.
 pub fn split_part(
     m: u16,
+    coeffs: &[u16],
     logs: &[u16],
     antilogs: &[u16],
-    coeffs: &[u16],
     out: &mut [u16],
     rows: &mut [u16],
 ) -> Degrees
-    requires { ⌜ Splittable m (now logs) (now antilogs) (now coeffs) (now out) (now rows) ⌝ }
+    requires { ⌜ Splittable m (now coeffs) (now logs) (now antilogs) (now out) (now rows) ⌝ }
     ensures { λ r. ⌜ SplitOff m (now (coeffs .entry)) (r .part) (now (out .exit))
-        × Powered m (now (coeffs .entry)) (r .whole) (now (rows .exit)) ⌝ }
+        × Powered m (now (coeffs .entry)) (r .whole) (take (m * r .whole) (now (rows .exit))) ⌝ }
 {
     let mut b = [0u16; COEFFICIENTS];
     let mut row = [0u16; LIMIT];
@@ -87,68 +93,43 @@ pub fn split_part(
     slices::copy(coeffs, out);
     let d = make_monic(m, logs, antilogs, &mut out[..n]) - 1;
     residue(m, logs, antilogs, &out[..d], &mut b, rows);
-    let k = gcd(m, logs, antilogs, &mut row, out, d, &mut b, 33);
+    let k = gcd(m, logs, antilogs, &mut row, out, d, &mut b, COEFFICIENTS);
     Degrees { whole: d, part: k }
-}
-
-// Writes a whole table with one factor at level 0, or none where low is empty, whatever it held.
-fn lay(table: &mut [u16], m: u16, c: u16, low: &[u16])
-    requires { ⌜ (length (now table) ≡ slots) × (length (now low) ≤ limit) ⌝ }
-    ensures { λ _. ⌜ now (table .exit) ≡ encode byFactor slots (begunTable m c (now (low .entry))) ⌝ }
-{
-    slices::clear(table);
-    table[0] = m;
-    table[1] = c;
-    let n = low.len();
-    if n == 0 {
-        return;
-    }
-    table[2] = 1;
-    table[5] = n as u16;
-    slices::paste(table, 6, low);
 }
 
 // Writes the table of an accepted polynomial, over lent tables, and the rows of z, z^2, z^4, .. modulo the polynomial to rows. Returns the polynomial's degree.
 pub fn begin_lent(
     m: u16,
     c: u16,
+    coeffs: &[u16],
     logs: &[u16],
     antilogs: &[u16],
-    coeffs: &[u16],
     table: &mut [u16],
     rows: &mut [u16],
 ) -> usize
-    requires { ⌜ Beginnable m (now logs) (now antilogs) (now coeffs) (now table) (now rows) ⌝ }
+    requires { ⌜ Beginnable m (now coeffs) (now logs) (now antilogs) (now table) (now rows) ⌝ }
     ensures { λ d. ⌜ (now (table .exit) ≡ slotsBegun byFactor slots m c (now (coeffs .entry)))
-        × Powered m (now (coeffs .entry)) d (now (rows .exit)) ⌝ }
+        × Powered m (now (coeffs .entry)) d (take (m * d) (now (rows .exit))) ⌝ }
 {
     let mut part = [0u16; COEFFICIENTS];
-    let found = split_part(m, logs, antilogs, coeffs, &mut part, rows);
+    let found = split_part(m, coeffs, logs, antilogs, &mut part, rows);
     let n = found.part;
     lay(table, m, c, &part[..n]);
     found.whole
 }
 
-// Writes the table of an accepted polynomial, in a field of `size` elements. The field's tables are lent here.
-fn write(m: u16, size: usize, coeffs: &[u16], c: u16, table: &mut [u16])
-    requires { ⌜ Writable m size (now coeffs) (now table) ⌝ }
+// Writes the table of an accepted polynomial. The field's tables are lent here.
+fn begin_in(m: u16, c: u16, coeffs: &[u16], table: &mut [u16])
+    requires { ⌜ PolynomialIn m (now coeffs) × (length (now table) ≡ slots) ⌝ }
     ensures { λ _. ⌜ now (table .exit) ≡ slotsBegun byFactor slots m c (now (coeffs .entry)) ⌝ }
 {
-    let mut logs = [0u16; 2048];
-    let mut antilogs = [0u16; 6141];
     let mut rows = [0u16; POWER_ROWS];
-    lending::logs(m, &mut logs);
-    lending::antilogs(m, &mut antilogs);
-    let e = 3 * (size - 1);
-    begin_lent(
-        m,
-        c,
-        &logs[..size],
-        &antilogs[..e],
-        coeffs,
-        table,
-        &mut rows,
-    );
+    match m {
+        4 => begin_lent(m, c, coeffs, &logs4(), &antilogs4(), table, &mut rows),
+        8 => begin_lent(m, c, coeffs, &logs8(), &antilogs8(), table, &mut rows),
+        _ => begin_lent(m, c, coeffs, &logs11(), &antilogs11(), table, &mut rows),
+    }
+    ;
 }
 
 // Begins a table: one factor, the product of (z + r) over all distinct roots of the polynomial, or none if it has no root.
@@ -157,8 +138,8 @@ pub fn begin(m: u16, coeffs: &[u16], cutoff: u16, table: &mut [u16]) -> Begun
 {
     match admit(m, coeffs, cutoff, table.len() != SLOTS) {
         Admission::Out(k) => Begun::NotBegun(k),
-        Admission::In(row) => {
-            write(m, row.size as usize, coeffs, in_force(cutoff), table);
+        Admission::In => {
+            begin_in(m, in_force(cutoff), coeffs, table);
             Begun::Ready
         }
     }

@@ -1,44 +1,52 @@
 -- What is decided of a table before anything is written.
---   stepTests  the tests of a step in their order: 7, 8, 9
---   summed   the sum of the degrees, where the table is sound
---   Chosen   no refusal is given, the table is not done, and the first factor above the cutoff stands at o
---   Judged   what a verdict tells: the refusal that is given, or that none is and the table is done, or where the factor to split stands
+--   tableTests  the tests of a table in their order, 7 and 8, each behind its number, and those that a call has behind them
+--   Fit         the slots are those of a sound table whose degrees sum up to s
+--   Checks      what a check tells: the test that holds, or that none does
+--   Chosen      a step can be taken: the table is sound, not done and not stuck, and the first factor above the cutoff is at o
+--   Judged      what a verdict tells: the refusal that is given, that the table is done, or where the factor to split stands
 -- Assumes nothing.
 use mathlib.Core.Path.{_≡_}
-use mathlib.Core.Bool.{Bool, true, false, not, cond}
-use mathlib.Core.List.{List, [], _∷_}
+use mathlib.Core.Logic.{_≢_}
+use mathlib.Core.Bool.{Bool, true, false, not}
+use mathlib.Core.List.{List, _∷_}
 use Prim.Native.Nat.{ℕ}
 use lib.Dec.{eqb}
 use lib.ListN.{length}
-use Rattle.refusals.specs.Numbers.{numberOf}
-use Rattle.refusals.specs.Order.{Given, Passed}
 use Rattle.refusals.specs.declared.Refusal.{Refusal}
+use Rattle.refusals.specs.declared.Refusal.the-variants.{Room, Unsound, Stuck}
 use Rattle.table_rules.specs.Layout.{degreeSum, byFactor}
 use Rattle.table_rules.specs.Table.{decode}
 use Rattle.table_rules.specs.Splitting.{slotsDone, slotsStuck}
 use Rattle.table_rules.specs.Places.{place}
 use Rattle.table_rules.specs.Limit.{slots, isSound}
-use Rattle.table_check.specs.declared.Sum.{Sum}
-use Rattle.table_check.specs.declared.Sum.the-variants.{Of, Unsound}
+use Rattle.table_check.specs.declared.Checked.{Checked}
+use Rattle.table_check.specs.declared.Checked.the-variants.{Unfit, Sound}
 use Rattle.table_check.specs.declared.Verdict.{Verdict}
 use Rattle.table_check.specs.declared.Verdict.the-variants.{Refused, Over, Split}
 
--- each behind its number
-abbrev pub stepTests : List ℕ → List (ℕ × Bool)
-stepTests table = (7, not (eqb (length table) slots)) ∷ (8, not (isSound table)) ∷ (9, slotsStuck byFactor table) ∷ []
+abbrev pub tableTests : List ℕ → List (ℕ × Bool) → List (ℕ × Bool)
+tableTests l more = (7, not (eqb (length l) slots)) ∷ (8, not (isSound l)) ∷ more
 
--- of the factors that the slots hold
-unfoldable pub summed : List ℕ → Sum
-summed l = cond (isSound l) (Of (degreeSum (decode byFactor l .factors))) Unsound
+pub record Fit (l : List ℕ) (s : ℕ) : Type 0 where
+  pub sound : isSound l ≡ true
+  pub sum : s ≡ degreeSum (decode byFactor l .factors)
+
+-- the length is tested first
+pub data Checks (l : List ℕ) : Checked → Type 0 where
+  short : length l ≢ slots → Checks l (Unfit Room)
+  unsound : length l ≡ slots → isSound l ≡ false → Checks l (Unfit Unsound)
+  fits : {s : ℕ} → Fit l s → Checks l (Sound s)
 
 -- the place of a step
 pub record Chosen (l : List ℕ) (o : ℕ) : Type 0 where
-  pub passed : Passed (stepTests l)
+  pub sound : isSound l ≡ true
+  pub free : slotsStuck byFactor l ≡ false
   pub more : slotsDone byFactor l ≡ false
   pub at : o ≡ place (decode byFactor l)
 
--- by the tests of a step in their order
+-- 9 is tested on a sound table
 pub data Judged (l : List ℕ) : Verdict → Type 0 where
-  refused : {k : Refusal} → Given (numberOf k) (stepTests l) → Judged l (Refused k)
-  over : Passed (stepTests l) → slotsDone byFactor l ≡ true → Judged l Over
+  unfit : {k : Refusal} → Checks l (Unfit k) → Judged l (Refused k)
+  stuck : isSound l ≡ true → slotsStuck byFactor l ≡ true → Judged l (Refused Stuck)
+  over : isSound l ≡ true → slotsDone byFactor l ≡ true → Judged l Over
   split : {o : ℕ} → Chosen l o → Judged l (Split o)

@@ -1,61 +1,38 @@
 -- What finish finds before it writes.
---   given-cases   a refusal is that of the first test, or of a later one
---   admit-room, admit-short, admit-unsound, admit-stuck, admit-split, admit-over   each return of `admit`
+--   admit-room, admit-unfit, admit-more, admit-done   each return of `admit`
 --   closed-is, opened-asks, opened-is   what a refusal and a pass decide
 -- Assumes nothing.
-use mathlib.Core.Path.{_≡_, refl, sym, ap, ap₂, _∙_, subst}
-use mathlib.Core.Logic.{_≢_, _⊎_, inl, inr, ⊎-elim}
-use mathlib.Core.Bool.{Bool, true, false, not, _&&_, _||_, true≢false}
+use mathlib.Core.Path.{_≡_, refl, sym, ap, ap₂, _∙_}
+use mathlib.Core.Bool.{Bool, true, false, not, _||_, true≢false}
 use mathlib.Core.List.{List, [], _∷_}
 use Prim.Native.Nat.{ℕ, _≤_, _<_}
-use native.Mathlib.Omega.{arith}
-use borrow.Author.Tests.{lt-ltb, le-ltb, ltb-false}
+use borrow.Author.Tests.{lt-ltb, le-ltb, ltb-false, eq-eqb, ne-eqb}
 use lib.Dec.{eqb, ltb}
 use lib.ListN.{length}
-use Rattle.refusals.specs.Order.{Given}
-use Rattle.refusals.specs.Order.Given.{here, later}
 use Rattle.refusals.specs.Order.Passed.{none}
-use Rattle.refusals.specs.Numbers.{numberOf}
 use Rattle.refusals.specs.declared.Refusal.{Refusal}
 use Rattle.refusals.specs.declared.Refusal.the-variants.{Room, Unsound, NotDone}
 use Rattle.refusals.proofs.Order.{holds, fails, passes, failed, others}
 use Rattle.refusals.proofs.Order as order
 use Rattle.table_rules.specs.Layout.{byFactor}
-use Rattle.table_rules.specs.Table.{decode}
-use Rattle.table_rules.specs.Splitting.{isDone, stuck, slotsDone, slotsStuck}
+use Rattle.table_rules.specs.Splitting.{slotsDone}
 use Rattle.table_rules.specs.Limit.{limit, slots, isSound}
-use Rattle.table_check.specs.Verdicts.{stepTests}
+use Rattle.table_rules.proofs.Layouts.{byFactor-lawful}
+use Rattle.table_rules.proofs.Keeping.{sound-length}
+use Rattle.table_slots.specs.Slots.{cutoffOf, Heads}
+use Rattle.table_slots.specs.Walk.{soughtIn}
+use Rattle.table_slots.specs.declared.Head.{Head}
+use Rattle.table_slots.specs.declared.Spot.{Spot}
+use Rattle.table_slots.specs.declared.Spot.the-variants.{At, Nowhere}
+use Rattle.table_slots.proofs.Finding.{seek-done, seek-at}
+use Rattle.table_check.specs.Verdicts.{Fit, Checks}
+use Rattle.table_check.specs.Verdicts.Checks.{short, unsound}
+use Rattle.table_check.specs.declared.Checked.the-variants.{Unfit}
 use Rattle.table_finish.specs.Calls.{finishOutcome, finishMemory, paperFinished}
-use Rattle.table_check.specs.Verdicts.{Judged}
-use Rattle.table_check.specs.Verdicts.Judged.{refused, over, split}
 use Rattle.table_finish.specs.Finishing.{Lendable, ListedIn, Opens}
 use Rattle.table_finish.specs.Finishing.Opens.{closed, opened}
-use Rattle.table_check.specs.declared.Verdict.the-variants.{Refused, Over, Split}
 use Rattle.table_finish.specs.declared.Opening.the-variants.{Closed, Open}
 use Rattle.table_finish.specs.declared.Finished.the-variants.{Listed, NotFinished}
-
--- ---- the first test, or a later one
-
--- a refusal is that of the first test, or of a later one
-given-cases : {k j : ℕ} {b : Bool} {ts : List (ℕ × Bool)} → Given k ((j, b) ∷ ts) → ((k ≡ j) × (b ≡ true)) ⊎ ((b ≡ false) × Given k ts)
-given-cases here = inl (refl, refl)
-given-cases (later g) = inr (refl, g)
-
--- there is a test
-Some : List (ℕ × Bool) → Type 0
-Some [] = ⊥
-Some (t ∷ ts) = Unit {0}
-
--- a refusal is that of some test
-given-some : {k : ℕ} {ts : List (ℕ × Bool)} → Given k ts → Some ts
-unfolding Some
-given-some here = tt
-given-some (later g) = tt
-
--- so none is given without one
-given-none : {k : ℕ} → Given k [] → ⊥
-unfolding Some
-given-none g = given-some g
 
 -- ---- the returns of `admit`
 
@@ -68,10 +45,10 @@ module _ (l list : List ℕ) where
       go true e = refl
       go false e = e
 
-  module _ (h : limit ≤ length list) where
+  module _ (enough : limit ≤ length list) where
     -- the list has room
     roomy : ltb (length list) limit ≡ false
-    roomy = le-ltb (length list) limit h
+    roomy = le-ltb (length list) limit enough
 
     -- test 7 is then that of the table
     first : {a : Bool} → not (eqb (length l) slots) ≡ a → (not (eqb (length l) slots) || ltb (length list) limit) ≡ a
@@ -81,45 +58,29 @@ module _ (l list : List ℕ) where
         go true = refl
         go false = refl
 
-    -- refusal 7, for the table
-    pub admit-short : {n : ℕ} {k : Refusal} → Judged l (Refused k) → n ≡ numberOf k → n ≡ 7 → Opens l list (Closed Room)
-    admit-short {n} (refused g) e s = closed {k = Room} (holds (first (seven (subst (λ i. Given i (stepTests l)) (sym e ∙ s) g))))
-      where
-        seven : Given 7 (stepTests l) → not (eqb (length l) slots) ≡ true
-        seven g = ⊎-elim (λ u. u .1) (λ u. ⊎-elim (λ v. absurd (omega (arith, v .0))) (λ v. ⊎-elim (λ w. absurd (omega (arith, w .0))) (λ w. absurd (given-none (w .1))) (given-cases (v .1))) (given-cases (u .1))) (given-cases g)
+    -- the refusal that the check found
+    pub admit-unfit : {k : Refusal} → Checks l (Unfit k) → Opens l list (Closed k)
+    admit-unfit (short n) = closed {k = Room} (holds (first (ap not (ne-eqb (length l) slots n))))
+    admit-unfit (unsound e u) = closed {k = Unsound} (fails (first (ap not (eq-eqb (length l) slots e))) (holds (ap not u)))
 
-    -- refusal 8
-    pub admit-unsound : {n : ℕ} {k : Refusal} → Judged l (Refused k) → n ≡ numberOf k → n ≡ 8 → Opens l list (Closed Unsound)
-    admit-unsound {n} (refused g) e s = go (eight (subst (λ i. Given i (stepTests l)) (sym e ∙ s) g))
-      where
-        eight : Given 8 (stepTests l) → (not (eqb (length l) slots) ≡ false) × (not (isSound l) ≡ true)
-        eight g = ⊎-elim (λ u. absurd (omega (arith, u .0))) (λ u. ⊎-elim (λ v. (u .0, v .1)) (λ v. ⊎-elim (λ w. absurd (omega (arith, w .0))) (λ w. absurd (given-none (w .1))) (given-cases (v .1))) (given-cases (u .1))) (given-cases g)
+    module _ {s : ℕ} (g : Fit l s) where
+      -- test 7 fails
+      long-enough : not (eqb (length l) slots) ≡ false
+      long-enough = ap not (eq-eqb (length l) slots (sound-length byFactor-lawful limit l (g .sound)))
 
-        go : (not (eqb (length l) slots) ≡ false) × (not (isSound l) ≡ true) → Opens l list (Closed Unsound)
-        go v = closed {k = Unsound} (fails (first (v .0)) (holds (v .1)))
+      module _ {h : Head} (k : Heads l h) {f : Spot} (e : f ≡ soughtIn (h .cutoff) l) where
+        -- at the cutoff of the slots
+        sought : f ≡ soughtIn (cutoffOf l) l
+        sought = e ∙ ap (λ c. soughtIn c l) (k .cutoff)
 
-    -- refusal 10: a table on which a step would be stuck is not done
-    pub admit-stuck : {n : ℕ} {k : Refusal} → Judged l (Refused k) → n ≡ numberOf k → n ≢ 7 → n ≢ 8 → Opens l list (Closed NotDone)
-    unfolding slotsStuck slotsDone
-    admit-stuck {n} (refused g) e a b = go (nine (subst (λ i. Given i (stepTests l)) (sym e) g))
-      where
-        nine : Given n (stepTests l) → (not (eqb (length l) slots) ≡ false) × (not (isSound l) ≡ false) × (stuck (decode byFactor l) ≡ true)
-        nine g = ⊎-elim (λ u. absurd (a (u .0))) (λ u. ⊎-elim (λ v. absurd (b (v .0))) (λ v. ⊎-elim (λ w. (u .0, v .0, w .1)) (λ w. absurd (given-none (w .1))) (given-cases (v .1))) (given-cases (u .1))) (given-cases g)
+        -- refusal 10: there is a factor above the cutoff
+        pub admit-more : {o : ℕ} → f ≡ At o → Opens l list (Closed NotDone)
+        admit-more a =
+            closed {k = NotDone} (fails (first long-enough) (fails (ap not (g .sound)) (holds (ap not (seek-at l (g .sound) sought a .more)))))
 
-        left : (x y : Bool) → (not x && y) ≡ true → not x ≡ true
-        left true y h = h
-        left false y h = refl
-
-        go : (not (eqb (length l) slots) ≡ false) × (not (isSound l) ≡ false) × (stuck (decode byFactor l) ≡ true) → Opens l list (Closed NotDone)
-        go v = closed {k = NotDone} (fails (first (v .0)) (fails (v .1) (holds (left (isDone (decode byFactor l)) _ (v .2)))))
-
-    -- refusal 10: there is a factor to split
-    pub admit-split : {o : ℕ} → Judged l (Split o) → Opens l list (Closed NotDone)
-    admit-split (split c) = closed {k = NotDone} (fails (first (failed (c .passed))) (fails (failed (others (c .passed))) (holds (ap not (c .more)))))
-
-    -- no refusal
-    pub admit-over : Judged l Over → Opens l list Open
-    admit-over (over p d) = opened (passes (first (failed p)) (passes (failed (others p)) (passes (ap not d) none)))
+        -- no refusal
+        pub admit-done : f ≡ Nowhere → Opens l list Open
+        admit-done n = opened (passes (first long-enough) (passes (ap not (g .sound)) (passes (ap not (seek-done l (g .sound) sought n)) none)))
 
 -- ---- from there to what finish promises
 

@@ -1,12 +1,13 @@
 -- The walk over the factors of a done table, whose roots are merged into one list.
 --   solvable, roots-long, merge-asks, merge-is   one factor: its roots are found and merged
 --   table-long, table-known           a sound table has its slots, and its field is known
---   lent-on                           the fronts that are lent on are the tables of the field
+--   head-there                        its head
+--   lent-on                           the tables of the field are lent
 --   Zero                              some factor is 0 at an element
 --   Finishing                         what holds at each turn: what lies ahead, and what has been merged
 --   finish-from, finish-on, finish-end  the start, a turn, the end
 --   Here, here                        the factor in front, and the others
---   front-within, front-degree, front-is, part-is, turn-asks   the factor in front, and what a turn asks
+--   front-within, front-degree, front-is, front-stands, turn-asks   the factor in front, and what a turn asks
 -- Assumes nothing.
 use mathlib.Core.Path.{_≡_, refl, sym, ap, ap₂, _∙_, subst}
 use mathlib.Core.Logic.{_↔_, _⊎_, inl, inr, ⊎-elim}
@@ -19,26 +20,29 @@ use lib.Dec.{T}
 use lib.ListN.{length, getD, take, drop, replicate, length-append}
 use lib.Seq.{length-take-le, getD-append-add, take-append-seam, drop-append-add}
 use Rattle.algebra.specs.Trial.{All}
-use Rattle.algebra.specs.Polynomial.{isRoot, rootsOf}
+use Rattle.algebra.specs.Polynomial.{isRoot}
 use Rattle.algebra.specs.Routines.{monic}
 use Rattle.algebra.proofs.RootList.{rootsOf-member}
-use Rattle.refusals.specs.Rows.{known}
+use Rattle.field.specs.Rows.{known}
 use Rattle.slices.specs.Ordered.{Merged}
 use Rattle.slices.proofs.Ordered.{merged-none, merged-append, merged-count, merged-kept}
-use Rattle.poly.specs.Lent.{G}
+use Rattle.poly.specs.Lent.{Lent}
 use Rattle.poly_small.specs.Roots.{Solvable, RootsOut}
 use Rattle.table_rules.specs.Entries.{above, done}
-use Rattle.table_rules.specs.Layout.{Factor, degreeSum, blocks, byFactor}
-use Rattle.table_rules.specs.Table.{Table, encode, decode}
+use Rattle.table_rules.specs.Cutoff.{highestCutoff}
+use Rattle.table_rules.specs.Layout.{factorSlots, Factor, degreeSum, blocks, byFactor}
+use Rattle.table_rules.specs.Table.{Table, headSlots, encode, decode}
 use Rattle.table_rules.specs.Splitting.{someZero, slotsDone, slotsRoots}
 use Rattle.table_rules.proofs.Layouts.{byFactor-lawful}
 use Rattle.table_rules.specs.Places.{spare}
 use Rattle.table_rules.proofs.Soundness.{Fair, Valid, sound-valid, sound-encoded, sound-rules}
-use Rattle.field.specs.Field.{fieldAt}
+use Rattle.field.specs.Field.{fieldAt, G, rootsAt}
 use Rattle.field.specs.Tables.{Halves, Logs, Antilogs}
 use Rattle.table_rules.specs.Limit.{limit, slots}
+use Rattle.table_slots.specs.Slots.{widthOf, cutoffOf, countOf, degreeAt, factorAt, nextAt, Stands, Heads}
+use Rattle.table_slots.specs.declared.Head.{Head}
 use Rattle.table_finish.specs.Finishing.{Mergeable, RootsIn, Lendable, Listable, ListedIn}
-use Rattle.poly.proofs.Lending.{lent-is}
+use Rattle.poly.proofs.Lending.{lent-at, halves-at}
 
 -- ---- one factor
 
@@ -113,10 +117,10 @@ Zero m fs x = (x < 2 ^ m) × T (someZero (G m) fs x)
 pub record Finishing (m c : ℕ) (fs : List Factor) (l list₀ list : List ℕ) (left at k : ℕ) : Type 0 where
   pub ahead : List Factor
   pub pre : List ℕ
-  pub behind : List ℕ
+  pub after : List ℕ
   pub seen : List ℕ
   pub count : left ≡ length ahead
-  pub slots : l ≡ pre ++ (blocks ahead ++ behind)
+  pub slots : l ≡ pre ++ (blocks ahead ++ after)
   pub place : at ≡ length pre
   pub long : length list ≡ length list₀
   pub room : limit ≤ length list₀
@@ -127,7 +131,7 @@ pub record Finishing (m c : ℕ) (fs : List Factor) (l list₀ list : List ℕ) 
   pub exact : (x : ℕ) → Zero m fs x ↔ (List·Memᴰ x seen ⊎ Zero m ahead x)
 
 -- where the factor in front is 0, and where the others are
-zero-split : (m : ℕ) (e : Factor) (fs : List Factor) (x : ℕ) → Zero m (e ∷ fs) x ↔ (List·Memᴰ x (rootsOf (G m) (2 ^ m) (monic (G m) (e .1))) ⊎ Zero m fs x)
+zero-split : (m : ℕ) (e : Factor) (fs : List Factor) (x : ℕ) → Zero m (e ∷ fs) x ↔ (List·Memᴰ x (rootsAt m (monic (G m) (e .1))) ⊎ Zero m fs x)
 unfolding someZero
 zero-split m e fs x =
     let two = either (isRoot (G m) (monic (G m) (e .1)) x) (someZero (G m) fs x) in
@@ -148,18 +152,17 @@ module _ {l list : List ℕ} (g : Lendable l list) where
   table-long = sound-rules byFactor known limit l .0 (g .sound) .size
 
   -- its field
-  pub table-known : known (getD l 0 0) ≡ true
+  pub table-known : known (widthOf l) ≡ true
   table-known = sound-rules byFactor known limit l .0 (g .sound) .field
 
-  -- the fronts that are lent on are the tables of the field
-  pub lent-on : {size : ℕ} (x y z : List ℕ) → size ≡ 2 ^ getD l 0 0 → Logs (fieldAt (getD l 0 0)) (take (2 ^ getD l 0 0) x)
-      → Antilogs (fieldAt (getD l 0 0)) (take (3 * (2 ^ getD l 0 0 - 1)) y) → Halves (fieldAt (getD l 0 0)) (take (2 ^ getD l 0 0) z)
-      → Listable (take size x) (take (3 * (size - 1)) y) (take size z) l list
-  lent-on x y z e a b h = record {
-    given = g;
-    tables = lent-is (getD l 0 0) table-known x y e a b;
-    halves = subst (λ n. Halves (fieldAt (getD l 0 0)) (take n z)) (sym e) h;
-  }
+  -- it has a head
+  pub head-there : headSlots ≤ length l
+  head-there = omega (arith, table-long)
+
+  -- in the arm of the field of degree n its tables are lent
+  pub lent-on : {n : ℕ} {h : Head} {ls ts hs : List ℕ} → Heads l h → h .m ≡ n → Logs (fieldAt n) ls → Antilogs (fieldAt n) ts → Halves (fieldAt n) hs
+      → Listable ls ts hs l list
+  lent-on k e a b h = let w = sym (k .width) ∙ e in record { given = g; tables = lent-at w table-known a b; halves = halves-at w h }
 
 module _ {ls ts hs l list : List ℕ} (g : Listable ls ts hs l list) where
   -- the table that the slots hold
@@ -175,29 +178,29 @@ module _ {ls ts hs l list : List ℕ} (g : Listable ls ts hs l list) where
   unfolding encode
   apart = sym (sound-encoded byFactor-lawful known limit l (g .given .sound))
 
-  -- the cutoff is at most 3
-  cutoff-small : getD l 1 0 ≤ 3
+  -- the cutoff is at most the highest
+  cutoff-small : cutoffOf l ≤ highestCutoff
   unfolding decode
   cutoff-small = valid .cutoff-most
 
   -- each factor keeps the rules
-  all-fair : All (Fair (getD l 0 0)) (t .factors)
+  all-fair : All (Fair (widthOf l)) (t .factors)
   unfolding decode
   all-fair = valid .factors
 
   -- none is above the cutoff
-  all-low : done (getD l 1 0) (t .factors) ≡ true
+  all-low : done (cutoffOf l) (t .factors) ≡ true
   unfolding decode slotsDone
   all-low = g .given .done
 
   -- at the start all lies ahead
-  pub finish-from : Finishing (getD l 0 0) (getD l 1 0) (t .factors) l list list (getD l 2 0) 4 0
-  finish-from = record {
+  pub finish-from : {n : ℕ} → n ≡ countOf l → Finishing (widthOf l) (cutoffOf l) (t .factors) l list list n headSlots 0
+  finish-from e = record {
     ahead = t .factors;
     pre = t .width ∷ t .cutoff ∷ length (t .factors) ∷ t .taken ∷ [];
-    behind = replicate (spare slots t) 0;
+    after = replicate (spare slots t) 0;
     seen = [];
-    count = ap (λ u. getD u 2 0) apart;
+    count = e ∙ ap countOf apart;
     slots = apart;
     place = refl;
     long = refl;
@@ -211,7 +214,7 @@ module _ {ls ts hs l list : List ℕ} (g : Listable ls ts hs l list) where
 
   -- ---- a turn
 
-  module _ {list′ : List ℕ} {left at k : ℕ} (f : Finishing (getD l 0 0) (getD l 1 0) (t .factors) l list list′ left at k) where
+  module _ {list′ : List ℕ} {left at k : ℕ} (f : Finishing (widthOf l) (cutoffOf l) (t .factors) l list list′ left at k) where
     -- no more are listed than were merged
     k-few : k ≤ length (f .seen)
     k-few = omega (arith, merged-count (f .merged) (omega arith))
@@ -236,39 +239,39 @@ module _ {ls ts hs l list : List ℕ} (g : Listable ls ts hs l list) where
       p = here .first .1
 
       -- where it stands
-      spread : l ≡ slotsAhead (here .first) (here .others) (f .pre) (f .behind)
-      spread = f .slots ∙ ap (λ u. f .pre ++ (blocks u ++ f .behind)) (here .split)
+      spread : l ≡ slotsAhead (here .first) (here .others) (f .pre) (f .after)
+      spread = f .slots ∙ ap (λ u. f .pre ++ (blocks u ++ f .after)) (here .split)
 
       -- those ahead keep the rules
-      all-ahead : All (Fair (getD l 0 0)) (here .first ∷ here .others)
-      all-ahead = subst (All (Fair (getD l 0 0))) (here .split) (f .fair)
+      all-ahead : All (Fair (widthOf l)) (here .first ∷ here .others)
+      all-ahead = subst (All (Fair (widthOf l))) (here .split) (f .fair)
 
       -- it is there, whole
-      pub front-within : at + 2 + length p ≤ length l
-      front-within = omega (arith, f .place, ap length spread, ahead-long (here .first) (here .others) (f .pre) (f .behind))
+      pub front-within : at + factorSlots + length p ≤ length l
+      front-within = omega (arith, f .place, ap length spread, ahead-long (here .first) (here .others) (f .pre) (f .after))
 
       -- its degree stands before it
-      pub front-degree : getD l (at + 1) 0 ≡ length p
-      front-degree = ap₂ (λ u j. getD u (j + 1) 0) spread (f .place) ∙ ahead-degree (here .first) (here .others) (f .pre) (f .behind)
+      pub front-degree : degreeAt l at ≡ length p
+      front-degree = ap₂ (λ u j. getD u (j + 1) 0) spread (f .place) ∙ ahead-degree (here .first) (here .others) (f .pre) (f .after)
 
       -- its coefficients stand there
-      pub front-is : take (getD l (at + 1) 0) (drop (at + 2) l) ≡ p
+      pub front-is : factorAt l at ≡ p
       front-is =
           ap (λ n. take n (drop (at + 2) l)) front-degree ∙ ap₂ (λ u j. take (length p) (drop (j + 2) u)) spread (f .place)
-          ∙ ahead-coefficients (here .first) (here .others) (f .pre) (f .behind)
+          ∙ ahead-coefficients (here .first) (here .others) (f .pre) (f .after)
 
-      -- as the code lends it
-      pub part-is : take (at + 2 + getD l (at + 1) 0 - (at + 2)) (drop (at + 2) l) ≡ p
-      part-is = let e : at + 2 + getD l (at + 1) 0 - (at + 2) ≡ getD l (at + 1) 0 = omega arith in ap (λ n. take n (drop (at + 2) l)) e ∙ front-is
+      -- it stands in the slots
+      pub front-stands : Stands l at
+      front-stands = omega (arith, front-within, front-degree)
 
       -- it is not above the cutoff, nor are the others
-      both : (not (above (getD l 1 0) (here .first)) ≡ true) × (done (getD l 1 0) (here .others) ≡ true)
+      both : (not (above (cutoffOf l) (here .first)) ≡ true) × (done (cutoffOf l) (here .others) ≡ true)
       unfolding done
-      both = and-eq-true-iff _ _ .0 (subst (λ u. done (getD l 1 0) u ≡ true) (here .split) (f .low))
+      both = and-eq-true-iff _ _ .0 (subst (λ u. done (cutoffOf l) u ≡ true) (here .split) (f .low))
 
-      -- so its degree is at most 3
-      degree-low : length p ≤ 3
-      degree-low = omega (arith, ltb-false (getD l 1 0) (length (here .first .1)) (unflip (above (getD l 1 0) (here .first)) (both .0)), cutoff-small)
+      -- so its degree is at most that
+      degree-low : length p ≤ highestCutoff
+      degree-low = omega (arith, ltb-false (cutoffOf l) (length (here .first .1)) (unflip (above (cutoffOf l) (here .first)) (both .0)), cutoff-small)
         where
           unflip : (b : Bool) → not b ≡ true → b ≡ false
           unflip true e = sym e
@@ -280,33 +283,36 @@ module _ {ls ts hs l list : List ℕ} (g : Listable ls ts hs l list) where
       sum-split = ap degreeSum (here .split)
 
       -- what a turn asks
-      pub turn-asks : {q : List ℕ} → q ≡ p → Mergeable (getD l 0 0) ls ts hs q list′ k
-      turn-asks {q} e =
+      pub turn-asks : {m : ℕ} {q : List ℕ} → m ≡ widthOf l → q ≡ factorAt l at → Mergeable m ls ts hs q list′ k
+      turn-asks i o =
           let d = degree-low in
           let s = sum-split in
+          let e = o ∙ front-is in
           record {
-            tables = g .tables;
-            halves = g .halves;
-            small = rw e (all-ahead .0 .coefficients);
+            tables = rw i (g .tables);
+            halves = rw i (g .halves);
+            small = rw (i, e) (all-ahead .0 .coefficients);
             low = omega (arith, ap length e);
             room = omega (arith, ap length e, k-few, f .few, f .room, f .long);
           }
 
       -- a turn: its roots are merged
-      pub finish-on : {q : List ℕ} {j next : ℕ} {list″ : List ℕ} → q ≡ p → RootsIn (getD l 0 0) q k list′ j list″ → length list″ ≡ length list′
-          → next ≡ at + 2 + getD l (at + 1) 0 → Finishing (getD l 0 0) (getD l 1 0) (t .factors) l list list″ (left - 1) next j
-      finish-on {q} {j} {next} {list″} e r h n =
-          let m : ℕ = getD l 0 0 in
+      pub finish-on : {i : ℕ} {q : List ℕ} {j next : ℕ} {list″ : List ℕ} → i ≡ widthOf l → q ≡ factorAt l at → RootsIn i q k list′ j list″
+          → length list″ ≡ length list′ → next ≡ nextAt l at → Finishing (widthOf l) (cutoffOf l) (t .factors) l list list″ (left - 1) next j
+      finish-on {i} {q} {j} {next} {list″} w o r₀ h n =
+          let m : ℕ = widthOf l in
+          let e = o ∙ front-is in
+          let r : RootsIn m q k list′ j list″ = subst (λ (x : ℕ). RootsIn x q k list′ j list″) w r₀ in
           let s = sum-split in
           let old = f .exact in
           record {
             ahead = here .others;
             pre = f .pre ++ (here .first .0 ∷ length p ∷ p);
-            behind = f .behind;
+            after = f .after;
             seen = f .seen ++ r .roots;
             count = omega (arith, f .count, ap length (here .split));
-            slots = spread ∙ ahead-again (here .first) (here .others) (f .pre) (f .behind);
-            place = omega (arith, f .place, front-degree, ahead-next (here .first) (here .others) (f .pre) (f .behind));
+            slots = spread ∙ ahead-again (here .first) (here .others) (f .pre) (f .after);
+            place = omega (arith, f .place, front-degree, ahead-next (here .first) (here .others) (f .pre) (f .after));
             long = h ∙ f .long;
             room = f .room;
             merged = merged-append (f .merged) (r .merged);
@@ -315,7 +321,7 @@ module _ {ls ts hs l list : List ℕ} (g : Listable ls ts hs l list) where
             low = both .1;
             exact = λ x.
                 let step = zero-split m (here .first) (here .others) x in
-                let mem : List·Memᴰ x (r .roots) ↔ List·Memᴰ x (rootsOf (G m) (2 ^ m) (monic (G m) p)) = subst (λ u. List·Memᴰ x (r .roots) ↔ List·Memᴰ x (rootsOf (G m) (2 ^ m) (monic (G m) u))) e (r .members x) in
+                let mem : List·Memᴰ x (r .roots) ↔ List·Memᴰ x (rootsAt m (monic (G m) p)) = subst (λ u. List·Memᴰ x (r .roots) ↔ List·Memᴰ x (rootsAt m (monic (G m) u))) e (r .members x) in
                 let ahead : Zero m (f .ahead) x ↔ Zero m (here .first ∷ here .others) x = subst (λ u. Zero m (f .ahead) x ↔ Zero m u x) (here .split) (λ z. z, λ z. z) in (
                   λ z. ⊎-elim (λ u. inl (Memᴰ·append-left (r .roots) u))
                       (λ u. ⊎-elim (λ v. inl (Memᴰ·append-right (f .seen) (mem .1 v))) (λ v. inr v) (step .0 (ahead .0 u))) (old x .0 z),
@@ -328,7 +334,7 @@ module _ {ls ts hs l list : List ℕ} (g : Listable ls ts hs l list) where
     pub finish-end : left ≤ 0 → ListedIn l list k list′
     unfolding decode slotsRoots
     finish-end h =
-        let m : ℕ = getD l 0 0 in
+        let m : ℕ = widthOf l in
         let none : f .ahead ≡ [] = empty (f .ahead) (omega (arith, f .count)) in
         let e = merged-kept (someZero (G m) (t .factors)) (2 ^ m) (f .merged) (λ x. (
           λ u. f .exact x .1 (inl u),

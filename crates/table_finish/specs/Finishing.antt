@@ -1,5 +1,5 @@
 -- Finish, as its routines come to it.
---   Mergeable   a factor of degree at most 3 can be solved, and its roots have room behind n others
+--   Mergeable   a factor of degree at most the highest cutoff can be solved, and its roots have room behind n others
 --   RootsIn     the roots of monic p were merged into the first n elements of a list
 --   Lendable    a sound table that is done, and a list with room for its roots
 --   Listable    the same with the tables of its field lent
@@ -11,20 +11,22 @@ use mathlib.Core.Logic.{_↔_}
 use mathlib.Core.Bool.{true}
 use mathlib.Core.List.{List, List·Memᴰ}
 use Prim.Native.Nat.{ℕ, _+_, _^_, _≤_}
-use lib.ListN.{length, getD}
-use Rattle.algebra.specs.Polynomial.{Below, rootsOf}
+use lib.ListN.{length}
+use Rattle.algebra.specs.Polynomial.{Below}
 use Rattle.algebra.specs.Routines.{monic}
 use Rattle.refusals.specs.Numbers.{numberOf}
 use Rattle.refusals.specs.Order.{Given, Passed}
 use Rattle.refusals.specs.declared.Refusal.{Refusal}
 use Rattle.slices.specs.Lists.{copied}
 use Rattle.slices.specs.Ordered.{Merged}
-use Rattle.field.specs.Field.{fieldAt}
+use Rattle.field.specs.Field.{fieldAt, G, rootsAt}
 use Rattle.field.specs.Tables.{Halves}
-use Rattle.poly.specs.Lent.{G, Lent}
+use Rattle.poly.specs.Lent.{Lent}
+use Rattle.table_rules.specs.Cutoff.{highestCutoff}
 use Rattle.table_rules.specs.Layout.{byFactor}
 use Rattle.table_rules.specs.Splitting.{slotsDone, slotsRoots}
 use Rattle.table_rules.specs.Limit.{limit, isSound}
+use Rattle.table_slots.specs.Slots.{widthOf}
 use Rattle.table_finish.specs.Calls.{finishTests}
 use Rattle.table_finish.specs.declared.Opening.{Opening}
 use Rattle.table_finish.specs.declared.Opening.the-variants.{Closed, Open}
@@ -34,14 +36,14 @@ pub record Mergeable (m : ℕ) (ls ts hs p roots : List ℕ) (n : ℕ) : Type 0 
   pub tables : Lent m ls ts
   pub halves : Halves (fieldAt m) hs
   pub small : Below (2 ^ m) p
-  pub low : length p ≤ 3
+  pub low : length p ≤ highestCutoff
   pub room : n + length p ≤ length roots
 
 -- in whatever order they came
 pub record RootsIn (m : ℕ) (p : List ℕ) (n : ℕ) (s : List ℕ) (k : ℕ) (s′ : List ℕ) : Type 0 where
   pub roots : List ℕ
   pub few : length roots ≤ length p
-  pub members : (x : ℕ) → List·Memᴰ x roots ↔ List·Memᴰ x (rootsOf (G m) (2 ^ m) (monic (G m) p))
+  pub members : (x : ℕ) → List·Memᴰ x roots ↔ List·Memᴰ x (rootsAt m (monic (G m) p))
   pub merged : Merged n roots s k s′
 
 -- as the tests found it
@@ -50,11 +52,11 @@ pub record Lendable (table roots : List ℕ) : Type 0 where
   pub done : slotsDone byFactor table ≡ true
   pub room : limit ≤ length roots
 
--- the tables of the field of degree slot 0
+-- the tables of its field
 pub record Listable (ls ts hs table roots : List ℕ) : Type 0 where
   pub given : Lendable table roots
-  pub tables : Lent (getD table 0 0) ls ts
-  pub halves : Halves (fieldAt (getD table 0 0)) hs
+  pub tables : Lent (widthOf table) ls ts
+  pub halves : Halves (fieldAt (widthOf table)) hs
 
 -- the count, and every slot of the list
 pub record ListedIn (table roots : List ℕ) (k : ℕ) (roots′ : List ℕ) : Type 0 where

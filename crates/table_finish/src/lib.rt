@@ -1,16 +1,27 @@
 // Finish (docs/RULES.md section 4.4): the roots of each factor of a done table, merged into the front of the list,
 // ascending and once each.
-ghost use mathlib.Core.Path.{_≡_};
 ghost use Rattle.table_finish.specs.Calls.{Finishes};
 ghost use Rattle.table_finish.specs.Finishing.{Mergeable, RootsIn, Listable, ListedIn, Lendable, Opens};
+use field_tables::constants::antilogs4;
+use field_tables::constants::antilogs8;
+use field_tables::constants::antilogs11;
+use field_tables::constants::halves4;
+use field_tables::constants::halves8;
+use field_tables::constants::halves11;
+use field_tables::constants::logs4;
+use field_tables::constants::logs8;
+use field_tables::constants::logs11;
 use poly_small::small_roots;
-use refusals::Found;
 use refusals::Refusal;
-use refusals::number;
-use refusals::row_of;
-use table_check::Verdict;
-use table_check::judge;
+use table_check::Checked;
+use table_check::check;
 use table_rules::LIMIT;
+use table_slots::FIRST;
+use table_slots::Spot;
+use table_slots::first_above;
+use table_slots::head_of;
+use table_slots::low_at;
+use table_slots::next_at;
 
 // What finish answers: the number of roots listed, or what is turned away.
 pub enum Finished {
@@ -31,19 +42,15 @@ fn admit(table: &[u16], roots: &[u16]) -> Opening
     if roots.len() < LIMIT {
         return Opening::Closed(Refusal::Room);
     }
-    match judge(table) {
-        Verdict::Refused(k) => {
-            let n = number(k);
-            if n == 7 {
-                return Opening::Closed(Refusal::Room);
+    match check(table) {
+        Checked::Unfit(k) => Opening::Closed(k),
+        Checked::Sound(_) => {
+            let h = head_of(table);
+            match first_above(table, h.cutoff) {
+                Spot::At(_) => Opening::Closed(Refusal::NotDone),
+                Spot::Nowhere => Opening::Open,
             }
-            if n == 8 {
-                return Opening::Closed(Refusal::Unsound);
-            }
-            Opening::Closed(Refusal::NotDone)
         }
-        Verdict::Over => Opening::Open,
-        Verdict::Split(_) => Opening::Closed(Refusal::NotDone),
     }
 }
 
@@ -76,44 +83,32 @@ pub fn finish_lent(
     requires { ⌜ Listable (now logs) (now antilogs) (now halves) (now table) (now roots) ⌝ }
     ensures { λ k. ⌜ ListedIn (now (table .entry)) (now (roots .entry)) k (now (roots .exit)) ⌝ }
 {
-    let m = table[0];
-    let mut left = table[2];
-    let mut at = 4;
+    let h = head_of(table);
+    let m = h.m;
+    let mut left = h.factors;
+    let mut at = FIRST;
     let mut k = 0;
     while left > 0 {
-        let b = at + 2;
-        let e = b + table[at + 1] as usize;
-        k = merge_roots(m, logs, antilogs, halves, &table[b..e], roots, k);
-        at = e;
+        let p = low_at(table, at);
+        k = merge_roots(m, logs, antilogs, halves, p, roots, k);
+        at = next_at(table, at);
         left -= 1;
     }
     k
 }
 
 // Lists every element at which some factor is zero. The field's tables are lent here.
-fn finish_at(table: &[u16], roots: &mut [u16]) -> usize
+fn finish_in(table: &[u16], roots: &mut [u16]) -> usize
     requires { ⌜ Lendable (now table) (now roots) ⌝ }
     ensures { λ k. ⌜ ListedIn (now (table .entry)) (now (roots .entry)) k (now (roots .exit)) ⌝ }
 {
-    let m = table[0];
-    let Found::At(row) = row_of(m) else {
-        return 0;
-    };
-    let mut logs = [0u16; 2048];
-    let mut antilogs = [0u16; 6141];
-    let mut halves = [0u16; 2048];
-    field_tables::lending::logs(m, &mut logs);
-    field_tables::lending::antilogs(m, &mut antilogs);
-    field_tables::lending::halves(m, &mut halves);
-    let size = row.size as usize;
-    let end = 3 * (size - 1);
-    finish_lent(
-        &logs[..size],
-        &antilogs[..end],
-        &halves[..size],
-        table,
-        roots,
-    )
+    let h = head_of(table);
+    let m = h.m;
+    match m {
+        4 => finish_lent(&logs4(), &antilogs4(), &halves4(), table, roots),
+        8 => finish_lent(&logs8(), &antilogs8(), &halves8(), table, roots),
+        _ => finish_lent(&logs11(), &antilogs11(), &halves11(), table, roots),
+    }
 }
 
 // Lists, ascending and once each, every field element at which some factor of a done table is zero, at the front of the list.
@@ -122,6 +117,6 @@ pub fn finish(table: &[u16], roots: &mut [u16]) -> Finished
 {
     match admit(table, &roots[..]) {
         Opening::Closed(k) => Finished::NotFinished(k),
-        Opening::Open => Finished::Listed(finish_at(table, roots) as u16),
+        Opening::Open => Finished::Listed(finish_in(table, roots) as u16),
     }
 }

@@ -31,6 +31,7 @@ use Rattle.algebra.proofs.StaysBelow.{monicRoots-below}
 use Rattle.table_rules.specs.Entries.{Entry, Halving, unlessEmpty, parts, splitAt, above, entryAt, firstAbove, done, step, steps, carry}
 use Rattle.table_rules.specs.Groups.{InOrder, agrees, group, groupCount, byBit, begun, reached}
 use Rattle.table_rules.specs.Layout.{degreeSum}
+use Rattle.table_rules.specs.Cutoff.{highestCutoff}
 use Rattle.table_rules.specs.Table.{Table, limitOf}
 use Rattle.table_rules.specs.Splitting.{traceBit, traceHalving, isDone, firstFactor, stuck, stepTable, tableAfter, begunTable, groupedTable}
 use Rattle.table_rules.proofs.Lists.{decide, all-append, all-of-map, all-mapped}
@@ -203,7 +204,7 @@ module _ {G : Ops ℕ} {m a : ℕ} (B : BinaryField G m a) (c : ℕ) (positive :
       level n = levels (monicRoots G) (at n) (firstAbove c (map (carry (monicRoots G)) (at n))) ∙ ap (λ k. entryAt (at n) k .0) (carry-first (monicRoots G) (length-monicRoots G) c (at n))
 
   -- begun tables are valid after each step
-  pub begun-valid : (fields : ℕ → Bool) (limit : ℕ) → fields m ≡ true → c ≤ 3 → length roots ≤ limit → (n : ℕ) → n ≤ total → Valid fields limit (table n)
+  pub begun-valid : (fields : ℕ → Bool) (limit : ℕ) → fields m ≡ true → c ≤ highestCutoff → length roots ≤ limit → (n : ℕ) → n ≤ total → Valid fields limit (table n)
   begun-valid fields limit field most few zero h = record {
     field = field;
     cutoff-least = positive;

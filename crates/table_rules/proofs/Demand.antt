@@ -15,11 +15,12 @@ use Rattle.algebra.specs.Trial.{Distinct}
 use Rattle.algebra.specs.Polynomial.{Below}
 use Rattle.algebra.proofs.StaysBelow.{rootsOf-below}
 use Rattle.algebra.proofs.RootList.{rootsOf-ascending, rootsOf-distinct}
-use Rattle.refusals.specs.Rows.{known}
-use Rattle.field.specs.Field.{numbers, fieldAt}
+use Rattle.field.specs.Rows.{known}
+use Rattle.field.specs.Field.{rootsAt, G}
 use Rattle.table_rules.specs.Layout.{Layout, Lawful}
+use Rattle.table_rules.specs.Cutoff.{highestCutoff}
 use Rattle.table_rules.specs.Table.{Table, slotsFor, encode, sound}
-use Rattle.table_rules.specs.Splitting.{isDone, stepTable, bitAt, halvingAt, rootsAt, slotsStepped, slotsAfter, slotsBegun}
+use Rattle.table_rules.specs.Splitting.{isDone, stepTable, bitAt, halvingAt, slotsStepped, slotsAfter, slotsBegun}
 use Rattle.table_rules.specs.Demand.{groupsAfter, stepCount, Demand3}
 use Rattle.table_rules.proofs.Counting.{count-bound}
 use Rattle.table_rules.proofs.Soundness.{Valid, encode-sound, decode-encode, length-encode}
@@ -42,22 +43,22 @@ module _ {Y : Layout} (L : Lawful Y) where
       ap₂ (λ (n : ℕ) (u : Table). encode Y n (stepTable (halvingAt (u .width)) u)) (length-encode L v) (decode-encode L (slotsFor limit) t)
 
 module _ (m : ℕ) (field : known m ≡ true) (c : ℕ) (positive : 1 ≤ c) (f : List ℕ) where
-  abbrev B : BinaryField (numbers (fieldAt m)) m 2
+  abbrev B : BinaryField (G m) m 2
   B = known-field m field
 
   abbrev roots : List ℕ
   roots = rootsAt m f
 
   below : Below (2 ^ m) roots
-  below = rootsOf-below (numbers (fieldAt m)) (2 ^ m) f
+  below = rootsOf-below (G m) (2 ^ m) f
 
   distinct : Distinct roots
-  distinct = rootsOf-distinct (numbers (fieldAt m)) (2 ^ m) f
+  distinct = rootsOf-distinct (G m) (2 ^ m) f
 
-  valid : (limit : ℕ) → c ≤ 3 → length roots ≤ limit → (n : ℕ) → n ≤ stepCount m c roots → Valid known limit (groupsAfter m c roots n)
+  valid : (limit : ℕ) → c ≤ highestCutoff → length roots ≤ limit → (n : ℕ) → n ≤ stepCount m c roots → Valid known limit (groupsAfter m c roots n)
   valid limit = T.begun-valid B c positive roots below distinct known limit field
 
-  slots-after : {Y : Layout} → Lawful Y → (limit : ℕ) → c ≤ 3 → length roots ≤ limit → (n : ℕ) → n ≤ stepCount m c roots
+  slots-after : {Y : Layout} → Lawful Y → (limit : ℕ) → c ≤ highestCutoff → length roots ≤ limit → (n : ℕ) → n ≤ stepCount m c roots
       → slotsAfter Y n (encode Y (slotsFor limit) (groupsAfter m c roots 0)) ≡ encode Y (slotsFor limit) (groupsAfter m c roots n)
   unfolding slotsAfter
   slots-after L limit most few zero h = refl
@@ -74,7 +75,7 @@ module _ (m : ℕ) (field : known m ≡ true) (c : ℕ) (positive : 1 ≤ c) (f 
     before = λ n l. (T.not-done-before B c positive roots below distinct n l, T.never-stuck B c positive roots below distinct n l);
     end = T.done-at B c positive roots below distinct;
     bound = count-bound (bitAt m) c m roots;
-    finish = λ n. finish-is m 2 (B .numbers) c n roots below (rootsOf-ascending (numbers (fieldAt m)) (2 ^ m) f);
+    finish = λ n. finish-is m 2 (B .numbers) c n roots below (rootsOf-ascending (G m) (2 ^ m) f);
     sounds = λ L limit most few n h. encode-sound L known limit (groupsAfter m c roots n) (valid limit most few n h);
     slots = slots-after;
   }
@@ -85,7 +86,7 @@ module _ (m : ℕ) (field : known m ≡ true) (c : ℕ) (positive : 1 ≤ c) (f 
   begin-slots Y slots = ap (encode Y slots) (T.begin-is B c positive roots below distinct)
 
   -- which is sound
-  pub begin-sound : {Y : Layout} → Lawful Y → (limit : ℕ) → c ≤ 3 → length roots ≤ limit → sound Y known limit (slotsBegun Y (slotsFor limit) m c f) ≡ true
+  pub begin-sound : {Y : Layout} → Lawful Y → (limit : ℕ) → c ≤ highestCutoff → length roots ≤ limit → sound Y known limit (slotsBegun Y (slotsFor limit) m c f) ≡ true
   begin-sound {Y} L limit most few = rw (begin-slots Y (slotsFor limit)) (demand-3 .sounds L limit most few 0 (omega arith))
 
   -- a loop that stops where the table is done has taken that many steps

@@ -11,7 +11,7 @@ use Rattle.algebra.specs.Field.{power, trace}
 use Rattle.algebra.specs.Trial.{upFrom}
 use Rattle.algebra.specs.Polynomial.{add, mul, fromRoots}
 use Rattle.algebra.specs.Routines.{monicRoots}
-use Rattle.refusals.specs.Rows.{known, knownIn, polyIn}
+use Rattle.field.specs.Rows.{known, knownIn, polyIn}
 use Rattle.slices.specs.Bounded.{allBelow}
 use Rattle.field.specs.Field as F
 use Rattle.table_rules.specs.Entries.{unlessEmpty, parts, splitAt, firstAbove, step, steps}

@@ -16,9 +16,9 @@ use Rattle.algebra.specs.Routines.{monicRoots}
 use Rattle.algebra.proofs.StaysBelow.{power-below}
 use Rattle.algebra.proofs.NumberSteps.{step-gcd, step-cofactor}
 use Rattle.algebra.proofs.NumberTrace.{tests-apart}
-use Rattle.refusals.specs.Rows.{known, Listed, polyOf}
-use Rattle.refusals.proofs.Rows.{listed}
-use Rattle.field.specs.Field.{numbers, fieldAt}
+use Rattle.field.specs.Rows.{known, Listed, polyOf}
+use Rattle.field.proofs.Known.{listed}
+use Rattle.field.specs.Field.{numbers, fieldAt, G}
 use Rattle.field.proofs.Generator.{Generated, generated, small}
 use Rattle.field.proofs.Instance.{on-numbers, squared-size}
 use Rattle.field.proofs.Trace.{power-low}
@@ -37,7 +37,7 @@ pub record BinaryField (G : Ops ℕ) (m a : ℕ) : Type 0 where
   pub power-is : (i : ℕ) → i < m → power G a i ≡ 2 ^ i
 
 -- each row has it
-pub known-field : (m : ℕ) → known m ≡ true → BinaryField (numbers (fieldAt m)) m 2
+pub known-field : (m : ℕ) → known m ≡ true → BinaryField (G m) m 2
 known-field m k =
     let l : Listed m (polyOf m) = listed m k in
     let gen : Generated (fieldAt m) = generated l in

@@ -13,10 +13,10 @@ use Prim.Native.Nat.{ℕ, _≤_}
 use native.Mathlib.Omega.{arith}
 use borrow.Author.Tests.{eq-eqb, eqb-false, ne-eqb}
 use lib.Dec.{eqb}
-use Rattle.refusals.specs.Rows.{known}
-use Rattle.field.specs.Field.{numbers, fieldAt}
-use Rattle.table_rules.specs.Splitting.{finished, bitAt, rootsAt}
-use Rattle.table_rules.specs.Cutoff.{houseDefault, inForceBy, inForce}
+use Rattle.field.specs.Rows.{known}
+use Rattle.field.specs.Field.{rootsAt, G}
+use Rattle.table_rules.specs.Splitting.{finished, bitAt}
+use Rattle.table_rules.specs.Cutoff.{highestCutoff, houseDefault, inForceBy, inForce}
 use Rattle.table_rules.proofs.Counting.{count-falls}
 use Rattle.table_rules.specs.Demand.{groupsAfter, stepCount}
 use Rattle.table_rules.proofs.Demand.{demand-3}
@@ -41,11 +41,11 @@ inForce-least d c h = go (eqb c 0) refl
     go false e = lib.Arith.lt-of-le-ne (omega arith) (λ z. eqb-false c 0 e (sym z))
 
 -- at most 3
-pub inForce-most : (d c : ℕ) → d ≤ 3 → c ≤ 3 → inForceBy d c ≤ 3
+pub inForce-most : (d c : ℕ) → d ≤ highestCutoff → c ≤ highestCutoff → inForceBy d c ≤ highestCutoff
 unfolding inForceBy
 inForce-most d c h k = go (eqb c 0)
   where
-    go : (b : Bool) → cond b d c ≤ 3
+    go : (b : Bool) → cond b d c ≤ highestCutoff
     go true = h
     go false = k
 
@@ -64,6 +64,6 @@ default-steps m d e c roots h = count-falls (bitAt m) (inForceBy d c) (inForceBy
 
 -- whatever steps were taken under each
 pub default-roots : (m : ℕ) → known m ≡ true → (d e c : ℕ) → 1 ≤ d → 1 ≤ e → (f : List ℕ) (n k : ℕ)
-    → finished (numbers (fieldAt m)) (groupsAfter m (inForceBy d c) (rootsAt m f) n) ≡ finished (numbers (fieldAt m)) (groupsAfter m (inForceBy e c) (rootsAt m f) k)
+    → finished (G m) (groupsAfter m (inForceBy d c) (rootsAt m f) n) ≡ finished (G m) (groupsAfter m (inForceBy e c) (rootsAt m f) k)
 default-roots m field d e c hd he f n k =
     demand-3 m field (inForceBy d c) (inForce-least d c hd) f .finish n ∙ sym (demand-3 m field (inForceBy e c) (inForce-least e c he) f .finish k)

@@ -23,7 +23,7 @@ use Rattle.algebra.specs.Polynomial.{Below, traceOf}
 use Rattle.algebra.specs.Routines.{gcd}
 use Rattle.algebra.proofs.StaysBelow.{gcd-below, cofactor-below, traceOf-below}
 use Rattle.algebra.proofs.Lengths.{length-parts}
-use Rattle.refusals.specs.Rows.{known}
+use Rattle.field.specs.Rows.{known}
 use Rattle.table_rules.specs.Entries.{Halving, unlessEmpty, parts, splitAt, entryAt, firstAbove, step}
 use Rattle.table_rules.specs.Layout.{Factor, Layout, degreeSum, Lawful}
 use Rattle.table_rules.specs.Table.{Table, limitOf, slotsFor, encode, decode, sound}

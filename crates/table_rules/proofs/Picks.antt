@@ -17,17 +17,16 @@ use lib.Dec.{ltb}
 use lib.ListN.{length}
 use lib.Seq.{getD-append-add}
 use Rattle.algebra.specs.Trial.{All}
-use Rattle.algebra.specs.Field.{Ops}
 use Rattle.algebra.specs.Routines.{monicRoots}
 use Rattle.algebra.proofs.Lengths.{length-monicRoots}
 use Rattle.algebra.proofs.StaysBelow.{rootsOf-below}
 use Rattle.algebra.proofs.RootList.{rootsOf-distinct}
-use Rattle.refusals.specs.Rows.{known}
-use Rattle.field.specs.Field.{numbers, fieldAt}
+use Rattle.field.specs.Rows.{known}
+use Rattle.field.specs.Field.{G, rootsAt}
 use Rattle.table_rules.specs.Entries.{Entry, Halving, unlessEmpty, parts, splitAt, above, entryAt, done, carry}
 use Rattle.table_rules.specs.Groups.{byBit, begun, reached, groupCount}
 use Rattle.table_rules.specs.Layout.{Factor}
-use Rattle.table_rules.specs.Splitting.{begunTable, bitAt, halvingAt, rootsAt}
+use Rattle.table_rules.specs.Splitting.{begunTable, bitAt, halvingAt}
 use Rattle.table_rules.proofs.Counting.{count-bound}
 use Rattle.table_rules.proofs.Cut.{Cut, whole, parted, cut-split, split-right}
 use Rattle.table_rules.proofs.Grouped.{Told}
@@ -148,20 +147,17 @@ module _ {A B : Type 0} (f : List A → List B) (keeps : (s : List A) → length
 -- ---- in the known fields
 
 module _ (m : ℕ) (field : known m ≡ true) (c : ℕ) (positive : 1 ≤ c) (f : List ℕ) where
-  abbrev G : Ops ℕ
-  G = numbers (fieldAt m)
-
   abbrev roots : List ℕ
   roots = rootsAt m f
 
-  pub picks-end : {n : ℕ} {r : List Factor} → Picks (halvingAt m) c n (begunTable m c (monicRoots G roots) .factors) r → done c r ≡ true
+  pub picks-end : {n : ℕ} {r : List Factor} → Picks (halvingAt m) c n (begunTable m c (monicRoots (G m) roots) .factors) r → done c r ≡ true
       → (n ≡ stepCount m c roots) × (r ≡ groupsAfter m c roots (stepCount m c roots) .factors)
   picks-end {n} {r} q d =
       let B = known-field m field in
-      let below = rootsOf-below G (2 ^ m) f in
-      let distinct = rootsOf-distinct G (2 ^ m) f in
-      let found = picks-carried (monicRoots G) (length-monicRoots G) (byBit (bitAt m)) (halvingAt m) c (cut-commutes B c roots below distinct)
-      q (begun (bitAt m) roots) (carry-entry (monicRoots G) (length-monicRoots G) 0 roots) whole in
-      let d′ : done c (found .0) ≡ true = sym (carry-done (monicRoots G) (length-monicRoots G) c (found .0)) ∙ ap (done c) (sym (found .2)) ∙ d in
+      let below = rootsOf-below (G m) (2 ^ m) f in
+      let distinct = rootsOf-distinct (G m) (2 ^ m) f in
+      let found = picks-carried (monicRoots (G m)) (length-monicRoots (G m)) (byBit (bitAt m)) (halvingAt m) c (cut-commutes B c roots below distinct)
+      q (begun (bitAt m) roots) (carry-entry (monicRoots (G m)) (length-monicRoots (G m)) 0 roots) whole in
+      let d′ : done c (found .0) ≡ true = sym (carry-done (monicRoots (G m)) (length-monicRoots (G m)) c (found .0)) ∙ ap (done c) (sym (found .2)) ∙ d in
       let end = any-order (bitAt m) c m positive roots (alone B c positive roots below distinct) (found .1) d′ in
-      (end .0, found .2 ∙ ap (map (carry (monicRoots G))) (end .1))
+      (end .0, found .2 ∙ ap (map (carry (monicRoots (G m)))) (end .1))

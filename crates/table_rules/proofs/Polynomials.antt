@@ -21,12 +21,11 @@ use Rattle.slices.specs.Bounded.{allBelow, allZero}
 use Rattle.slices.proofs.Bounded.{allBelow-exactly}
 use Rattle.refusals.specs.Order.{Passed}
 use Rattle.refusals.specs.Order.Passed.{none as none-left}
-use Rattle.refusals.specs.Rows.{known}
+use Rattle.field.specs.Rows.{known}
 use Rattle.refusals.proofs.Order.{passes, failed, others, passed-both}
-use Rattle.field.specs.Field.{numbers, fieldAt}
+use Rattle.field.specs.Field.{rootsAt, G}
 use Rattle.table_rules.specs.Limit.{limit}
 use Rattle.table_rules.specs.Polynomials.{polynomialTests, PolynomialIn}
-use Rattle.table_rules.specs.Splitting.{rootsAt}
 use Rattle.table_rules.proofs.Fields.{known-field}
 
 -- whatever tests follow
@@ -45,12 +44,12 @@ polynomial-told m cs p =
 
 -- no more than the limit
 pub roots-few : {m : ℕ} {f : List ℕ} → PolynomialIn m f → length (rootsAt m f) ≤ limit
-roots-few {m} {f} t = go (norm (numbers (fieldAt m)) (length f) f) refl
+roots-few {m} {f} t = go (norm (G m) (length f) f) refl
   where
-    N : OnNumbers (numbers (fieldAt m)) (2 ^ m)
+    N : OnNumbers (G m) (2 ^ m)
     N = known-field m (t .field) .numbers
 
-    go : (o : Option (List ℕ)) → norm (numbers (fieldAt m)) (length f) f ≡ o → length (rootsAt m f) ≤ limit
+    go : (o : Option (List ℕ)) → norm (G m) (length f) f ≡ o → length (rootsAt m f) ≤ limit
     go none e =
         let zeros : allZero f ≡ true = allBelow-exactly 1 f .1 (below-from 1 f (λ i l. let z : getD f i 0 ≡ 0 = norm-none N f (t .small) e i in omega arith)) in
         let b : _≡_ {A = Bool} true false = sym zeros ∙ t .nonzero in

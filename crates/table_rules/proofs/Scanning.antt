@@ -15,6 +15,7 @@ use lib.Dec.{leb}
 use lib.ListN.{length, getD, take, drop}
 use Rattle.slices.specs.Bounded.{allBelow, allZero}
 use Rattle.table_rules.specs.Layout.{Stated, statedSum, behind, readBlocks, restBlocks, byFactor, fairBlocks}
+use Rattle.table_rules.specs.Cutoff.{highestCutoff}
 use Rattle.table_rules.specs.Table.{stepLimit, slotsFor, every, sound}
 use Rattle.table_rules.proofs.Soundness.{tests, Tests, Rules, sound-rules}
 
@@ -103,7 +104,7 @@ pub record Passed (known : ℕ → Bool) (limit : ℕ) (l : List ℕ) : Type 0 w
   pub size : length l ≡ slotsFor limit
   pub field : known (getD l 0 0) ≡ true
   pub cutoff-least : 1 ≤ getD l 1 0
-  pub cutoff-most : getD l 1 0 ≤ 3
+  pub cutoff-most : getD l 1 0 ≤ highestCutoff
   pub pass : fairBlocks (getD l 0 0) limit (getD l 2 0) (drop 4 l) ≡ true
   pub steps : getD l 3 0 ≤ stepLimit (getD l 0 0) (getD l 1 0) (statedSum (readBlocks (getD l 2 0) (drop 4 l)))
 

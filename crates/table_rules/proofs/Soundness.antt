@@ -23,8 +23,9 @@ use Rattle.algebra.specs.Trial.{All}
 use Rattle.algebra.specs.Polynomial.{Below}
 use Rattle.slices.specs.Bounded.{allBelow, allZero}
 use Rattle.slices.proofs.Bounded.{allBelow-exactly, allZero-exactly}
-use Rattle.field.specs.Field.{numbers, fieldAt}
+use Rattle.field.specs.Field.{G}
 use Rattle.table_rules.specs.Layout.{Factor, Stated, stated, factorOf, statedSum, Layout, degreeSum, Lawful, Read}
+use Rattle.table_rules.specs.Cutoff.{highestCutoff}
 use Rattle.table_rules.specs.Table.{Table, stepLimit, limitOf, slotsFor, every, encode, decode, sound}
 use Rattle.table_rules.specs.Splitting.{isDone, stuck, finished, slotsDone, slotsStuck, slotsRoots}
 
@@ -50,7 +51,7 @@ pub record Fair (m : ℕ) (e : Factor) : Type 0 where
 pub record Valid (known : ℕ → Bool) (limit : ℕ) (t : Table) : Type 0 where
   pub field : known (t .width) ≡ true
   pub cutoff-least : 1 ≤ t .cutoff
-  pub cutoff-most : t .cutoff ≤ 3
+  pub cutoff-most : t .cutoff ≤ highestCutoff
   pub factors : All (Fair (t .width)) (t .factors)
   pub sum : degreeSum (t .factors) ≤ limit
   pub steps : t .taken ≤ limitOf t
@@ -95,7 +96,7 @@ pub record Rules (Y : Layout) (known : ℕ → Bool) (limit : ℕ) (l : List ℕ
   pub size : length l ≡ slotsFor limit
   pub field : known (getD l 0 0) ≡ true
   pub cutoff-least : 1 ≤ Y .unmark (getD l 1 0)
-  pub cutoff-most : Y .unmark (getD l 1 0) ≤ 3
+  pub cutoff-most : Y .unmark (getD l 1 0) ≤ highestCutoff
   pub count : getD l 2 0 ≤ limit
   pub factors : Tests (getD l 0 0) (Y .read (getD l 2 0) (drop 4 l))
   pub sum : statedSum (Y .read (getD l 2 0) (drop 4 l)) ≤ limit
@@ -111,7 +112,7 @@ sound-rules Y known limit l = (
       ((((((((r .size, r .field), (r .cutoff-least, r .cutoff-most)), r .count), r .factors .levels), (r .factors .degrees, r .sum)), r .factors .coefficients), r .steps), r .rest),
 )
   where
-    told : ((((((((length l ≡ slotsFor limit) × (known (getD l 0 0) ≡ true)) × ((1 ≤ Y .unmark (getD l 1 0)) × (Y .unmark (getD l 1 0) ≤ 3))) × (getD l 2 0 ≤ limit))
+    told : ((((((((length l ≡ slotsFor limit) × (known (getD l 0 0) ≡ true)) × ((1 ≤ Y .unmark (getD l 1 0)) × (Y .unmark (getD l 1 0) ≤ highestCutoff))) × (getD l 2 0 ≤ limit))
         × (every (λ f. leb (f .level) (getD l 0 0)) (Y .read (getD l 2 0) (drop 4 l)) ≡ true))
         × ((every (λ f. leb 1 (f .degree)) (Y .read (getD l 2 0) (drop 4 l)) ≡ true) × (statedSum (Y .read (getD l 2 0) (drop 4 l)) ≤ limit)))
         × (every (λ f. allBelow (2 ^ getD l 0 0) (f .coefficients)) (Y .read (getD l 2 0) (drop 4 l)) ≡ true))
@@ -181,9 +182,9 @@ module _ {Y : Layout} (L : Lawful Y) where
   unfolding slotsStuck
   stuck-encode slots t = ap stuck (decode-encode slots t)
 
-  pub roots-encode : (slots : ℕ) (t : Table) → slotsRoots Y (encode Y slots t) ≡ finished (numbers (fieldAt (t .width))) t
+  pub roots-encode : (slots : ℕ) (t : Table) → slotsRoots Y (encode Y slots t) ≡ finished (G (t .width)) t
   unfolding slotsRoots
-  roots-encode slots t = ap (λ u. finished (numbers (fieldAt (u .width))) u) (decode-encode slots t)
+  roots-encode slots t = ap (λ u. finished (G (u .width)) u) (decode-encode slots t)
 
   -- ---- sound slots hold a valid table, and are its encoding
 

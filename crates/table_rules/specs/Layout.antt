@@ -1,5 +1,6 @@
 -- How the factors of a work table stand in its slots. A layout says how cutoff and factors are written, and how slots are read.
 --   Factor     an entry of the table: its level, and its coefficients below the leading 1, constant first
+--   factorSlots  the slots in front of a factor's coefficients: its level and its degree
 --   degreeSum  s, the sum of the factors' degrees
 --   Stated     what slots state of a factor: level, degree, and the slots of that many coefficients
 --   stated     what is to be stated of a factor;  factorOf  the factor so stated
@@ -20,6 +21,9 @@ use Rattle.table_rules.specs.Entries.{Entry}
 
 abbrev pub Factor : Type 0
 Factor = Entry ℕ
+
+abbrev pub factorSlots : ℕ
+factorSlots = 2
 
 unfoldable pub degreeSum : List Factor → ℕ
 degreeSum [] = 0
@@ -61,8 +65,8 @@ pub record Lawful (Y : Layout) : Type 0 where
   pub mark-unmark : (x : ℕ) → 1 ≤ Y .unmark x → Y .mark (Y .unmark x) ≡ x
   pub read-write : (fs : List Factor) (l : List ℕ) → Y .read (length fs) (Y .write fs ++ l) ≡ map stated fs
   pub rest-write : (fs : List Factor) (l : List ℕ) → Y .rest (length fs) (Y .write fs ++ l) ≡ l
-  pub write-read : (n : ℕ) (l : List ℕ) → 2 * n + statedSum (Y .read n l) ≤ length l → Read Y n l
-  pub length-write : (fs : List Factor) → length (Y .write fs) ≡ 2 * length fs + degreeSum fs
+  pub write-read : (n : ℕ) (l : List ℕ) → factorSlots * n + statedSum (Y .read n l) ≤ length l → Read Y n l
+  pub length-write : (fs : List Factor) → length (Y .write fs) ≡ factorSlots * length fs + degreeSum fs
 
 -- ---- each factor in turn
 
@@ -72,11 +76,11 @@ blocks (e ∷ l) = e .0 ∷ length (e .1) ∷ e .1 ++ blocks l
 
 -- what is behind the factor at the front
 abbrev pub behind : List ℕ → List ℕ
-behind l = drop (getD l 1 0) (drop 2 l)
+behind l = drop (getD l 1 0) (drop factorSlots l)
 
 unfoldable pub readBlocks : ℕ → List ℕ → List Stated
 readBlocks zero l = []
-readBlocks (suc n) l = record { level = getD l 0 0; degree = getD l 1 0; coefficients = take (getD l 1 0) (drop 2 l) } ∷ readBlocks n (behind l)
+readBlocks (suc n) l = record { level = getD l 0 0; degree = getD l 1 0; coefficients = take (getD l 1 0) (drop factorSlots l) } ∷ readBlocks n (behind l)
 
 unfoldable pub restBlocks : ℕ → List ℕ → List ℕ
 restBlocks zero l = l
@@ -89,7 +93,7 @@ byFactor = record { mark = λ c. c; unmark = λ x. x; write = blocks; read = rea
 
 -- the factor at the front: level at most m, degree from 1 to `left`, coefficients below 2^m
 abbrev pub fairFront : ℕ → ℕ → List ℕ → Bool
-fairFront m left l = leb (getD l 0 0) m && leb 1 (getD l 1 0) && leb (getD l 1 0) left && allBelow (2 ^ m) (take (getD l 1 0) (drop 2 l))
+fairFront m left l = leb (getD l 0 0) m && leb 1 (getD l 1 0) && leb (getD l 1 0) left && allBelow (2 ^ m) (take (getD l 1 0) (drop factorSlots l))
 
 unfoldable pub fairBlocks : ℕ → ℕ → ℕ → List ℕ → Bool
 fairBlocks m left zero l = allZero l

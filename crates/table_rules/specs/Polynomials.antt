@@ -8,7 +8,7 @@ use mathlib.Core.List.{List, _∷_}
 use Prim.Native.Nat.{ℕ, suc, _^_, _≤_, _<_}
 use lib.Dec.{eqb, ltb}
 use lib.ListN.{length}
-use Rattle.refusals.specs.Rows.{known}
+use Rattle.field.specs.Rows.{known}
 use Rattle.slices.specs.Bounded.{anyFrom, allZero}
 use Rattle.algebra.specs.Polynomial.{Below}
 use Rattle.table_rules.specs.Limit.{limit}

@@ -6,7 +6,7 @@ use mathlib.Core.List.{List}
 use Prim.Native.Nat.{ℕ}
 use Rattle.refusals.specs.Order.{memory}
 use Rattle.slices.specs.Lists.{copied}
-use Rattle.table_rules.specs.Splitting.{rootsAt}
+use Rattle.field.specs.Field.{rootsAt}
 
 abbrev pub rootMemory : List (ℕ × Bool) → ℕ → List ℕ → List ℕ → List ℕ
 rootMemory tests m cs list = memory tests (copied (rootsAt m cs) list) list

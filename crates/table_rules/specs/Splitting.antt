@@ -11,7 +11,7 @@
 --   someZero      is some factor 0 at x?
 --   finished      the list that finish makes: every element at which some factor is 0, ascending and once each
 -- and on slots, over the layout:
---   bitAt, halvingAt, rootsAt   the trace bits, the halving and the roots in the field of degree m
+--   bitAt, halvingAt   the trace bits and the halving in the field of degree m
 --   slotsDone, slotsStuck       the tests of a step;  slotsStepped  the slots after one;  slotsAfter  after n
 --   slotsBegun                  the slots that begin writes for a polynomial;  slotsRoots  the list that finish makes
 -- Assumes nothing.
@@ -22,9 +22,9 @@ use lib.Dec.{eqb}
 use lib.ListN.{length}
 use Rattle.algebra.specs.Field.{Ops, power, trace}
 use Rattle.algebra.specs.Trial.{keep, upFrom}
-use Rattle.algebra.specs.Polynomial.{isRoot, traceOf, rootsOf}
+use Rattle.algebra.specs.Polynomial.{isRoot, traceOf}
 use Rattle.algebra.specs.Routines.{monic, gcd, cofactor, monicRoots}
-use Rattle.field.specs.Field.{numbers, fieldAt}
+use Rattle.field.specs.Field.{G, rootsAt}
 use Rattle.table_rules.specs.Entries.{Halving, unlessEmpty, entryAt, firstAbove, done, step, carry}
 use Rattle.table_rules.specs.Groups.{reached}
 use Rattle.table_rules.specs.Layout.{Factor, Layout}
@@ -80,13 +80,10 @@ finished G t = keep (someZero G (t .factors)) (upFrom 0 (2 ^ t .width))
 -- ---- in the known fields, on slots
 
 abbrev pub bitAt : ℕ → ℕ → ℕ → Bool
-bitAt m = traceBit (numbers (fieldAt m)) m 2
+bitAt m = traceBit (G m) m 2
 
 abbrev pub halvingAt : ℕ → Halving ℕ
-halvingAt m = traceHalving (numbers (fieldAt m)) m 2
-
-abbrev pub rootsAt : ℕ → List ℕ → List ℕ
-rootsAt m f = rootsOf (numbers (fieldAt m)) (2 ^ m) f
+halvingAt m = traceHalving (G m) m 2
 
 module _ (Y : Layout) where
   unfoldable pub slotsDone : List ℕ → Bool
@@ -105,7 +102,7 @@ module _ (Y : Layout) where
 
   -- one factor, level 0, the product of z + r over all distinct roots, or no factor if there is no root
   unfoldable pub slotsBegun : ℕ → ℕ → ℕ → List ℕ → List ℕ
-  slotsBegun slots m c f = encode Y slots (begunTable m c (monicRoots (numbers (fieldAt m)) (rootsAt m f)))
+  slotsBegun slots m c f = encode Y slots (begunTable m c (monicRoots (G m) (rootsAt m f)))
 
   unfoldable pub slotsRoots : List ℕ → List ℕ
-  slotsRoots l = finished (numbers (fieldAt (decode Y l .width))) (decode Y l)
+  slotsRoots l = finished (G (decode Y l .width)) (decode Y l)

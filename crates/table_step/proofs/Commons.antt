@@ -13,19 +13,18 @@ use borrow.Author.Tests.{lt-ltb}
 use lib.Dec.{lit<}
 use lib.ListN.{length, getD, take}
 use lib.Seq.{length-take-le}
-use Rattle.refusals.specs.Rows.{known}
-use Rattle.refusals.proofs.Rows.{by-row, listed}
+use Rattle.field.specs.Rows.{known}
+use Rattle.field.proofs.Known.{by-row, listed}
 use Rattle.algebra.specs.Field.{power}
 use Rattle.algebra.specs.Polynomial.{Below}
 use Rattle.algebra.specs.Routines.{rem, traceMod, gcd}
 use Rattle.algebra.proofs.Lengths.{length-rem, length-traceMod}
 use Rattle.algebra.proofs.StaysBelow.{power-below, rem-below, traceMod-below}
 use Rattle.algebra.proofs.NumberSteps.{trace-run}
-use Rattle.field.specs.Field.{order, fieldAt}
+use Rattle.field.specs.Field.{order, fieldAt, G}
 use Rattle.field.specs.Tables.{antilogOf}
 use Rattle.slices.specs.Lists.{copied}
 use Rattle.slices.proofs.Lists.{copied-front, length-copied}
-use Rattle.poly.specs.Lent.{G}
 use Rattle.poly_gcd.specs.Euclid.{Turnable, GcdIs}
 use Rattle.poly.proofs.Logs.{field-of, numbers-of}
 use Rattle.table_rules.specs.Splitting.{halvingAt}

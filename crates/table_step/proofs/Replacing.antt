@@ -1,29 +1,30 @@
--- What `step_lent` reads around the factor to split, and what it leaves.
---   Reads, reads      the numbers that it reads, and that they fit
---   split-asks        the factor can be split;  part-asks  by what is lent;  trace-ready  as by the trace sum modulo it
---   Sizes, sizes      how many slots and how many parts there are
---   replaced          the slots that it leaves are those of a step;  replaced-long  as many as before
+-- What a step reads around the factor to split, and what it leaves.
+--   Reads, reads                      where the factor stands;  head-there, level-there, stands  so that it can be read
+--   factor-is, level-is, level-below-width   it is the first above the cutoff
+--   known-at, lent-here               the field that the head names
+--   split-asks, part-asks             it can be split, and by what is lent;  trace-within, trace-ready  as by the trace sum modulo it
+--   Sizes, sizes, new-fits            how many slots the parts take
+--   replace-asks, replaced            it can give way to its parts, and the slots are then those of a step
 -- Assumes nothing.
 use mathlib.Core.Path.{_≡_, refl, sym, ap, ap₂, subst, _∙_}
-use mathlib.Core.Bool.{Bool, true, false, not, true≢false}
+use mathlib.Core.Bool.{true, false, true≢false}
 use mathlib.Core.List.{List, [], _∷_, _++_}
 use Prim.Native.Nat.{ℕ, zero, suc, _+_, _-_, _*_, _/_, _^_, _≤_, _<_}
 use native.Mathlib.Nat.{le-trans, mul-le-mul, div-le-self}
 use native.Mathlib.Omega.{arith}
-use lib.ListN.{length, getD, take, drop, set, replicate, length-append, length-replicate}
+use lib.ListN.{length, take, drop, set, replicate, length-append, length-replicate}
 use lib.Seq.{take-at}
 use Rattle.algebra.specs.Polynomial.{Below}
-use Rattle.refusals.specs.Rows.{known}
-use Rattle.refusals.proofs.Rows.{by-row, listed}
-use Rattle.refusals.proofs.Order.{failed, others}
+use Rattle.field.specs.Rows.{known}
+use Rattle.field.proofs.Known.{by-row, listed}
 use Rattle.algebra.specs.Field.{power}
 use Rattle.algebra.specs.Routines.{rem, traceMod, gcd}
-use Rattle.poly.specs.Lent.{G, Lent}
+use Rattle.field.specs.Field.{G}
+use Rattle.poly.specs.Lent.{Lent}
 use Rattle.slices.specs.Lists.{spliced}
-use Rattle.slices.proofs.Lists.{length-spliced}
 use Rattle.table_rules.specs.Entries.{Halving, parts, entryAt, firstAbove, done}
-use Rattle.table_rules.specs.Layout.{Factor, degreeSum, blocks, byFactor}
-use Rattle.table_rules.specs.Table.{Table, encode, decode}
+use Rattle.table_rules.specs.Layout.{factorSlots, Factor, degreeSum, blocks, byFactor}
+use Rattle.table_rules.specs.Table.{Table, headSlots, encode, decode}
 use Rattle.table_rules.specs.Splitting.{isDone, firstFactor, halvingAt, slotsDone, slotsStuck, slotsStepped}
 use Rattle.table_rules.proofs.Layouts.{byFactor-lawful}
 use Rattle.table_rules.proofs.Soundness.{Valid, sound-valid, sound-encoded, count-within}
@@ -31,19 +32,16 @@ use Rattle.table_rules.proofs.Fields.{known-field}
 use Rattle.table_rules.proofs.Keeping.{Free, free, Halves, trace-halves, sound-length, step-slots}
 use Rattle.table_rules.specs.Places.{beyond, leading, place, slotsOf, spare}
 use Rattle.table_rules.proofs.Places.{encode-around, level-at, degree-at, coefficients-at, first-fair, room, parts-few, parts-some, length-new, step-spliced}
-use Rattle.table_rules.specs.Limit.{limit, slots, isSound}
+use Rattle.table_rules.specs.Limit.{limit, slots, twoFactors, widest}
+use Rattle.table_slots.specs.Slots.{widthOf, countOf, takenOf, Heads, levelAt, degreeAt, factorAt, nextAt, Stands, Replaceable, replacedAt}
+use Rattle.table_slots.specs.declared.Head.{Head}
 use Rattle.table_check.specs.Verdicts.{Chosen}
-use Rattle.table_step.specs.Parting.{Splittable, Partable, Parted, Ready, factorAt}
+use Rattle.table_step.specs.Parting.{Splittable, Partable, Parted, Ready}
 use Rattle.table_step.proofs.Commons.{traced-long, trace-small, traced-same}
 
--- a test that fails to fail holds
-un-not : (b : Bool) → not b ≡ false → b ≡ true
-un-not true e = refl
-un-not false e = sym e
-
 -- the known degrees are small
-degree-small : (m : ℕ) → known m ≡ true → m ≤ 11
-degree-small m k = by-row (λ n p. n ≤ 11) (omega arith) (omega arith) (omega arith) (listed m k)
+degree-small : (m : ℕ) → known m ≡ true → m ≤ widest
+degree-small m k = by-row (λ n p. n ≤ widest) (omega arith) (omega arith) (omega arith) (listed m k)
 
 -- no degree is above their sum, and a list that is not done has an entry
 entry-most : (l : List Factor) (k : ℕ) → length (entryAt l k .1) ≤ degreeSum l
@@ -58,15 +56,11 @@ unfolding done
 some-factor c [] d = absurd (true≢false d)
 some-factor c (e ∷ l) d = omega arith
 
--- the numbers that are read at the front and at o
+-- where the factor to split stands
 pub record Reads (l : List ℕ) (o : ℕ) : Type 0 where
-  pub long : length l ≡ 100
-  pub some : 1 ≤ getD l 2 0
-  pub count : getD l 2 0 ≤ 32
-  pub taken : getD l 3 0 < 352
-  pub room : o + (getD l (o + 1) 0 + 4) ≤ 100
-  pub front : 4 ≤ o
-  pub few : getD l (o + 1) 0 ≤ 32
+  pub long : length l ≡ slots
+  pub room : nextAt l o + factorSlots ≤ slots
+  pub few : degreeAt l o ≤ limit
 
 module _ (l : List ℕ) {o : ℕ} (c : Chosen l o) where
   -- the table that the slots hold, and its factor to split
@@ -77,58 +71,53 @@ module _ (l : List ℕ) {o : ℕ} (c : Chosen l o) where
   abbrev P : Factor
   P = firstFactor t
 
-  -- test 8 failed: the table is sound
-  is-sound : isSound l ≡ true
-  is-sound = un-not (isSound l) (failed (others (c .passed)))
-
   -- its field is known
-  pub is-known : known (getD l 0 0) ≡ true
+  pub is-known : known (widthOf l) ≡ true
   unfolding decode
-  is-known = sound-valid byFactor-lawful known limit l is-sound .field
+  is-known = sound-valid byFactor-lawful known limit l (c .sound) .field
 
   -- what it holds is valid
   valid : Valid known limit t
-  valid = sound-valid byFactor-lawful known limit l is-sound
+  valid = sound-valid byFactor-lawful known limit l (c .sound)
 
   -- and the slots are its encoding
   encoded : encode byFactor slots t ≡ l
-  encoded = sound-encoded byFactor-lawful known limit l is-sound
+  encoded = sound-encoded byFactor-lawful known limit l (c .sound)
 
   -- it is not done
   open-still : isDone t ≡ false
   unfolding slotsDone
   open-still = c .more
 
-  -- test 9 failed: the factor is below level m, and slot 3 below its limit
+  -- the factor is below level m, and the steps below their limit
   pub is-free : Free t
   unfolding slotsStuck
-  is-free = free t valid open-still (failed (others (others (c .passed))))
+  is-free = free t valid open-still (c .free)
 
   -- the level that the code reads
-  pub level-is : getD l o 0 ≡ P .0
-  level-is = ap₂ (λ u k. getD u k 0) (sym encoded) (c .at) ∙ level-at t valid open-still slots
+  pub level-is : levelAt l o ≡ P .0
+  level-is = ap₂ levelAt (sym encoded) (c .at) ∙ level-at t valid open-still slots
+
+  -- it is below the degree of the field
+  pub level-below-width : levelAt l o < widthOf l
+  unfolding decode
+  level-below-width = omega (arith, level-is, is-free .level)
 
   -- the degree that it reads
-  degree-is : getD l (o + 1) 0 ≡ length (P .1)
-  degree-is = ap₂ (λ u k. getD u (k + 1) 0) (sym encoded) (c .at) ∙ degree-at t valid open-still slots
+  degree-is : degreeAt l o ≡ length (P .1)
+  degree-is = ap₂ degreeAt (sym encoded) (c .at) ∙ degree-at t valid open-still slots
 
-  -- the slots that the code reads for the coefficients
-  abbrev read : List ℕ
-  read = take (o + 2 + getD l (o + 1) 0 - (o + 2)) (drop (o + 2) l)
-
-  -- they are the factor's
-  read-is : read ≡ P .1
-  read-is =
-      let n : o + 2 + getD l (o + 1) 0 - (o + 2) ≡ length (P .1) = omega (arith, degree-is) in
-      ap₂ take n (ap₂ (λ k u. drop (k + 2) u) (c .at) (sym encoded)) ∙ coefficients-at t valid open-still slots
+  -- the coefficients that it reads
+  pub factor-is : factorAt l o ≡ P .1
+  factor-is = ap₂ take degree-is (ap₂ (λ k u. drop (k + factorSlots) u) (c .at) (sym encoded)) ∙ coefficients-at t valid open-still slots
 
   -- the degree of the factor is one of those that are summed up
-  around-long : place t + (length (P .1) + 4) ≤ slots
+  around-long : place t + (length (P .1) + 2 * factorSlots) ≤ slots
   around-long =
       omega (
         arith,
         ap length (sym encoded ∙ encode-around t valid open-still slots),
-        sound-length byFactor-lawful limit l is-sound,
+        sound-length byFactor-lawful limit l (c .sound),
         length-append (leading t) (slotsOf P ++ (blocks (beyond t) ++ replicate (spare slots t) 0)),
         length-append (P .1) (blocks (beyond t) ++ replicate (spare slots t) 0),
         length-append (blocks (beyond t)) (replicate (spare slots t) 0),
@@ -136,86 +125,98 @@ module _ (l : List ℕ) {o : ℕ} (c : Chosen l o) where
         room t valid open-still,
       )
 
-  -- slot 2
-  count-is : getD l 2 0 ≡ length (t .factors)
+  -- the number of factors
+  count-is : countOf l ≡ length (t .factors)
   unfolding encode
-  count-is = ap (λ u. getD u 2 0) (sym encoded)
+  count-is = ap countOf (sym encoded)
 
-  -- slot 3
-  taken-is : getD l 3 0 ≡ t .taken
+  -- the steps taken
+  taken-is : takenOf l ≡ t .taken
   unfolding decode
   taken-is = refl
 
-  -- all that is read
+  -- where it stands
   pub reads : Reads l o
   reads = record {
-    long = sound-length byFactor-lawful limit l is-sound;
-    some = omega (arith, count-is, some-factor (t .cutoff) (t .factors) open-still);
-    count = omega (arith, count-is, count-within valid);
-    taken = omega (
-      arith,
-      taken-is,
-      is-free .steps,
-      mul-le-mul {n₂ = 11} {m₂ = 32} (degree-small (t .width) (valid .field)) (le-trans (div-le-self (degreeSum (t .factors)) (suc (t .cutoff))) (valid .sum)),
-    );
+    long = sound-length byFactor-lawful limit l (c .sound);
     room = omega (arith, degree-is, c .at, around-long);
-    front = omega (arith, c .at);
     few = omega (arith, degree-is, entry-most (t .factors) (firstAbove (t .cutoff) (t .factors)), valid .sum);
   }
 
-  -- what is read can be split
-  pub split-asks : {ls ts : List ℕ} → Lent (getD l 0 0) ls ts → Splittable (getD l 0 0) ls ts read (getD l o 0)
-  unfolding decode
-  split-asks a = record {
-    tables = a;
-    small = subst (Below (2 ^ getD l 0 0)) (sym read-is) (first-fair t valid open-still .coefficients);
-    few = omega (arith, ap length read-is, degree-is, reads .few);
-    level = omega (arith, level-is, is-free .level);
-  }
+  -- there is a head
+  pub head-there : headSlots ≤ length l
+  head-there = omega (arith, reads .long)
 
-  -- they are those at o
-  read-at : read ≡ factorAt l o
-  read-at = let n : o + 2 + getD l (o + 1) 0 - (o + 2) ≡ getD l (o + 1) 0 = omega arith in ap (λ k. take k (drop (o + 2) l)) n
+  -- the factor's level is one of the slots, and the factor stands in them
+  pub level-there : o < length l
+  level-there = let r = reads in omega (arith, r .long, r .room)
 
-  -- the coefficients at o are the factor's
-  pub factor-is : factorAt l o ≡ P .1
-  factor-is = sym read-at ∙ read-is
+  pub stands : Stands l o
+  stands = let r = reads in omega (arith, r .long, r .room)
 
-  -- and can be parted by what is lent
-  pub part-asks : {ls ts u : List ℕ} → Ready l ls ts o u → Partable (getD l 0 0) ls ts read (getD l o 0) u
-  part-asks {u = u} r = record {
-    splittable = split-asks (r .tables);
-    small = r .small;
-    few = r .few;
-    same = subst (λ p. gcd (G (getD l 0 0)) p u ≡ halvingAt (getD l 0 0) .low (getD l o 0) p) (sym read-at) (r .same);
-  }
+  -- it has as many coefficients as its degree
+  factor-long : length (factorAt l o) ≡ degreeAt l o
+  factor-long = ap length factor-is ∙ sym degree-is
 
-  -- as by the trace sum modulo the factor, at the front of its room
-  pub trace-ready : {ls ts u : List ℕ} (a : Lent (getD l 0 0) ls ts) (z : List ℕ)
-      → u ≡ traceMod (G (getD l 0 0)) read (getD l 0 0) (rem (G (getD l 0 0)) read (0 ∷ power (G (getD l 0 0)) 2 (getD l o 0) ∷ []))
-      → Ready l ls ts o (take (getD l (o + 1) 0) (u ++ z))
-  trace-ready {u = u} a z e =
-      let s = split-asks a in
-      let n : length u ≡ getD l (o + 1) 0 = traced-long s e ∙ ap length read-is ∙ sym degree-is in
-      let f : take (getD l (o + 1) 0) (u ++ z) ≡ u = take-at u z (getD l (o + 1) 0) n in
-      record {
-        chosen = c;
-        tables = a;
-        small = subst (Below (2 ^ getD l 0 0)) (sym (f ∙ e)) (trace-small s);
-        few = omega (arith, ap length f, n, reads .few);
-        same = subst (λ p. gcd (G (getD l 0 0)) p (take (getD l (o + 1) 0) (u ++ z)) ≡ halvingAt (getD l 0 0) .low (getD l o 0) p) read-at
-            (ap (gcd (G (getD l 0 0)) read) (f ∙ e) ∙ traced-same s);
-      }
+  -- the field that the head names is known, and its tables are those of the slots
+  pub known-at : {h : Head} → Heads l h → known (h .m) ≡ true
+  known-at k = ap known (k .width) ∙ is-known
 
-  -- which is long enough
-  pub trace-within : {ls ts u : List ℕ} (a : Lent (getD l 0 0) ls ts) (z : List ℕ)
-      → u ≡ traceMod (G (getD l 0 0)) read (getD l 0 0) (rem (G (getD l 0 0)) read (0 ∷ power (G (getD l 0 0)) 2 (getD l o 0) ∷ []))
-      → getD l (o + 1) 0 ≤ length (u ++ z)
-  trace-within {u = u} a z e = omega (arith, length-append u z, traced-long (split-asks a) e, ap length read-is, degree-is)
+  pub lent-here : {h : Head} {ls ts : List ℕ} → Heads l h → Lent (h .m) ls ts → Lent (widthOf l) ls ts
+  lent-here {h} {ls} {ts} k a = subst (λ (w : ℕ). Lent w ls ts) (k .width) a
 
-  -- it fits its room
-  pub trace-room : length read ≡ getD l (o + 1) 0
-  trace-room = ap length read-is ∙ sym degree-is
+  -- what is read by the names of its parts
+  module _ {h : Head} (k : Heads l h) {i : ℕ} (e : i ≡ levelAt l o) {p : List ℕ} (q : p ≡ factorAt l o) where
+    -- it is at most as long as the limit
+    pub read-few : length p ≤ limit
+    read-few = let r = reads in omega (arith, ap length q, factor-long, r .few)
+
+    -- it can be split
+    pub split-asks : {ls ts : List ℕ} → Lent (widthOf l) ls ts → Splittable (h .m) ls ts p i
+    unfolding decode
+    split-asks a = record {
+      tables = rw (k .width) a;
+      small = rw (k .width, q ∙ factor-is) (first-fair t valid open-still .coefficients);
+      few = read-few;
+      level = omega (arith, e, k .width, level-is, is-free .level);
+    }
+
+    -- and can be parted by what is lent
+    pub part-asks : {ls ts u : List ℕ} → Ready l ls ts o u → Partable (h .m) ls ts p i u
+    part-asks r = record {
+      splittable = split-asks (r .tables);
+      small = rw (k .width) (r .small);
+      few = r .few;
+      same = rw (k .width, e, q) (r .same);
+    }
+
+    module _ {ls ts u : List ℕ} (a : Lent (widthOf l) ls ts) (z : List ℕ) (g : u ≡ traceMod (G (h .m)) p (h .m) (rem (G (h .m)) p (0 ∷ power (G (h .m)) 2 i ∷ []))) where
+      -- the trace sum modulo the factor is as long
+      traced-fits : length u ≡ length p
+      traced-fits = traced-long (split-asks a) g
+
+      -- it is within its room
+      pub trace-within : length p ≤ length (u ++ z)
+      trace-within = omega (arith, length-append u z, traced-fits)
+
+      -- and parts the factor, at the front of its room
+      pub trace-ready : Ready l ls ts o (take (length p) (u ++ z))
+      trace-ready =
+          let s = split-asks a in
+          let f : take (length p) (u ++ z) ≡ u = take-at u z (length p) traced-fits in
+          record {
+            chosen = c;
+            tables = a;
+            small = subst (λ (m : ℕ). Below (2 ^ m) (take (length p) (u ++ z))) (k .width) (subst (Below (2 ^ h .m)) (sym (f ∙ g)) (trace-small s));
+            few = omega (arith, ap length f, traced-fits, read-few);
+            same = ap (gcd (G (widthOf l)) (factorAt l o)) (f ∙ g) ∙ at-slots (traced-same s);
+          }
+        where
+          -- the same by the names of the slots
+          at-slots : gcd (G (h .m)) p (traceMod (G (h .m)) p (h .m) (rem (G (h .m)) p (0 ∷ power (G (h .m)) 2 i ∷ []))) ≡ halvingAt (h .m) .low i p
+              → gcd (G (widthOf l)) (factorAt l o) (traceMod (G (h .m)) p (h .m) (rem (G (h .m)) p (0 ∷ power (G (h .m)) 2 i ∷ [])))
+              ≡ halvingAt (widthOf l) .low (levelAt l o) (factorAt l o)
+          at-slots x = rw (sym (k .width), sym e, sym q) x
 
   -- the parts of the factor that the code reads are those of the factor
   abbrev H : Halving ℕ
@@ -225,45 +226,67 @@ module _ (l : List ℕ) {o : ℕ} (c : Chosen l o) where
   halves : (i : ℕ) (p : List ℕ) → Below (2 ^ t .width) p → Halves H (t .width) i p
   halves = trace-halves (known-field (t .width) (valid .field))
 
-  module _ {q : ℕ} {w : List ℕ} (r : Parted (getD l 0 0) (getD l o 0) read q w) where
+  module _ {h : Head} (k : Heads l h) {i : ℕ} (e : i ≡ levelAt l o) {p : List ℕ} (g : p ≡ factorAt l o) {q : ℕ} {w : List ℕ} (r : Parted (h .m) i p q w) where
+    -- the parts that were written
+    parts-are : blocks (parts (halvingAt (h .m)) (i, p)) ≡ blocks (parts H P)
+    unfolding decode
+    parts-are = rw (k .width, e ∙ level-is, g ∙ factor-is) refl
+
     -- the new slots are those of the parts
     new-is : take q w ≡ blocks (parts H P)
-    unfolding decode
-    new-is = r .slots ∙ ap₂ (λ (i : ℕ) (p : List ℕ). blocks (parts H (i, p))) level-is read-is
+    new-is = r .slots ∙ parts-are
+
+    -- as many as were counted
+    pub new-count : length (take q w) ≡ q
+    new-count = ap length (r .slots) ∙ sym (r .count)
 
     -- two for each part, and the coefficients
-    new-long : q ≡ 2 * length (parts H P) + getD l (o + 1) 0
-    unfolding decode
-    new-long =
-        r .count ∙ ap₂ (λ (i : ℕ) (p : List ℕ). length (blocks (parts H (i, p)))) level-is read-is ∙ length-new t valid open-still H halves
-        ∙ ap (λ n. 2 * length (parts H P) + n) (sym degree-is)
+    new-long : q ≡ factorSlots * length (parts H P) + degreeAt l o
+    new-long = r .count ∙ ap length parts-are ∙ length-new t valid open-still H halves ∙ ap (λ n. factorSlots * length (parts H P) + n) (sym degree-is)
 
-    -- one part or two
+    -- one part or two: two or four slots more than coefficients
     pub record Sizes : Type 0 where
-      pub least : getD l (o + 1) 0 + 2 ≤ q
-      pub most : q ≤ getD l (o + 1) 0 + 4
+      pub least : degreeAt l o + factorSlots ≤ q
+      pub most : q ≤ degreeAt l o + 2 * factorSlots
 
-    -- so they are two or four more than the degree
+    -- as they are
     pub sizes : Sizes
     sizes = record {
       least = omega (arith, new-long, parts-some H (t .width) halves P (first-fair t valid open-still));
       most = omega (arith, new-long, parts-few H P);
     }
 
-    -- the table stays as long as it is
-    pub replaced-long : {s : List ℕ} → length (take q w) ≡ q → s ≡ spliced o (getD l (o + 1) 0 + 2) (take q w) l → length s ≡ 100
-    replaced-long n e =
-        ap length e ∙ length-spliced o (getD l (o + 1) 0 + 2) (take q w) l (omega (arith, sizes .least)) (omega (arith, sizes .most, reads .room, reads .long)) ∙ reads .long
+    -- they fit in the room of two factors
+    pub new-fits : q ≤ twoFactors
+    new-fits = let z = sizes in let s = reads in omega (arith, z .most, s .few)
 
-    -- and its slots are those of the table after the step
-    pub replaced : {s : List ℕ} → s ≡ spliced o (getD l (o + 1) 0 + 2) (take q w) l
-        → set (set s 2 (getD l 2 0 - 1 + (q - getD l (o + 1) 0) / 2)) 3 (getD l 3 0 + 1) ≡ slotsStepped byFactor l
-    replaced {s} e =
-        let old : getD l (o + 1) 0 + 2 ≡ length (slotsOf P) = omega (arith, degree-is) in
-        let n : getD l 2 0 - 1 + (q - getD l (o + 1) 0) / 2 ≡ length (t .factors) - 1 + length (parts H P) = omega (arith, new-long, count-is) in
-        let k : getD l 3 0 + 1 ≡ suc (t .taken) = omega (arith, taken-is) in
-        let same : s ≡ spliced (place t) (length (slotsOf P)) (blocks (parts H P)) (encode byFactor slots t) =
-        e ∙ ap₂ (λ (a b : ℕ). spliced a b (take q w) l) (c .at) old ∙ ap₂ (λ (u v : List ℕ). spliced (place t) (length (slotsOf P)) u v) new-is (sym encoded) in
-        ap₂ (λ (u : List ℕ) (a : ℕ). set (set u 2 a) 3 (getD l 3 0 + 1)) same n
-        ∙ ap (λ a. set (set (spliced (place t) (length (slotsOf P)) (blocks (parts H P)) (encode byFactor slots t)) 2 (length (t .factors) - 1 + length (parts H P))) 3 a) k
-        ∙ sym (step-slots byFactor-lawful limit l is-sound ∙ step-spliced t valid open-still H halves)
+    -- the factor can give way to them
+    pub replace-asks : Replaceable l o (take q w)
+    replace-asks =
+        let z = sizes in
+        let s = reads in
+        record {
+          some = omega (arith, count-is, some-factor (t .cutoff) (t .factors) open-still);
+          count = omega (arith, count-is, count-within valid);
+          taken = omega (
+            arith,
+            taken-is,
+            is-free .steps,
+            mul-le-mul {n₂ = widest} {m₂ = limit} (degree-small (t .width) (valid .field)) (le-trans (div-le-self (degreeSum (t .factors)) (suc (t .cutoff))) (valid .sum)),
+          );
+          room = omega (arith, s .room, s .long);
+          least = omega (arith, new-count, z .least);
+          most = omega (arith, new-count, z .most);
+        }
+
+    -- the slots are then those of the table after the step
+    pub replaced : {s : List ℕ} → s ≡ replacedAt o (take q w) l → s ≡ slotsStepped byFactor l
+    replaced {s} x =
+        let old : degreeAt l o + factorSlots ≡ length (slotsOf P) = omega (arith, degree-is) in
+        let n : countOf l - 1 + (length (take q w) - degreeAt l o) / factorSlots ≡ length (t .factors) - 1 + length (parts H P) = omega (arith, new-count, new-long, count-is) in
+        let j : takenOf l + 1 ≡ suc (t .taken) = omega (arith, taken-is) in
+        let same : spliced o (degreeAt l o + factorSlots) (take q w) l ≡ spliced (place t) (length (slotsOf P)) (blocks (parts H P)) (encode byFactor slots t) =
+        ap₂ (λ (a b : ℕ). spliced a b (take q w) l) (c .at) old ∙ ap₂ (λ (u v : List ℕ). spliced (place t) (length (slotsOf P)) u v) new-is (sym encoded) in
+        x ∙ ap₂ (λ (u : List ℕ) (a : ℕ). set (set u 2 a) 3 (takenOf l + 1)) same n
+        ∙ ap (λ a. set (set (spliced (place t) (length (slotsOf P)) (blocks (parts H P)) (encode byFactor slots t)) 2 (length (t .factors) - 1 + length (parts H P))) 3 a) j
+        ∙ sym (step-slots byFactor-lawful limit l (c .sound) ∙ step-spliced t valid open-still H halves)

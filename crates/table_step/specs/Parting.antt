@@ -3,24 +3,23 @@
 --   Partable     the same with a polynomial t that has the greatest common divisor with p that Tr(a^i z) has
 --   Restable     g can be taken out of p, with the rest written to h
 --   IsCommon     the first r coefficients of g are the first part's: the monic greatest common divisor of p and Tr(a^i z)
---   Appended     a factor was written to w at `at` unless it is constant, and r is the place behind it
 --   Parted       the parts of the factor p stand at the front of w, in r slots
---   factorAt     the coefficients of the factor at o of a table
 --   Steppable    the factor at o of a table is the one that a step splits, and the field's tables are lent
 --   Ready        the same with such a polynomial t lent
 -- Assumes nothing.
 use mathlib.Core.Path.{_≡_}
 use mathlib.Core.List.{List}
-use Prim.Native.Nat.{ℕ, _+_, _-_, _^_, _≤_, _<_}
-use lib.ListN.{length, getD, take, drop}
+use Prim.Native.Nat.{ℕ, _-_, _^_, _≤_, _<_}
+use lib.ListN.{length, take}
 use Rattle.algebra.specs.Polynomial.{Below}
 use Rattle.algebra.specs.Routines.{gcd}
-use Rattle.poly.specs.Lent.{G, Lent}
-use Rattle.slices.specs.Lists.{pasted}
-use Rattle.table_rules.specs.Entries.{unlessEmpty, parts}
+use Rattle.field.specs.Field.{G}
+use Rattle.poly.specs.Lent.{Lent}
+use Rattle.table_rules.specs.Entries.{parts}
 use Rattle.table_rules.specs.Layout.{blocks}
 use Rattle.table_rules.specs.Splitting.{halvingAt}
 use Rattle.table_rules.specs.Limit.{limit}
+use Rattle.table_slots.specs.Slots.{widthOf, levelAt, factorAt}
 use Rattle.table_check.specs.Verdicts.{Chosen}
 
 -- over the field of degree m
@@ -51,29 +50,20 @@ pub record IsCommon (m i : ℕ) (p : List ℕ) (r : ℕ) (g : List ℕ) : Type 0
   pub degree : r ≡ length (halvingAt m .low i p)
   pub low : take r g ≡ halvingAt m .low i p
 
--- its slots, and nothing else
-pub record Appended (at i : ℕ) (low w : List ℕ) (r : ℕ) (w′ : List ℕ) : Type 0 where
-  pub slots : w′ ≡ pasted at (blocks (unlessEmpty i low)) w
-  pub place : r ≡ at + length (blocks (unlessEmpty i low))
-
 -- one level further
 pub record Parted (m i : ℕ) (p : List ℕ) (r : ℕ) (w : List ℕ) : Type 0 where
   pub slots : take r w ≡ blocks (parts (halvingAt m) (i, p))
   pub count : r ≡ length (blocks (parts (halvingAt m) (i, p)))
 
--- as many as its degree says
-abbrev pub factorAt : List ℕ → ℕ → List ℕ
-factorAt l o = take (getD l (o + 1) 0) (drop (o + 2) l)
-
--- the field is that of slot 0
+-- the field is that of the table
 pub record Steppable (l ls ts : List ℕ) (o : ℕ) : Type 0 where
   pub chosen : Chosen l o
-  pub tables : Lent (getD l 0 0) ls ts
+  pub tables : Lent (widthOf l) ls ts
 
 -- the level is that of the factor
 pub record Ready (l ls ts : List ℕ) (o : ℕ) (t : List ℕ) : Type 0 where
   pub chosen : Chosen l o
-  pub tables : Lent (getD l 0 0) ls ts
-  pub small : Below (2 ^ getD l 0 0) t
+  pub tables : Lent (widthOf l) ls ts
+  pub small : Below (2 ^ widthOf l) t
   pub few : length t ≤ limit
-  pub same : gcd (G (getD l 0 0)) (factorAt l o) t ≡ halvingAt (getD l 0 0) .low (getD l o 0) (factorAt l o)
+  pub same : gcd (G (widthOf l)) (factorAt l o) t ≡ halvingAt (widthOf l) .low (levelAt l o) (factorAt l o)

@@ -2,29 +2,39 @@
 // greatest common divisor g of P and Tr(a^i z), and to h = P/g.
 ghost use mathlib.Core.Path.{_≡_};
 ghost use mathlib.Core.List.{[], _∷_};
-ghost use Prim.Native.Nat.{_+_, _≤_, _<_};
+ghost use Prim.Native.Nat.{_≤_, _<_};
 ghost use lib.ListN.{length};
 ghost use Rattle.algebra.specs.Field.{power};
 ghost use Rattle.algebra.specs.Routines.{rem, traceMod, cofactor};
-ghost use Rattle.poly.specs.Lent.{G};
+ghost use Rattle.field.specs.Field.{G};
 ghost use Rattle.table_rules.specs.Layout.{byFactor};
 ghost use Rattle.table_rules.specs.Splitting.{slotsStepped};
+ghost use Rattle.table_rules.specs.Limit.{twoFactors};
 ghost use Rattle.table_step.specs.Calls.{Steps};
 ghost use Rattle.table_check.specs.Verdicts.{Chosen};
 ghost use Rattle.table_step.specs.Parting.{Splittable, Partable, Restable, IsCommon};
-ghost use Rattle.table_step.specs.Parting.{Appended, Parted, Steppable, Ready};
+ghost use Rattle.table_step.specs.Parting.{Parted, Steppable, Ready};
+use field_tables::constants::antilogs4;
+use field_tables::constants::antilogs8;
+use field_tables::constants::antilogs11;
+use field_tables::constants::logs4;
+use field_tables::constants::logs8;
+use field_tables::constants::logs11;
 use poly_gcd::cofactor;
 use poly_gcd::gcd;
 use poly_powers::trace_of;
-use refusals::Found;
 use refusals::Refusal;
-use refusals::row_of;
 use table_check::Verdict;
 use table_check::judge;
 use table_rules::COEFFICIENTS;
 use table_rules::LIMIT;
 use table_rules::SQUARE;
-use table_rules::TWO_FACTORS;
+use table_slots::TWO_FACTORS;
+use table_slots::append;
+use table_slots::head_of;
+use table_slots::level_at;
+use table_slots::low_at;
+use table_slots::replace;
 
 // What a step answers: it was taken, there is nothing to split, or it was turned away.
 pub enum Stepped {
@@ -92,22 +102,6 @@ fn rest_of(m: u16, logs: &[u16], antilogs: &[u16], p: &[u16], g: &[u16], h: &mut
     cofactor(m, logs, antilogs, p, g, &mut row[..k], &mut f[..j], h);
 }
 
-// Writes the slots of a factor to w at `at`, and nothing where it is constant. Returns the place behind them.
-pub fn append(w: &mut [u16], at: usize, level: u16, low: &[u16]) -> usize
-    requires { ⌜ (at + (length (now low) + 2) ≤ length (now w)) × (length (now low) < 65536) ⌝ }
-    ensures { λ r. ⌜ Appended at level (now (low .entry)) (now (w .entry)) r (now (w .exit)) ⌝ }
-{
-    let n = low.len();
-    if n == 0 {
-        return at;
-    }
-    let b = at + 2;
-    slices::paste(w, b, low);
-    w[at] = level;
-    w[at + 1] = n as u16;
-    b + n
-}
-
 // Writes the slots of the factor's two parts, at the next level, to the front of w; a constant part is omitted. Returns the number of slots.
 fn parts_of(
     m: u16,
@@ -118,7 +112,7 @@ fn parts_of(
     t: &[u16],
     w: &mut [u16],
 ) -> usize
-    requires { ⌜ Partable m (now logs) (now antilogs) (now p) level (now t) × (36 ≤ length (now w)) ⌝ }
+    requires { ⌜ Partable m (now logs) (now antilogs) (now p) level (now t) × (twoFactors ≤ length (now w)) ⌝ }
     ensures { λ r. ⌜ Parted m level (now (p .entry)) r (now (w .exit)) ⌝ }
 {
     let mut g = [0u16; COEFFICIENTS];
@@ -135,18 +129,11 @@ pub fn step_lent(table: &mut [u16], logs: &[u16], antilogs: &[u16], o: usize, t:
     requires { ⌜ Ready (now table) (now logs) (now antilogs) o (now t) ⌝ }
     ensures { λ _. ⌜ now (table .exit) ≡ slotsStepped byFactor (now (table .entry)) ⌝ }
 {
-    let m = table[0];
-    let others = table[2] - 1;
-    let taken = table[3] + 1;
-    let level = table[o];
-    let d = table[o + 1] as usize;
-    let b = o + 2;
-    let e = b + d;
+    let h = head_of(table);
+    let level = level_at(table, o);
     let mut w = [0u16; TWO_FACTORS];
-    let q = parts_of(m, logs, antilogs, &table[b..e], level, t, &mut w);
-    slices::splice(table, o, d + 2, &w[..q]);
-    table[2] = others + ((q - d) / 2) as u16;
-    table[3] = taken;
+    let q = parts_of(h.m, logs, antilogs, low_at(table, o), level, t, &mut w);
+    replace(table, o, &w[..q]);
 }
 
 // Replaces the factor at o by its parts, and counts the step, over lent tables. Tr(a^i z) is taken modulo the factor, whatever the table.
@@ -154,32 +141,27 @@ fn step_traced(table: &mut [u16], logs: &[u16], antilogs: &[u16], o: usize)
     requires { ⌜ Steppable (now table) (now logs) (now antilogs) o ⌝ }
     ensures { λ _. ⌜ now (table .exit) ≡ slotsStepped byFactor (now (table .entry)) ⌝ }
 {
-    let m = table[0];
-    let level = table[o];
-    let d = table[o + 1] as usize;
-    let b = o + 2;
-    let e = b + d;
+    let h = head_of(table);
+    let level = level_at(table, o);
+    let p = low_at(table, o);
+    let d = p.len();
     let mut t = [0u16; LIMIT];
-    trace_at(m, logs, antilogs, &table[b..e], level, &mut t[..d]);
+    trace_at(h.m, logs, antilogs, p, level, &mut t[..d]);
     step_lent(table, logs, antilogs, o, &t[..d]);
 }
 
 // Replaces the factor at o by its parts, and counts the step. The field's tables are lent here.
-fn step_at(table: &mut [u16], o: usize)
+fn step_in(table: &mut [u16], o: usize)
     requires { ⌜ Chosen (now table) o ⌝ }
     ensures { λ _. ⌜ now (table .exit) ≡ slotsStepped byFactor (now (table .entry)) ⌝ }
 {
-    let m = table[0];
-    let Found::At(row) = row_of(m) else {
-        return;
-    };
-    let mut logs = [0u16; 2048];
-    let mut antilogs = [0u16; 6141];
-    field_tables::lending::logs(m, &mut logs);
-    field_tables::lending::antilogs(m, &mut antilogs);
-    let size = row.size as usize;
-    let end = 3 * (size - 1);
-    step_traced(table, &logs[..size], &antilogs[..end], o);
+    let h = head_of(table);
+    let m = h.m;
+    match m {
+        4 => step_traced(table, &logs4(), &antilogs4(), o),
+        8 => step_traced(table, &logs8(), &antilogs8(), o),
+        _ => step_traced(table, &logs11(), &antilogs11(), o),
+    }
 }
 
 // One step: the first factor above the cutoff gives way to its parts.
@@ -190,7 +172,7 @@ pub fn step(table: &mut [u16]) -> Stepped
         Verdict::Refused(k) => Stepped::NotStepped(k),
         Verdict::Over => Stepped::Done,
         Verdict::Split(o) => {
-            step_at(table, o);
+            step_in(table, o);
             Stepped::Taken
         }
     }

@@ -1,27 +1,31 @@
--- `corrector::place` meets its contract: the call's tests pass.
+-- `corrector::place` meets its contract.
 -- Assumes nothing.
-use mathlib.Core.Path.{sym, ap, _∙_}
-use lib.ListN.{getD}
-use Rattle.corrector.proofs.Calling.{place-value, place-never}
+use native.Mathlib.Omega.{arith}
+use Rattle.field.specs.Rows.{polyIn}
+use Rattle.field.specs.Field.{fieldAt}
+use Rattle.field.proofs.Generator.{position-is}
+use Rattle.corrector_code.proofs.Eleven.{gen11}
+use Rattle.corrector.proofs.Calling.{place-of}
 use borrow.Author.Needs.{needs}
 use Rattle.corrector.proofs.place.Statement.{statement}
 use Rattle.corrector.proofs.place.Tie as tie
-use Rattle.field_elements.proofs.position.Reads as position-reads
+use Rattle.field.proofs.arithmetic.position_of.Reads as position-of-reads
 
-position-requires : tie.Need-position-requires
-position-requires c κs = search needs
+position-of-requires : tie.Need-position-of-requires
+unfolding polyIn
+position-of-requires c κs = c .before .pre
 
-enum-known-j : tie.Need-enum-known-j
-enum-known-j c = search needs
-
-enum-told : tie.Need-enum-told
-enum-told c = search needs
+sub-result : tie.Need-sub-result
+unfolding polyIn
+sub-result c =
+    let a = c .before .before in
+    let p = position-is (fieldAt 11) gen11 (a .args .r) (a .pre .1) (a .pre .2) .0 in
+    let e = c .position-of .ensures in
+    omega arith
 
 returns : tie.Need-returns
-returns c = place-value _ (c .before .before .before .before .pre) _ (c .before .before .before .position .ensures) (c .before .j .given .1)
-
-returns-2 : tie.Need-returns-2
-returns-2 c = absurd (place-never _ (c .before .before .before .pre) _ (c .before .before .position .ensures) (c .enum-told .given .1))
+unfolding polyIn
+returns c = place-of _ (c .position-of .ensures)
 
 pub place-spec : {M : Type 1} → statement M
-place-spec = tie.close (tie.spec position-requires enum-known-j enum-told returns returns-2)
+place-spec = tie.close (tie.spec position-of-requires sub-result returns)

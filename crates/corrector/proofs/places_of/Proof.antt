@@ -10,28 +10,31 @@ use Rattle.corrector.proofs.places_of.Tie as tie
 use Rattle.corrector.proofs.place.Reads as place-reads
 
 abbrev Inv-loop : tie.InvT-loop
-Inv-loop roots n at₀ i₀ at i = Storing roots n at i
+Inv-loop logs roots n at₀ i₀ at i = Storing roots n at i
 
 abbrev μ-loop : tie.MeasureT-loop
-μ-loop roots n at₀ i₀ at i = n - i
+μ-loop logs roots n at₀ i₀ at i = n - i
 
 loop-holds : tie.Need-loop-holds Inv-loop μ-loop
 loop-holds c = store-from _ _
 
 mul-place : tie.Need-mul-place Inv-loop μ-loop
-mul-place c = let s = c .before .before .before .pre in let a = s .few in omega arith
+mul-place c = let s = c .before .before .before .before .pre .1 in let a = s .few in omega arith
 
 shared-slice-read-place : tie.Need-shared-slice-read-place Inv-loop μ-loop
-shared-slice-read-place c = let s = c .before .before .before .before .pre in let a = s .room in omega arith
+shared-slice-read-place c = let s = c .before .before .before .before .before .pre .1 in let a = s .room in omega arith
 
 place-requires : tie.Need-place-requires Inv-loop μ-loop
-place-requires c κs = c .before .before .before .before .pre .nonzero _ (omega arith)
+place-requires c κs =
+    let a = c .before .before .before .before .before in
+    let h = a .pre .1 .nonzero (c .before .before .loop .i) (omega arith) in
+    (a .pre .0, h .0, h .1)
 
 mul-at : tie.Need-mul-at Inv-loop μ-loop
 mul-at c = search needs
 
 array-write-at : tie.Need-array-write-at Inv-loop μ-loop
-array-write-at c = let s = c .before .before .before .before .before .pre in let a = s .few in let b = c .before .before .before .loop .inv .long in omega arith
+array-write-at c = let s = c .before .before .before .before .before .before .pre .1 in let a = s .few in let b = c .before .before .before .loop .inv .long in omega arith
 
 add-i : tie.Need-add-i Inv-loop μ-loop
 add-i c = search needs
@@ -40,7 +43,7 @@ loop-less : tie.Need-loop-less Inv-loop μ-loop
 loop-less c = search needs
 
 loop-again : tie.Need-loop-again Inv-loop μ-loop
-loop-again c = let s = c .before .before .before .before .before .pre in store-on _ (c .before .before .before .loop .inv) (omega arith) (s .few) (c .place .ensures)
+loop-again c = let s = c .before .before .before .before .before .before .pre .1 in store-on _ (c .before .before .before .loop .inv) (omega arith) (s .few) (c .place .ensures)
 
 returns : tie.Need-returns Inv-loop μ-loop
 returns c = let v = c .before .loop .inv in record { count = refl; good = refl; long = v .long; places = λ k h. v .done k (omega arith) }

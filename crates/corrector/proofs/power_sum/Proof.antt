@@ -8,10 +8,10 @@ use Rattle.corrector.proofs.power_sum.Statement.{statement}
 use Rattle.corrector.proofs.power_sum.Tie as tie
 
 abbrev Inv-loop : tie.InvT-loop
-Inv-loop powers k at n sum₀ i₀ sum i = Summing at k n sum i
+Inv-loop antilogs k at n sum₀ i₀ sum i = Summing at k n sum i
 
 abbrev μ-loop : tie.MeasureT-loop
-μ-loop powers k at n sum₀ i₀ sum i = n - i
+μ-loop antilogs k at n sum₀ i₀ sum i = n - i
 
 cast-n : tie.Need-cast-n Inv-loop μ-loop
 cast-n c = search needs

@@ -1,6 +1,6 @@
 -- `corrector_syndromes::rows` meets its contract: one test over the whole table.
 -- Assumes nothing.
-use Rattle.refusals.specs.Rows.{polyIn}
+use Rattle.field.specs.Rows.{polyIn}
 use Rattle.corrector_syndromes.proofs.Entries.{rowsTest, rows-at}
 use Rattle.corrector_syndromes.proofs.rows.Statement.{statement}
 use Rattle.corrector_syndromes.proofs.rows.Tie as tie

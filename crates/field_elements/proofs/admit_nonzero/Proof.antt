@@ -1,7 +1,8 @@
 -- `field_elements::admit_nonzero` meets its contract: each return shows which test was the first to hold.
 -- Assumes nothing.
 use borrow.Author.Needs.{needs}
-use Rattle.refusals.proofs.Admitting.{not-listed, is-listed}
+use Rattle.refusals.proofs.Order.{holds}
+use Rattle.field.proofs.Known.{unlisted, is-listed}
 use Rattle.field_elements.proofs.Admitting.{one-outside, one-zero, one-in}
 use Rattle.field_elements.proofs.admit_nonzero.Statement.{statement}
 use Rattle.field_elements.proofs.admit_nonzero.Tie as tie
@@ -16,7 +17,7 @@ enum-told : tie.Need-enum-told
 enum-told c = search needs
 
 returns : tie.Need-returns
-returns c = not-listed _ (c .before .before .row-of .ensures) (c .enum-told .given .1)
+returns c = holds (unlisted _ (c .before .before .row-of .ensures) (c .enum-told .given .1))
 
 returns-2 : tie.Need-returns-2
 returns-2 c = one-outside (is-listed _ (c .before .before .before .before .before .row-of .ensures) (c .before .before .before .found .given .1)) (c .if1 .taken)
@@ -25,7 +26,7 @@ returns-3 : tie.Need-returns-3
 returns-3 c = one-zero (is-listed _ (c .before .before .before .before .before .before .row-of .ensures) (c .before .before .before .before .found .given .1)) (c .before .if1 .left) (c .if2 .taken)
 
 returns-4 : tie.Need-returns-4
-returns-4 c = let i = is-listed _ (c .before .before .before .before .before .before .row-of .ensures) (c .before .before .before .before .found .given .1) in (one-in i (c .before .if1 .left) (c .if2 .left), i)
+returns-4 c = one-in (is-listed _ (c .before .before .before .before .before .before .row-of .ensures) (c .before .before .before .before .found .given .1)) (c .before .if1 .left) (c .if2 .left)
 
 pub admit-nonzero-spec : {M : Type 1} → statement M
 admit-nonzero-spec = tie.close (tie.spec row-of-requires enum-known-found enum-told returns returns-2 returns-3 returns-4)

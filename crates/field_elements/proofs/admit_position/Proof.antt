@@ -1,7 +1,8 @@
 -- `field_elements::admit_position` meets its contract: the field's test, then the others, one behind the other.
 -- Assumes nothing.
 use borrow.Author.Needs.{needs}
-use Rattle.refusals.proofs.Admitting.{not-listed, is-listed}
+use Rattle.refusals.proofs.Order.{holds}
+use Rattle.field.proofs.Known.{unlisted, is-listed}
 use Rattle.field_elements.proofs.Admitting.{place-tests}
 use Rattle.field_elements.proofs.admit_position.Statement.{statement}
 use Rattle.field_elements.proofs.admit_position.Tie as tie
@@ -16,7 +17,7 @@ enum-told : tie.Need-enum-told
 enum-told c = search needs
 
 returns : tie.Need-returns
-returns c = not-listed _ (c .before .before .row-of .ensures) (c .enum-told .given .1)
+returns c = holds (unlisted _ (c .before .before .row-of .ensures) (c .enum-told .given .1))
 
 also-requires : tie.Need-also-requires
 also-requires c κs = search needs

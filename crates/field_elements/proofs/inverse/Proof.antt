@@ -22,17 +22,17 @@ enum-told c = search needs
 inverse-in-requires : tie.Need-inverse-in-requires
 inverse-in-requires c κs =
     let i = let-in (c .before .before .admit-nonzero .ensures) (c .enum-told .given .1) in
-    let t = one-told (i .0) in
+    let t = one-told i in
     (t .field, t .positive, t .below)
 
 returns : tie.Need-returns
 returns c =
-    sym (refused _ (turned-away _ (c .before .before .before .admit-nonzero .ensures) (c .before .k .given .1)))
+    sym (refused _ (turned-away (c .before .before .before .admit-nonzero .ensures) (c .before .k .given .1)))
 
 returns-2 : tie.Need-returns-2
 returns-2 c =
     let i = let-in (c .before .before .before .admit-nonzero .ensures) (c .before .enum-told .given .1) in
-    ap (λ (v : ℕ). (0, v ∷ [])) (c .inverse-in .ensures) ∙ sym (accepted _ (i .0))
+    ap (λ (v : ℕ). (0, v ∷ [])) (c .inverse-in .ensures) ∙ sym (accepted _ i)
 
 pub inverse-spec : {M : Type 1} → statement M
 inverse-spec = tie.close (tie.spec admit-nonzero-requires enum-known-k enum-told inverse-in-requires returns returns-2)

@@ -1,14 +1,28 @@
 -- `field_elements::position` meets its contract: the tests decide, and the value is the log table's, or its mirror image.
 -- Assumes nothing.
 use mathlib.Core.Path.{sym}
+use Prim.Native.Nat.{_^_, _<_, _-_}
 use native.Mathlib.Omega.{arith}
-use borrow.Author.Needs.{needs}
+use Rattle.refusals.specs.Order.{Passed}
 use Rattle.refusals.proofs.Admitting.{let-in, turned-away}
 use Rattle.refusals.proofs.Order.{refused}
+use Rattle.field_elements.specs.Calls.{positionTests}
 use Rattle.field_elements.proofs.Admitting.{place-told}
-use Rattle.field_elements.proofs.Placing.{placed, goppa-outcome, recorder-outcome}
+use Rattle.field_elements.proofs.Placing.{Placed, placed, goppa-outcome, recorder-outcome}
+use borrow.Author.Needs.{needs}
 use Rattle.field_elements.proofs.position.Statement.{statement}
 use Rattle.field_elements.proofs.position.Tie as tie
+use Rattle.field.proofs.rows.size_of.Reads as size-of-reads
+use Rattle.field_elements.proofs.admit_position.Reads as admit-position-reads
+use Rattle.field_tables.proofs.field_types.position_in.Reads as position-in-reads
+
+-- all tests passed
+let-through : (c : tie.After-enum-told) → let s = c .before .before .before .args in Passed (positionTests (s .m) (s .r) (s .convention))
+let-through c = let-in (c .before .before .admit-position .ensures) (c .enum-told .given .1)
+
+-- and the exponent is taken
+its : (c : tie.After-position-in) → let s = c .before .before .before .before .args in Placed (s .m) (s .r) (s .convention) (c .position-in .result)
+its c = let s = c .before .before .before .before .args in placed (s .m) (s .r) (s .convention) (let-through (c .before)) (c .position-in .ensures)
 
 admit-position-requires : tie.Need-admit-position-requires
 admit-position-requires c κs = search needs
@@ -16,63 +30,34 @@ admit-position-requires c κs = search needs
 enum-known-k : tie.Need-enum-known-k
 enum-known-k c = search needs
 
-enum-known-row : tie.Need-enum-known-row
-enum-known-row c = search needs
+enum-told : tie.Need-enum-told
+enum-told c = search needs
 
 position-in-requires : tie.Need-position-in-requires
 position-in-requires c κs =
-    let admitted = c .before .before .before in
-    let i = let-in (admitted .admit-position .ensures) (c .before .row .given .1) in
-    let t = place-told (admitted .before .args .convention) (i .0) in
+    let t = place-told (c .before .before .before .args .convention) (let-through c) in
     (t .field, t .positive, t .below)
 
 returns : tie.Need-returns
-returns c =
-    let at = c .before in
-    let s = at .before .before .before .before .before .args in
-    let p = placed (s .m) (s .r) (s .convention) (at .before .before .before .before .admit-position .ensures)
-    (at .before .before .row .given .1) (at .position-in .ensures) in
-    goppa-outcome p (c .if1 .taken)
+returns c = goppa-outcome (its (c .before)) (c .if1 .taken)
+
+size-of-requires : tie.Need-size-of-requires
+size-of-requires c κs = place-told (c .before .before .before .before .before .args .convention) (let-through (c .before .before)) .field
 
 sub-order : tie.Need-sub-order
-sub-order c =
-    let at = c .before in
-    let s = at .before .before .before .before .before .args in
-    let p = placed (s .m) (s .r) (s .convention) (at .before .before .before .before .admit-position .ensures)
-    (at .before .before .row .given .1) (at .position-in .ensures) in
-    let w = p .within in
-    omega arith
+sub-order c = let w = its (c .before .before) .within in let e = c .size-of .ensures in omega arith
 
-sub-t12 : tie.Need-sub-t12
-sub-t12 c =
-    let at = c .before in
-    let s = at .before .before .before .before .before .args in
-    let p = placed (s .m) (s .r) (s .convention) (at .before .before .before .before .admit-position .ensures)
-    (at .before .before .row .given .1) (at .position-in .ensures) in
-    let w = p .within in
-    omega arith
+sub-t11 : tie.Need-sub-t11
+sub-t11 c = let w = its (c .before .before) .within in let e = c .size-of .ensures in omega arith
 
-rem-t13 : tie.Need-rem-t13
-rem-t13 c =
-    let at = c .before in
-    let s = at .before .before .before .before .before .args in
-    let p = placed (s .m) (s .r) (s .convention) (at .before .before .before .before .admit-position .ensures)
-    (at .before .before .row .given .1) (at .position-in .ensures) in
-    let w = p .within in
-    omega arith
+rem-t12 : tie.Need-rem-t12
+rem-t12 c = let w = its (c .before .before) .within in let e = c .size-of .ensures in omega arith
 
 returns-2 : tie.Need-returns-2
-returns-2 c =
-    let admitted = c .before .before .before in
-    sym (refused _ (turned-away _ (admitted .admit-position .ensures) (c .before .k .given .1)))
+returns-2 c = sym (refused _ (turned-away (c .before .before .before .admit-position .ensures) (c .before .k .given .1)))
 
 returns-3 : tie.Need-returns-3
-returns-3 c =
-    let at = c .before in
-    let s = at .before .before .before .before .before .args in
-    let p = placed (s .m) (s .r) (s .convention) (at .before .before .before .before .admit-position .ensures)
-    (at .before .before .row .given .1) (at .position-in .ensures) in
-    recorder-outcome p (c .if1 .left)
+returns-3 c = recorder-outcome (its (c .before .before)) (c .size-of .ensures) (c .before .if1 .left)
 
 pub position-spec : {M : Type 1} → statement M
 position-spec =
@@ -80,11 +65,12 @@ position-spec =
     (tie.spec
     admit-position-requires
     enum-known-k
-    enum-known-row
+    enum-told
     position-in-requires
     returns
+    size-of-requires
     sub-order
-    sub-t12
-    rem-t13
+    sub-t11
+    rem-t12
     returns-2
     returns-3)

@@ -22,16 +22,16 @@ enum-told c = search needs
 product-in-requires : tie.Need-product-in-requires
 product-in-requires c κs =
     let i = let-in (c .before .before .admit-pair .ensures) (c .enum-told .given .1) in
-    let t = pair-told (i .0) in
+    let t = pair-told i in
     (t .field, t .second)
 
 returns : tie.Need-returns
-returns c = sym (refused _ (turned-away _ (c .before .before .before .admit-pair .ensures) (c .before .k .given .1)))
+returns c = sym (refused _ (turned-away (c .before .before .before .admit-pair .ensures) (c .before .k .given .1)))
 
 returns-2 : tie.Need-returns-2
 returns-2 c =
     let i = let-in (c .before .before .before .admit-pair .ensures) (c .before .enum-told .given .1) in
-    ap (λ (v : ℕ). (0, v ∷ [])) (c .product-in .ensures) ∙ sym (accepted _ (i .0))
+    ap (λ (v : ℕ). (0, v ∷ [])) (c .product-in .ensures) ∙ sym (accepted _ i)
 
 pub product-spec : {M : Type 1} → statement M
 product-spec = tie.close (tie.spec admit-pair-requires enum-known-k enum-told product-in-requires returns returns-2)

@@ -1,6 +1,8 @@
 -- `field_elements::quadratic` meets its contract: the tests decide, and the value is that of the shared routine.
 -- Assumes nothing.
-use mathlib.Core.Path.{sym, _∙_}
+use mathlib.Core.Path.{sym, ap, _∙_}
+use mathlib.Core.List.{List}
+use Prim.Native.Nat.{ℕ}
 use borrow.Author.Needs.{needs}
 use Rattle.refusals.proofs.Admitting.{let-in, turned-away}
 use Rattle.field_elements.proofs.Admitting.{pair-told}
@@ -19,14 +21,14 @@ enum-told c = search needs
 
 roots-in-requires : tie.Need-roots-in-requires
 roots-in-requires c κs =
-    let i = let-in (c .before .before .admit-pair .ensures) (c .enum-told .given .1) in let t = pair-told (i .0) in (t .field, t .first, t .second)
+    let i = let-in (c .before .before .admit-pair .ensures) (c .enum-told .given .1) in let t = pair-told i in (t .field, t .first, t .second)
 
 returns : tie.Need-returns
-returns c = sym (refused _ (turned-away _ (c .before .before .before .admit-pair .ensures) (c .before .k .given .1)))
+returns c = sym (refused _ (turned-away (c .before .before .before .admit-pair .ensures) (c .before .k .given .1)))
 
 returns-2 : tie.Need-returns-2
 returns-2 c =
-    let i = let-in (c .before .before .before .admit-pair .ensures) (c .before .enum-told .given .1) in c .roots-in .ensures ∙ sym (accepted _ (i .0))
+    let i = let-in (c .before .before .before .admit-pair .ensures) (c .before .enum-told .given .1) in ap (λ (l : List ℕ). (0, l)) (c .roots-in .ensures) ∙ sym (accepted _ i)
 
 pub quadratic-spec : {M : Type 1} → statement M
 quadratic-spec = tie.close (tie.spec admit-pair-requires enum-known-k enum-told roots-in-requires returns returns-2)

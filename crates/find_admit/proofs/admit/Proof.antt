@@ -1,30 +1,40 @@
--- `find_admit::admit` meets its contract: the five tests of a polynomial, then those of cutoff and room, one behind the other.
+-- `find_admit::admit` meets its contract: the tests of a polynomial and a cutoff by two numbers, then that of the room.
 -- Assumes nothing.
+use mathlib.Core.Bool.{Bool}
 use mathlib.Core.List.{[], _∷_}
+use Prim.Native.Nat.{ℕ}
 use lib.Dec.{ltb}
+use Rattle.table_rules.specs.Cutoff.{highestCutoff}
+use lib.ListN.{length}
 use denote.Ref.{now}
 use Rattle.refusals.proofs.Admitting.{admits-also}
-use Rattle.refusals.specs.declared.Refusal.the-variants.{Cutoff, Room}
-use Rattle.table_rules.specs.Polynomials.{polynomialTests}
+use Rattle.refusals.specs.declared.Refusal.the-variants.{Room}
+use Rattle.find_admit.specs.Values.{valueTests}
+use Rattle.find_admit.proofs.PolynomialTests.{values-admit}
 use borrow.Author.Needs.{needs}
 use Rattle.find_admit.proofs.admit.Statement.{statement}
 use Rattle.find_admit.proofs.admit.Tie as tie
+use Rattle.find_admit.proofs.admit_call.Reads as admit-call-reads
+use Rattle.find_admit.proofs.largest.Reads as largest-reads
+use Rattle.refusals.proofs.also.Reads as also-reads
 
-admit-polynomial-requires : tie.Need-admit-polynomial-requires
-admit-polynomial-requires c κs = search needs
+largest-requires : tie.Need-largest-requires
+largest-requires c κs = search needs
+
+admit-call-requires : tie.Need-admit-call-requires
+admit-call-requires c κs = search needs
 
 also-requires : tie.Need-also-requires
 also-requires c κs = search needs
 
-also-requires-2 : tie.Need-also-requires-2
-also-requires-2 c κs = search needs
-
 returns : tie.Need-returns
 returns c =
-    let s = c .before .before .before .before .args in
-    let tests = polynomialTests (s .m) (now (s .coeffs)) in
-    admits-also (tests ((6, ltb 3 (s .cutoff)) ∷ [])) (s .m) (c .before .also .result) (s .short) Room (c .also2 .ensures)
-    (admits-also (tests []) (s .m) (c .before .before .admit-polynomial .result) (ltb 3 (s .cutoff)) Cutoff (c .before .also .ensures) (c .before .before .admit-polynomial .ensures))
+    let l = c .before .before in
+    let s = l .before .before .args in
+    let six : ℕ × Bool = (6, ltb highestCutoff (s .cutoff)) in
+    values-admit (s .m) (now (s .coeffs)) (six ∷ (7, s .short) ∷ []) (c .also .result) (l .largest .ensures)
+    (admits-also (valueTests (s .m) (length (now (s .coeffs))) (l .largest .result) (six ∷ [])) (c .before .admit-call .result) (s .short) Room (c .also .ensures)
+    (c .before .admit-call .ensures))
 
 pub admit-spec : {M : Type 1} → statement M
-admit-spec = tie.close (tie.spec admit-polynomial-requires also-requires also-requires-2 returns)
+admit-spec = tie.close (tie.spec largest-requires admit-call-requires also-requires returns)

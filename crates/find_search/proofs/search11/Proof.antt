@@ -5,6 +5,7 @@ use native.Mathlib.Omega.{arith}
 use Prim.Native.Nat.{_+_, _*_, _-_, _≤_}
 use Rattle.find_search.specs.Searching.{Tried}
 use Rattle.find_search.proofs.Trying.{tried-from, tried-again, tried-over, tried-next, tried-end}
+use Rattle.find_search.proofs.Admitting.{roots-room}
 use Rattle.find_search.proofs.Words.{free-from}
 use borrow.Author.Needs.{needs}
 use Rattle.find_search.proofs.search11.Statement.{statement}
@@ -23,7 +24,7 @@ slice-aggregate-values11 : tie.Need-slice-aggregate-values11 Inv-loop μ-loop
 slice-aggregate-values11 c = search needs
 
 values11-requires : tie.Need-values11-requires Inv-loop μ-loop
-values11-requires c κs = let s = c .before .before .before in (s .pre .small, s .pre .some, s .pre .few, refl)
+values11-requires c κs = let s = c .before .before .before in (s .pre .0 .small, s .pre .0 .some, s .pre .0 .few, refl)
 
 loop-holds : tie.Need-loop-holds Inv-loop μ-loop
 loop-holds c = (omega arith, tried-from 11 _ _)
@@ -41,7 +42,7 @@ cast-note-word : tie.Need-cast-note-word Inv-loop μ-loop
 cast-note-word c = search needs
 
 note-word-requires : tie.Need-note-word-requires Inv-loop μ-loop
-note-word-requires c κs = let s = c .before .before .before .before .before .before .before .before .before .before in let l = c .before .before .before .before .loop in record { tried = tried-again (l .inv .1); digits = free-from (c .before .before .before .before .before .before .values11 .ensures) (l .w) (omega arith) (c .before .occupied11 .ensures) (search needs); room = (let e = l .inv .1 .long in let r = s .pre .room in omega arith); within = omega arith }
+note-word-requires c κs = let s = c .before .before .before .before .before .before .before .before .before .before in let l = c .before .before .before .before .loop in record { tried = tried-again (l .inv .1); digits = free-from (c .before .before .before .before .before .before .values11 .ensures) (l .w) (omega arith) (c .before .occupied11 .ensures) (search needs); room = (let e = l .inv .1 .long in let r = roots-room (s .pre .0) (s .pre .1) in omega arith); within = omega arith }
 
 add-w : tie.Need-add-w Inv-loop μ-loop
 add-w c = omega arith

@@ -5,9 +5,10 @@ use mathlib.Core.List.{List}
 use Prim.Native.Nat.{ℕ, _+_, _-_, _%_, _≤_, _<_, _^_}
 use native.Mathlib.Omega.{arith}
 use lib.ListN.{length}
-use Rattle.table_rules.specs.Splitting.{rootsAt}
+use Rattle.field.specs.Field.{rootsAt}
 use Rattle.find_search.specs.Searching.{Tried}
 use Rattle.find_search.proofs.Trying.{tried-note, note-room, tried-next, tried-again, tried-end, searched-over, sizes}
+use Rattle.find_search.proofs.Admitting.{roots-room}
 use Rattle.find_search.proofs.search_lent.Statement.{statement}
 use Rattle.find_search.proofs.search_lent.Tie as tie
 
@@ -22,10 +23,10 @@ roomy : {m : ℕ} {f roots r : List ℕ} {x k : ℕ} → Tried m f roots x k r �
 roomy h l = let e = h .long in omega arith
 
 abbrev Inv-loop : tie.InvT-loop
-Inv-loop m logs antilogs f roots₀ size k₀ x₀ roots k x = Blocks m f roots₀ x k roots
+Inv-loop m f logs antilogs roots₀ size k₀ x₀ roots k x = Blocks m f roots₀ x k roots
 
 abbrev μ-loop : tie.MeasureT-loop
-μ-loop m logs antilogs f roots₀ size k₀ x₀ roots k x = 2 ^ m - x
+μ-loop m f logs antilogs roots₀ size k₀ x₀ roots k x = 2 ^ m - x
 
 cast-size : tie.Need-cast-size Inv-loop μ-loop
 cast-size c = let z = sizes (c .before .before .before .before .pre .tables) in let e = c .before .before .before .before .pre .tables .logs .entries in omega arith
@@ -41,7 +42,7 @@ evaluate-four-requires c κs =
     let z = sizes (c .before .before .before .before .before .before .before .before .before .before .pre .tables) in
     let e = c .before .before .before .before .before .before .before .before .before .before .pre .tables .logs .entries in
     let i = c .before .loop .inv in let f = i .fours in let p = i .positive in
-    (c .before .before .before .before .before .before .before .before .before .before .pre .tables, c .before .before .before .before .before .before .before .before .before .before .pre .small, p, omega arith)
+    (c .before .before .before .before .before .before .before .before .before .before .pre .tables, c .before .before .before .before .before .before .before .before .before .before .pre .polynomial .small, p, omega arith)
 
 note-requires : tie.Need-note-requires Inv-loop μ-loop
 note-requires c κs =
@@ -54,7 +55,7 @@ note-requires c κs =
     let v = c .before .evaluate-four .ensures in
     let t0 = i .tried in
     let h = t0 .fewer in let w = t0 .within in
-    (note-room t0 (omega arith) (v .first) (roomy (c .before .before .before .before .before .before .try-first .ensures) (c .before .before .before .before .before .before .before .before .before .before .before .before .pre .room)), omega arith)
+    (note-room t0 (omega arith) (v .first) (roomy (c .before .before .before .before .before .before .try-first .ensures) (roots-room (c .before .before .before .before .before .before .before .before .before .before .before .before .pre .polynomial) (c .before .before .before .before .before .before .before .before .before .before .before .before .pre .room))), omega arith)
 
 add-note : tie.Need-add-note Inv-loop μ-loop
 add-note c = let z = sizes (c .before .before .before .before .before .before .before .before .before .before .before .before .before .before .before .pre .tables) in let w = c .before .before .before .before .before .before .loop .inv .tried .within in omega arith
@@ -69,9 +70,9 @@ note-requires-2 c κs =
     let l : x + 3 < 2 ^ c .before .before .before .before .before .before .before .before .before .before .before .before .before .before .before .before .args .m = omega arith in
     let v = c .before .before .before .before .before .evaluate-four .ensures in
     let t0 = i .tried in
-    let t1 = tried-next (tried-note t0 (omega arith) (v .first) (roomy (c .before .before .before .before .before .before .before .before .before .before .try-first .ensures) (c .before .before .before .before .before .before .before .before .before .before .before .before .before .before .before .before .pre .room)) (c .before .before .before .note .ensures)) (let y : x + 1 ≡ x + 1 = refl in y) in
+    let t1 = tried-next (tried-note t0 (omega arith) (v .first) (roomy (c .before .before .before .before .before .before .before .before .before .before .try-first .ensures) (roots-room (c .before .before .before .before .before .before .before .before .before .before .before .before .before .before .before .before .pre .polynomial) (c .before .before .before .before .before .before .before .before .before .before .before .before .before .before .before .before .pre .room))) (c .before .before .before .note .ensures)) (let y : x + 1 ≡ x + 1 = refl in y) in
     let h = t1 .fewer in let w = t1 .within in
-    (note-room t1 (omega arith) (v .second) (roomy (c .before .before .before .before .before .before .before .before .before .before .try-first .ensures) (c .before .before .before .before .before .before .before .before .before .before .before .before .before .before .before .before .pre .room)), omega arith)
+    (note-room t1 (omega arith) (v .second) (roomy (c .before .before .before .before .before .before .before .before .before .before .try-first .ensures) (roots-room (c .before .before .before .before .before .before .before .before .before .before .before .before .before .before .before .before .pre .polynomial) (c .before .before .before .before .before .before .before .before .before .before .before .before .before .before .before .before .pre .room))), omega arith)
 
 add-note-2 : tie.Need-add-note-2 Inv-loop μ-loop
 add-note-2 c = let z = sizes (c .before .before .before .before .before .before .before .before .before .before .before .before .before .before .before .before .before .before .before .pre .tables) in let w = c .before .before .before .before .before .before .before .before .before .before .loop .inv .tried .within in omega arith
@@ -86,10 +87,10 @@ note-requires-3 c κs =
     let l : x + 3 < 2 ^ c .before .before .before .before .before .before .before .before .before .before .before .before .before .before .before .before .before .before .before .before .args .m = omega arith in
     let v = c .before .before .before .before .before .before .before .before .before .evaluate-four .ensures in
     let t0 = i .tried in
-    let t1 = tried-next (tried-note t0 (omega arith) (v .first) (roomy (c .before .before .before .before .before .before .before .before .before .before .before .before .before .before .try-first .ensures) (c .before .before .before .before .before .before .before .before .before .before .before .before .before .before .before .before .before .before .before .before .pre .room)) (c .before .before .before .before .before .before .before .note .ensures)) (let y : x + 1 ≡ x + 1 = refl in y) in
-    let t2 = tried-next (tried-note t1 (omega arith) (v .second) (roomy (c .before .before .before .before .before .before .before .before .before .before .before .before .before .before .try-first .ensures) (c .before .before .before .before .before .before .before .before .before .before .before .before .before .before .before .before .before .before .before .before .pre .room)) (c .before .before .before .note2 .ensures)) (let y : x + 2 ≡ x + 1 + 1 = omega arith in y) in
+    let t1 = tried-next (tried-note t0 (omega arith) (v .first) (roomy (c .before .before .before .before .before .before .before .before .before .before .before .before .before .before .try-first .ensures) (roots-room (c .before .before .before .before .before .before .before .before .before .before .before .before .before .before .before .before .before .before .before .before .pre .polynomial) (c .before .before .before .before .before .before .before .before .before .before .before .before .before .before .before .before .before .before .before .before .pre .room))) (c .before .before .before .before .before .before .before .note .ensures)) (let y : x + 1 ≡ x + 1 = refl in y) in
+    let t2 = tried-next (tried-note t1 (omega arith) (v .second) (roomy (c .before .before .before .before .before .before .before .before .before .before .before .before .before .before .try-first .ensures) (roots-room (c .before .before .before .before .before .before .before .before .before .before .before .before .before .before .before .before .before .before .before .before .pre .polynomial) (c .before .before .before .before .before .before .before .before .before .before .before .before .before .before .before .before .before .before .before .before .pre .room))) (c .before .before .before .note2 .ensures)) (let y : x + 2 ≡ x + 1 + 1 = omega arith in y) in
     let h = t2 .fewer in let w = t2 .within in
-    (note-room t2 (omega arith) (v .third) (roomy (c .before .before .before .before .before .before .before .before .before .before .before .before .before .before .try-first .ensures) (c .before .before .before .before .before .before .before .before .before .before .before .before .before .before .before .before .before .before .before .before .pre .room)), omega arith)
+    (note-room t2 (omega arith) (v .third) (roomy (c .before .before .before .before .before .before .before .before .before .before .before .before .before .before .try-first .ensures) (roots-room (c .before .before .before .before .before .before .before .before .before .before .before .before .before .before .before .before .before .before .before .before .pre .polynomial) (c .before .before .before .before .before .before .before .before .before .before .before .before .before .before .before .before .before .before .before .before .pre .room))), omega arith)
 
 add-note-3 : tie.Need-add-note-3 Inv-loop μ-loop
 add-note-3 c = let z = sizes (c .before .before .before .before .before .before .before .before .before .before .before .before .before .before .before .before .before .before .before .before .before .before .before .pre .tables) in let w = c .before .before .before .before .before .before .before .before .before .before .before .before .before .before .loop .inv .tried .within in omega arith
@@ -104,11 +105,11 @@ note-requires-4 c κs =
     let l : x + 3 < 2 ^ c .before .before .before .before .before .before .before .before .before .before .before .before .before .before .before .before .before .before .before .before .before .before .before .before .args .m = omega arith in
     let v = c .before .before .before .before .before .before .before .before .before .before .before .before .before .evaluate-four .ensures in
     let t0 = i .tried in
-    let t1 = tried-next (tried-note t0 (omega arith) (v .first) (roomy (c .before .before .before .before .before .before .before .before .before .before .before .before .before .before .before .before .before .before .try-first .ensures) (c .before .before .before .before .before .before .before .before .before .before .before .before .before .before .before .before .before .before .before .before .before .before .before .before .pre .room)) (c .before .before .before .before .before .before .before .before .before .before .before .note .ensures)) (let y : x + 1 ≡ x + 1 = refl in y) in
-    let t2 = tried-next (tried-note t1 (omega arith) (v .second) (roomy (c .before .before .before .before .before .before .before .before .before .before .before .before .before .before .before .before .before .before .try-first .ensures) (c .before .before .before .before .before .before .before .before .before .before .before .before .before .before .before .before .before .before .before .before .before .before .before .before .pre .room)) (c .before .before .before .before .before .before .before .note2 .ensures)) (let y : x + 2 ≡ x + 1 + 1 = omega arith in y) in
-    let t3 = tried-next (tried-note t2 (omega arith) (v .third) (roomy (c .before .before .before .before .before .before .before .before .before .before .before .before .before .before .before .before .before .before .try-first .ensures) (c .before .before .before .before .before .before .before .before .before .before .before .before .before .before .before .before .before .before .before .before .before .before .before .before .pre .room)) (c .before .before .before .note3 .ensures)) (let y : x + 3 ≡ x + 2 + 1 = omega arith in y) in
+    let t1 = tried-next (tried-note t0 (omega arith) (v .first) (roomy (c .before .before .before .before .before .before .before .before .before .before .before .before .before .before .before .before .before .before .try-first .ensures) (roots-room (c .before .before .before .before .before .before .before .before .before .before .before .before .before .before .before .before .before .before .before .before .before .before .before .before .pre .polynomial) (c .before .before .before .before .before .before .before .before .before .before .before .before .before .before .before .before .before .before .before .before .before .before .before .before .pre .room))) (c .before .before .before .before .before .before .before .before .before .before .before .note .ensures)) (let y : x + 1 ≡ x + 1 = refl in y) in
+    let t2 = tried-next (tried-note t1 (omega arith) (v .second) (roomy (c .before .before .before .before .before .before .before .before .before .before .before .before .before .before .before .before .before .before .try-first .ensures) (roots-room (c .before .before .before .before .before .before .before .before .before .before .before .before .before .before .before .before .before .before .before .before .before .before .before .before .pre .polynomial) (c .before .before .before .before .before .before .before .before .before .before .before .before .before .before .before .before .before .before .before .before .before .before .before .before .pre .room))) (c .before .before .before .before .before .before .before .note2 .ensures)) (let y : x + 2 ≡ x + 1 + 1 = omega arith in y) in
+    let t3 = tried-next (tried-note t2 (omega arith) (v .third) (roomy (c .before .before .before .before .before .before .before .before .before .before .before .before .before .before .before .before .before .before .try-first .ensures) (roots-room (c .before .before .before .before .before .before .before .before .before .before .before .before .before .before .before .before .before .before .before .before .before .before .before .before .pre .polynomial) (c .before .before .before .before .before .before .before .before .before .before .before .before .before .before .before .before .before .before .before .before .before .before .before .before .pre .room))) (c .before .before .before .note3 .ensures)) (let y : x + 3 ≡ x + 2 + 1 = omega arith in y) in
     let h = t3 .fewer in let w = t3 .within in
-    (note-room t3 (omega arith) (v .fourth) (roomy (c .before .before .before .before .before .before .before .before .before .before .before .before .before .before .before .before .before .before .try-first .ensures) (c .before .before .before .before .before .before .before .before .before .before .before .before .before .before .before .before .before .before .before .before .before .before .before .before .pre .room)), omega arith)
+    (note-room t3 (omega arith) (v .fourth) (roomy (c .before .before .before .before .before .before .before .before .before .before .before .before .before .before .before .before .before .before .try-first .ensures) (roots-room (c .before .before .before .before .before .before .before .before .before .before .before .before .before .before .before .before .before .before .before .before .before .before .before .before .pre .polynomial) (c .before .before .before .before .before .before .before .before .before .before .before .before .before .before .before .before .before .before .before .before .before .before .before .before .pre .room))), omega arith)
 
 add-x : tie.Need-add-x Inv-loop μ-loop
 add-x c = let z = sizes (c .before .before .before .before .before .before .before .before .before .before .before .before .before .before .before .before .before .before .before .before .before .before .before .before .before .before .before .pre .tables) in let w = c .before .before .before .before .before .before .before .before .before .before .before .before .before .before .before .before .before .before .loop .inv .tried .within in omega arith
@@ -126,10 +127,10 @@ loop-again c =
     let l : x + 3 < 2 ^ c .before .before .before .before .before .before .before .before .before .before .before .before .before .before .before .before .before .before .before .before .before .before .before .before .before .before .before .args .m = omega arith in
     let v = c .before .before .before .before .before .before .before .before .before .before .before .before .before .before .before .before .evaluate-four .ensures in
     let t0 = i .tried in
-    let t1 = tried-next (tried-note t0 (omega arith) (v .first) (roomy (c .before .before .before .before .before .before .before .before .before .before .before .before .before .before .before .before .before .before .before .before .before .try-first .ensures) (c .before .before .before .before .before .before .before .before .before .before .before .before .before .before .before .before .before .before .before .before .before .before .before .before .before .before .before .pre .room)) (c .before .before .before .before .before .before .before .before .before .before .before .before .before .before .note .ensures)) (let y : x + 1 ≡ x + 1 = refl in y) in
-    let t2 = tried-next (tried-note t1 (omega arith) (v .second) (roomy (c .before .before .before .before .before .before .before .before .before .before .before .before .before .before .before .before .before .before .before .before .before .try-first .ensures) (c .before .before .before .before .before .before .before .before .before .before .before .before .before .before .before .before .before .before .before .before .before .before .before .before .before .before .before .pre .room)) (c .before .before .before .before .before .before .before .before .before .before .note2 .ensures)) (let y : x + 2 ≡ x + 1 + 1 = omega arith in y) in
-    let t3 = tried-next (tried-note t2 (omega arith) (v .third) (roomy (c .before .before .before .before .before .before .before .before .before .before .before .before .before .before .before .before .before .before .before .before .before .try-first .ensures) (c .before .before .before .before .before .before .before .before .before .before .before .before .before .before .before .before .before .before .before .before .before .before .before .before .before .before .before .pre .room)) (c .before .before .before .before .before .before .note3 .ensures)) (let y : x + 3 ≡ x + 2 + 1 = omega arith in y) in
-    let t4 = tried-next (tried-note t3 (omega arith) (v .fourth) (roomy (c .before .before .before .before .before .before .before .before .before .before .before .before .before .before .before .before .before .before .before .before .before .try-first .ensures) (c .before .before .before .before .before .before .before .before .before .before .before .before .before .before .before .before .before .before .before .before .before .before .before .before .before .before .before .pre .room)) (c .before .before .note4 .ensures)) (let y : x + 4 ≡ x + 3 + 1 = omega arith in y) in
+    let t1 = tried-next (tried-note t0 (omega arith) (v .first) (roomy (c .before .before .before .before .before .before .before .before .before .before .before .before .before .before .before .before .before .before .before .before .before .try-first .ensures) (roots-room (c .before .before .before .before .before .before .before .before .before .before .before .before .before .before .before .before .before .before .before .before .before .before .before .before .before .before .before .pre .polynomial) (c .before .before .before .before .before .before .before .before .before .before .before .before .before .before .before .before .before .before .before .before .before .before .before .before .before .before .before .pre .room))) (c .before .before .before .before .before .before .before .before .before .before .before .before .before .before .note .ensures)) (let y : x + 1 ≡ x + 1 = refl in y) in
+    let t2 = tried-next (tried-note t1 (omega arith) (v .second) (roomy (c .before .before .before .before .before .before .before .before .before .before .before .before .before .before .before .before .before .before .before .before .before .try-first .ensures) (roots-room (c .before .before .before .before .before .before .before .before .before .before .before .before .before .before .before .before .before .before .before .before .before .before .before .before .before .before .before .pre .polynomial) (c .before .before .before .before .before .before .before .before .before .before .before .before .before .before .before .before .before .before .before .before .before .before .before .before .before .before .before .pre .room))) (c .before .before .before .before .before .before .before .before .before .before .note2 .ensures)) (let y : x + 2 ≡ x + 1 + 1 = omega arith in y) in
+    let t3 = tried-next (tried-note t2 (omega arith) (v .third) (roomy (c .before .before .before .before .before .before .before .before .before .before .before .before .before .before .before .before .before .before .before .before .before .try-first .ensures) (roots-room (c .before .before .before .before .before .before .before .before .before .before .before .before .before .before .before .before .before .before .before .before .before .before .before .before .before .before .before .pre .polynomial) (c .before .before .before .before .before .before .before .before .before .before .before .before .before .before .before .before .before .before .before .before .before .before .before .before .before .before .before .pre .room))) (c .before .before .before .before .before .before .note3 .ensures)) (let y : x + 3 ≡ x + 2 + 1 = omega arith in y) in
+    let t4 = tried-next (tried-note t3 (omega arith) (v .fourth) (roomy (c .before .before .before .before .before .before .before .before .before .before .before .before .before .before .before .before .before .before .before .before .before .try-first .ensures) (roots-room (c .before .before .before .before .before .before .before .before .before .before .before .before .before .before .before .before .before .before .before .before .before .before .before .before .before .before .before .pre .polynomial) (c .before .before .before .before .before .before .before .before .before .before .before .before .before .before .before .before .before .before .before .before .before .before .before .before .before .before .before .pre .room))) (c .before .before .note4 .ensures)) (let y : x + 4 ≡ x + 3 + 1 = omega arith in y) in
     record { tried = t4; fours = omega arith; positive = omega arith }
 
 same-length : tie.Need-same-length Inv-loop μ-loop

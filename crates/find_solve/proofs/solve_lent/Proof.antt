@@ -10,7 +10,7 @@ use lib.Seq.{length-take-le}
 use Rattle.slices.specs.Lists.{copied}
 use Rattle.find_solve.proofs.Admitting.{solve-begins, begun-stepping}
 use Rattle.find_solve.proofs.Running.{out-taken, out-asks, out-roots}
-use Rattle.find_solve.proofs.Tracing.{powered-fit, powers-of}
+use Rattle.find_solve.proofs.Tracing.{powered-fit}
 use borrow.Author.Needs.{needs}
 use Rattle.find_solve.proofs.solve_lent.Statement.{statement}
 use Rattle.find_solve.proofs.solve_lent.Tie as tie
@@ -40,7 +40,7 @@ slice-aggregate-run-3 : tie.Need-slice-aggregate-run-3
 slice-aggregate-run-3 c = search needs
 
 run-requires : tie.Need-run-requires
-run-requires c κs = record { tables = c .before .before .before .before .before .before .before .before .before .before .before .before .before .pre .tables; polynomial = c .before .before .before .before .before .before .before .before .before .before .before .before .before .pre .polynomial; powers = powers-of (c .before .before .before .before .before .begin-lent .ensures .1); zeros = refl; stepping = begun-stepping (c .before .before .before .before .before .before .before .before .before .before .before .before .before .pre) (c .before .before .before .before .before .begin-lent .ensures .0) }
+run-requires c κs = record { tables = c .before .before .before .before .before .before .before .before .before .before .before .before .before .pre .tables; polynomial = c .before .before .before .before .before .before .before .before .before .before .before .before .before .pre .polynomial; powers = c .before .before .before .before .before .begin-lent .ensures .1; zeros = refl; stepping = begun-stepping (c .before .before .before .before .before .before .before .before .before .before .before .before .before .pre) (c .before .before .before .before .before .begin-lent .ensures .0) }
 
 slice-aggregate-finish-lent : tie.Need-slice-aggregate-finish-lent
 slice-aggregate-finish-lent c = search needs
@@ -48,23 +48,28 @@ slice-aggregate-finish-lent c = search needs
 finish-lent-requires : tie.Need-finish-lent-requires
 finish-lent-requires c κs = let g = c .before .before .before .before .before .before .before .before .before .before .before .before .before .before .before .before .before .before .pre in out-asks g (begun-stepping g (c .before .before .before .before .before .before .before .before .before .before .begin-lent .ensures .0)) (c .before .before .before .before .run .ensures)
 
-cast-t30 : tie.Need-cast-t30
-cast-t30 c = search needs
+slice-aggregate-head-of : tie.Need-slice-aggregate-head-of
+slice-aggregate-head-of c = search needs
 
-array-read-t33 : tie.Need-array-read-t33
-array-read-t33 c = search needs
+head-of-requires : tie.Need-head-of-requires
+head-of-requires c κs = search needs
+
+cast-t33 : tie.Need-cast-t33
+cast-t33 c = search needs
 
 same-length : tie.Need-same-length
 same-length c = search needs
 
 returns : tie.Need-returns
-returns c = let s = begun-stepping (c .before .before .before .before .before .before .before .before .before .before .before .before .before .before .before .before .before .before .before .before .before .pre) (c .before .before .before .before .before .before .before .before .before .before .before .before .before .begin-lent .ensures .0) in
-    let r = c .before .before .before .before .before .before .before .run .ensures in
-    let f = c .before .before .finish-lent .ensures in
+returns c =
+    let k = c .before .before .before .before .before .before .before .before .before .before .before .before .before .before .before .before .before .before .before .before .before .before .before in
+    let s = begun-stepping (k .pre) (c .before .before .before .before .before .before .before .before .before .before .before .before .before .before .before .begin-lent .ensures .0) in
+    let r = c .before .before .before .before .before .before .before .before .before .run .ensures in
+    let f = c .before .before .before .before .finish-lent .ensures in
     record {
       count = f .count ∙ ap length (out-roots s r);
-      steps = out-taken r;
-      slots-are = f .slots ∙ ap (λ (l : List ℕ). copied l (now (c .before .before .before .before .before .before .before .before .before .before .before .before .before .before .before .before .before .before .before .before .before .args .roots))) (out-roots s r);
+      steps = c .head-of .ensures .taken ∙ out-taken r;
+      slots-are = f .slots ∙ ap (λ (l : List ℕ). copied l (now (k .args .roots))) (out-roots s r);
     }
 
 pub solve-lent-spec : {M : Type 1} → statement M
@@ -82,7 +87,8 @@ solve-lent-spec =
     run-requires
     slice-aggregate-finish-lent
     finish-lent-requires
-    cast-t30
-    array-read-t33
+    slice-aggregate-head-of
+    head-of-requires
+    cast-t33
     same-length
     returns)

@@ -31,15 +31,15 @@ enum-known-read-3 c = search needs
 cast-solved-line : tie.Need-cast-solved-line
 cast-solved-line c = search needs
 
-resolve-requires : tie.Need-resolve-requires
-resolve-requires c κs = search needs
+asked-requires : tie.Need-asked-requires
+asked-requires c κs = search needs
 
 solved-line-requires : tie.Need-solved-line-requires
 solved-line-requires c κs =
     let j = c .before .before .before .before in
     let start = j .before .before .before .before in
     let s = start .pre .2 in
-    record-solvable (s .file) (s .at) _ (s .read) (j .read3 .given .1) (c .before .resolve .ensures) (s .lent ∙ ap (bytesOf (s .file)) (j .read3 .given .1)) (start .pre .0)
+    record-solvable (s .file) (s .at) _ (s .read) (j .read3 .given .1) (c .before .asked .ensures) (s .lent ∙ ap (bytesOf (s .file)) (j .read3 .given .1)) (start .pre .0)
 
 returns : tie.Need-returns
 returns c file at e b = turn-over e (c .enum-told .given .1)
@@ -63,7 +63,7 @@ returns-4 : tie.Need-returns-4
 returns-4 c file at e b =
     let v = c .before .before .before .before in
     let f = v .before .before .before .read3 .given .1 in
-    turn-record e f (v .resolve .ensures) (b ∙ ap (bytesOf file) f) (c .before .before .solved-line .ensures)
+    turn-record e f (v .asked .ensures) (b ∙ ap (bytesOf file) f) (c .before .before .solved-line .ensures)
 
 pub take-turn-spec : {M : Type 1} → statement M
 take-turn-spec =
@@ -77,7 +77,7 @@ take-turn-spec =
     turned-line-requires-2
     enum-known-read-3
     cast-solved-line
-    resolve-requires
+    asked-requires
     solved-line-requires
     returns
     same-length

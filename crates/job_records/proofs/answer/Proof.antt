@@ -1,4 +1,4 @@
--- `job_records::answer` meets its contract: by the case of the verdict.
+-- `job_records::answer` meets its contract: by what the tests found.
 -- Assumes nothing.
 use mathlib.Core.Path.{ap, sym}
 use Rattle.job_records.specs.Reading.{answered}
@@ -12,8 +12,8 @@ add-start c = search needs
 add-next : tie.Need-add-next
 add-next c = search needs
 
-enum-known-verdict : tie.Need-enum-known-verdict
-enum-known-verdict c = search needs
+enum-known-found : tie.Need-enum-known-found
+enum-known-found c = search needs
 
 enum-told : tie.Need-enum-told
 enum-told c = search needs
@@ -21,7 +21,7 @@ enum-told c = search needs
 returns : tie.Need-returns
 returns c =
     let a = c .before .before .before .args in
-    sym (ap (answered (a .at) (a .m) (a .cutoff) (a .len)) (c .before .verdict .given .1))
+    sym (ap (answered (a .at) (a .m) (a .cutoff) (a .len)) (c .before .found .given .1))
 
 returns-2 : tie.Need-returns-2
 returns-2 c =
@@ -30,4 +30,4 @@ returns-2 c =
 
 pub answer-spec : {M : Type 1} → statement M
 answer-spec =
-    tie.close (tie.spec add-start add-next enum-known-verdict enum-told returns returns-2)
+    tie.close (tie.spec add-start add-next enum-known-found enum-told returns returns-2)

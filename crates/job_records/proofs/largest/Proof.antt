@@ -4,18 +4,18 @@ use Prim.Native.Nat.{_-_}
 use native.Mathlib.Omega.{arith}
 use mathlib.Core.Logic.{⊎-elim}
 use borrow.Author.Needs.{needs}
-use Rattle.job_records.proofs.Spelling.{Seeking, seek-from, seek-raise, seek-keep, seek-end}
+use Rattle.job_records.proofs.Spelling.{Topping, top-from, top-raise, top-keep, top-end}
 use Rattle.job_records.proofs.largest.Statement.{statement}
 use Rattle.job_records.proofs.largest.Tie as tie
 
 abbrev Inv-loop : tie.InvT-loop
-Inv-loop bytes n top₀ k₀ top k = Seeking bytes top k
+Inv-loop bytes n top₀ k₀ top k = Topping bytes top k
 
 abbrev μ-loop : tie.MeasureT-loop
 μ-loop bytes n top₀ k₀ top k = n - k
 
 loop-holds : tie.Need-loop-holds Inv-loop μ-loop
-loop-holds c = seek-from _
+loop-holds c = top-from _
 
 mul-i : tie.Need-mul-i Inv-loop μ-loop
 mul-i c = search needs
@@ -42,12 +42,12 @@ loop-again : tie.Need-loop-again Inv-loop μ-loop
 loop-again c =
     let s = c .before .before .before .before .before .loop .inv in
     ⊎-elim
-    (λ w. rw (w .1) (seek-raise s (omega arith) (c .before .word .ensures) (w .0 .taken)))
-    (λ w. rw (w .1) (seek-keep s (omega arith) (c .before .word .ensures) (w .0 .left)))
+    (λ w. rw (w .1) (top-raise s (omega arith) (c .before .word .ensures) (w .0 .taken)))
+    (λ w. rw (w .1) (top-keep s (omega arith) (c .before .word .ensures) (w .0 .left)))
     (c .if1 .came)
 
 returns : tie.Need-returns Inv-loop μ-loop
-returns c = seek-end (c .before .loop .inv) (omega arith)
+returns c = top-end (c .before .loop .inv) (omega arith)
 
 pub largest-spec : {M : Type 1} → statement M
 largest-spec =

@@ -69,17 +69,17 @@ returns-5 c =
 cutoff-of-requires : tie.Need-cutoff-of-requires
 cutoff-of-requires c κs = search needs
 
-sub-judge : tie.Need-sub-judge
-sub-judge c = search needs
+sub-admit-record : tie.Need-sub-admit-record
+sub-admit-record c = search needs
 
-part-judge-start : tie.Need-part-judge-start
-part-judge-start c = search needs
+part-admit-record-start : tie.Need-part-admit-record-start
+part-admit-record-start c = search needs
 
-part-judge-end : tie.Need-part-judge-end
-part-judge-end c = search needs
+part-admit-record-end : tie.Need-part-admit-record-end
+part-admit-record-end c = search needs
 
-judge-requires : tie.Need-judge-requires
-judge-requires c κs = search needs
+admit-record-requires : tie.Need-admit-record-requires
+admit-record-requires c κs = search needs
 
 answer-requires : tie.Need-answer-requires
 answer-requires c κs = search needs
@@ -90,8 +90,8 @@ returns-6 c =
     let e = s .before .before .before .before .before in
     let a = e .before .before .before .before .before .before .args in
     let r = now (a .rest) in
-    judged-is (a .at) r (c .before .before .before .cutoff-of .result) (c .before .judge .result) (c .answer .ensures)
-    (c .before .before .before .cutoff-of .ensures) (add-sub-cancel-left _ _) (c .before .judge .ensures)
+    judged-is (a .at) r (c .before .before .before .cutoff-of .result) (c .before .admit-record .result) (c .answer .ensures)
+    (c .before .before .before .cutoff-of .ensures) (add-sub-cancel-left _ _) (c .before .admit-record .ensures)
     ∙ sym (goes-on (a .at) r (omega arith) (start-whole r (omega arith) (e .before .before .if2 .left) (e .if3 .left) (s .if5 .left)))
 
 pub read-here-spec : {M : Type 1} → statement M
@@ -114,9 +114,9 @@ read-here-spec =
     add-all
     returns-5
     cutoff-of-requires
-    sub-judge
-    part-judge-start
-    part-judge-end
-    judge-requires
+    sub-admit-record
+    part-admit-record-start
+    part-admit-record-end
+    admit-record-requires
     answer-requires
     returns-6)

@@ -1,7 +1,7 @@
 -- `poly_powers::trace_of` meets its contract: the row of p, bz, and the sum of its squares.
 -- Assumes nothing.
 use Rattle.algebra.specs.Routines.{traceMod}
-use Rattle.poly.specs.Lent.{G}
+use Rattle.field.specs.Field.{G}
 use Rattle.poly_powers.proofs.Starts.{start-row, start-asks, start-on, start-is}
 use borrow.Author.Needs.{needs}
 use Rattle.poly_powers.proofs.trace_of.Statement.{statement}

@@ -1,7 +1,7 @@
 -- `poly_powers::z_power` meets its contract: the row of p, z, and the squarings.
 -- Assumes nothing.
 use Rattle.algebra.specs.Routines.{frobeniusMod}
-use Rattle.poly.specs.Lent.{G}
+use Rattle.field.specs.Field.{G}
 use Rattle.poly_powers.proofs.Starts.{start-row, start-one, start-asks, start-on, start-is}
 use borrow.Author.Needs.{needs}
 use Rattle.poly_powers.proofs.z_power.Statement.{statement}

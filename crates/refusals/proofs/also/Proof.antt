@@ -9,17 +9,17 @@ use Rattle.refusals.proofs.also.Tie as tie
 enum-known-found : tie.Need-enum-known-found
 enum-known-found c = search needs
 
-enum-known-found-2 : tie.Need-enum-known-found-2
-enum-known-found-2 c = search needs
+enum-told : tie.Need-enum-told
+enum-told c = search needs
 
 returns : tie.Need-returns
-returns c = sym (ap₂ (λ f t. behind f t (c .before .before .before .before .args .k)) (c .before .before .found2 .given .1) (c .if1 .taken))
+returns c = sym (ap₂ (λ f t. behind f t (c .before .before .before .args .k)) (c .before .enum-told .given .1) (c .if1 .taken))
 
 returns-2 : tie.Need-returns-2
 returns-2 c = sym (ap (λ f. behind f (c .before .before .before .args .holds) (c .before .before .before .args .k)) (c .before .found .given .1))
 
 returns-3 : tie.Need-returns-3
-returns-3 c = sym (ap₂ (λ f t. behind f t (c .before .before .before .before .args .k)) (c .before .before .found2 .given .1) (c .if1 .left))
+returns-3 c = sym (ap₂ (λ f t. behind f t (c .before .before .before .args .k)) (c .before .enum-told .given .1) (c .if1 .left))
 
 pub also-spec : {M : Type 1} → statement M
-also-spec = tie.close (tie.spec enum-known-found enum-known-found-2 returns returns-2 returns-3)
+also-spec = tie.close (tie.spec enum-known-found enum-told returns returns-2 returns-3)

@@ -50,6 +50,7 @@ use denote.Triple.Table.{entered, cited}
 use denote.Triple.Walked.{says, needs, Stays, stay-none-slice, walkOf, goes-none-slice, Walks, ends-at, walked, walk-meets}
 use denote.Exit.{yes}
 use denote.Triple.Clauses.{ensured, lasts}
+use Rattle.job_records.specs.Layout.{headLength}
 use Rattle.job_records.specs.Reading.{paper, readAt, bytesOf, Stands}
 use Rattle.job_records.specs.declared.held.Reader.{Reader}
 use Rattle.job_records.specs.declared.Read.{Read}
@@ -302,15 +303,15 @@ module _ {M : Type 1} (𝓤 : URA M) (H : Heap 𝓤) (A : Atoms 𝓤) (W : Given
     k-next : {t n k : ℕ} {r : Reader} → Facts t r n k → n < len → k + 1 < 2 ^ 32
     k-next f ahead = omega (arith, f .number ahead, ahead, small)
 
-    behind : {t n k m : ℕ} {r : Reader} (x : Read) {bs : List ℕ} → Facts t r n k → n < len → paper x ≡ readAt (now (r .file)) (r .at) → bs ≡ bytesOf (now (r .file)) x → Ahead x bs m → n + 5 ≤ m
+    behind : {t n k m : ℕ} {r : Reader} (x : Read) {bs : List ℕ} → Facts t r n k → n < len → paper x ≡ readAt (now (r .file)) (r .at) → bs ≡ bytesOf (now (r .file)) x → Ahead x bs m → n + headLength ≤ m
     behind {r = r} x f ahead e₁ e₂ e₃ =
         let l : length (now (r .file)) ≡ len = ap (λ (c : RefT (List ℕ)). length (now c)) (f .file) in
         omega (arith, e₃ (now (r .file)) (r .at) e₁ e₂ (omega (arith, l, small)) (omega (arith, l, f .place, ahead)), f .place)
 
-    less : {t n k m : ℕ} {r : Reader} → Facts t r n k → n < len → n + 5 ≤ m → len - m < t
+    less : {t n k m : ℕ} {r : Reader} → Facts t r n k → n < len → n + headLength ≤ m → len - m < t
     less f ahead p = omega (arith, f .left, ahead, p)
 
-    on : {t n k m : ℕ} {r r′ : Reader} → Facts t r n k → n < len → n + 5 ≤ m → (r′ .file ≡ r .file) × (r′ .at ≡ m) → m < 2 ^ 64 → Facts (len - m) r′ m (k + 1)
+    on : {t n k m : ℕ} {r r′ : Reader} → Facts t r n k → n < len → n + headLength ≤ m → (r′ .file ≡ r .file) × (r′ .at ≡ m) → m < 2 ^ 64 → Facts (len - m) r′ m (k + 1)
     on f ahead p e fits = record {
       file = e .0 ∙ f .file;
       place = e .1;

@@ -3,15 +3,20 @@
 use mathlib.Core.Path.{sym, ap, _∙_}
 use mathlib.Core.List.{[]}
 use denote.Ref.{now}
+use Rattle.refusals.specs.Order.{Passed}
 use Rattle.refusals.proofs.Admitting.{let-in, turned-away}
 use Rattle.refusals.proofs.Order.{refused, accepted, unwritten, written}
 use Rattle.table_rules.specs.Layout.{byFactor}
 use Rattle.table_rules.specs.Splitting.{slotsBegun}
 use Rattle.table_rules.specs.Limit.{slots}
-use Rattle.table_begin.proofs.Writing.{begin-writable}
+use Rattle.table_rules.proofs.Polynomials.{polynomial-told}
+use Rattle.table_begin.proofs.Writing.{begin-room}
 use borrow.Author.Needs.{needs}
 use Rattle.table_begin.proofs.begin.Statement.{statement}
 use Rattle.table_begin.proofs.begin.Tie as tie
+use Rattle.find_admit.proofs.admit.Reads as admit-reads
+use Rattle.find_admit.proofs.in_force.Reads as in-force-reads
+use Rattle.table_begin.proofs.begin_in.Reads as begin-in-reads
 
 admit-requires : tie.Need-admit-requires
 admit-requires c κs = search needs
@@ -19,23 +24,21 @@ admit-requires c κs = search needs
 enum-known-k : tie.Need-enum-known-k
 enum-known-k c = search needs
 
-enum-known-row : tie.Need-enum-known-row
-enum-known-row c = search needs
-
-cast-write : tie.Need-cast-write
-cast-write c = search needs
+enum-told : tie.Need-enum-told
+enum-told c = search needs
 
 in-force-requires : tie.Need-in-force-requires
 in-force-requires c κs = search needs
 
-write-requires : tie.Need-write-requires
-write-requires c κs =
-    let s = c .before .before .before .before .before .before .before .before .before in
-    begin-writable (s .args .m) (s .args .cutoff) (now (s .args .coeffs)) (now (s .args .table)) (let-in (c .before .before .before .before .before .before .admit .ensures) (c .before .before .before .before .row .given .1))
+begin-in-requires : tie.Need-begin-in-requires
+begin-in-requires c κs =
+    let s = c .before .before .before .before .before .before .before in
+    let p = let-in (c .before .before .before .before .admit .ensures) (c .before .before .enum-told .given .1) in
+    (polynomial-told _ _ p, begin-room (s .args .m) (s .args .cutoff) (now (s .args .coeffs)) (now (s .args .table)) p)
 
 returns : tie.Need-returns
 returns c =
-    let g = turned-away _ (c .before .before .before .admit .ensures) (c .before .k .given .1) in
+    let g = turned-away (c .before .before .before .admit .ensures) (c .before .k .given .1) in
     (sym (refused [] g), sym (unwritten _ _ g))
 
 same-length : tie.Need-same-length
@@ -43,10 +46,10 @@ same-length c = search needs
 
 returns-2 : tie.Need-returns-2
 returns-2 c =
-    let s = c .before .before .before .before .before .before .before .before .before .before .before .before in
-    let i = let-in (c .before .before .before .before .before .before .before .before .before .admit .ensures) (c .before .before .before .before .before .before .before .row .given .1) in (
-      sym (accepted [] (i .0)),
-      c .before .before .write .ensures ∙ ap (λ k. slotsBegun byFactor slots (s .args .m) k (now (s .args .coeffs))) (c .before .before .before .before .in-force .ensures) ∙ sym (written _ _ (i .0)),
+    let s = c .before .before .before .before .before .before .before .before .before .before in
+    let p = let-in (c .before .before .before .before .before .before .before .admit .ensures) (c .before .before .before .before .before .enum-told .given .1) in (
+      sym (accepted [] p),
+      c .before .before .begin-in .ensures ∙ ap (λ k. slotsBegun byFactor slots (s .args .m) k (now (s .args .coeffs))) (c .before .before .before .before .in-force .ensures) ∙ sym (written _ _ p),
     )
 
 pub begin-spec : {M : Type 1} → statement M
@@ -55,10 +58,9 @@ begin-spec =
     (tie.spec
     admit-requires
     enum-known-k
-    enum-known-row
-    cast-write
+    enum-told
     in-force-requires
-    write-requires
+    begin-in-requires
     returns
     same-length
     returns-2)

@@ -1,57 +1,65 @@
 -- `table_finish::admit` meets its contract: each return shows which test was the first to hold, or that none does.
 -- Assumes nothing.
 use mathlib.Core.Path.{subst}
-use Rattle.table_check.specs.Verdicts.{Judged}
-use Rattle.table_finish.proofs.FinishTests.{admit-room, admit-short, admit-unsound, admit-stuck, admit-over, admit-split}
+use Rattle.table_check.specs.Verdicts.{Checks}
+use Rattle.table_check.proofs.Judging.{fit-of, head-there}
+use Rattle.table_finish.proofs.FinishTests.{admit-room, admit-unfit, admit-more, admit-done}
 use borrow.Author.Needs.{needs}
 use Rattle.table_finish.proofs.admit.Statement.{statement}
 use Rattle.table_finish.proofs.admit.Tie as tie
+use Rattle.table_check.proofs.check.Reads as check-reads
+use Rattle.table_slots.proofs.first_above.Reads as first-above-reads
+use Rattle.table_slots.proofs.head_of.Reads as head-of-reads
 
 returns : tie.Need-returns
 returns c = admit-room _ _ (c .if1 .taken)
 
-judge-requires : tie.Need-judge-requires
-judge-requires c κs = search needs
+check-requires : tie.Need-check-requires
+check-requires c κs = search needs
 
 enum-known-k : tie.Need-enum-known-k
 enum-known-k c = search needs
 
-number-requires : tie.Need-number-requires
-number-requires c κs = search needs
-
-returns-2 : tie.Need-returns-2
-returns-2 c = admit-short _ _ (c .before .before .before .before .before .before .if1 .left) (subst (Judged _) (c .before .before .before .k .given .1) (c .before .before .before .before .before .judge .ensures)) (c .before .number .ensures) (c .if2 .taken)
-
-returns-3 : tie.Need-returns-3
-returns-3 c = admit-unsound _ _ (c .before .before .before .before .before .before .before .if1 .left) (subst (Judged _) (c .before .before .before .before .k .given .1) (c .before .before .before .before .before .before .judge .ensures)) (c .before .before .number .ensures) (c .if3 .taken)
-
 enum-told : tie.Need-enum-told
 enum-told c = search needs
+
+head-of-requires : tie.Need-head-of-requires
+head-of-requires c κs = head-there _ (fit-of (subst (Checks _) (c .enum-told .given .1) (c .before .before .check .ensures)))
+
+first-above-requires : tie.Need-first-above-requires
+first-above-requires c κs = head-there _ (fit-of (subst (Checks _) (c .before .enum-told .given .1) (c .before .before .before .check .ensures)))
 
 enum-told-2 : tie.Need-enum-told-2
 enum-told-2 c = search needs
 
+enum-told-3 : tie.Need-enum-told-3
+enum-told-3 c = search needs
+
+returns-2 : tie.Need-returns-2
+returns-2 c = admit-unfit _ _ (c .before .before .before .before .if1 .left) (subst (Checks _) (c .before .k .given .1) (c .before .before .before .check .ensures))
+
+returns-3 : tie.Need-returns-3
+returns-3 c =
+    let g = fit-of (subst (Checks _) (c .before .before .before .before .enum-told .given .1) (c .before .before .before .before .before .before .check .ensures)) in
+    admit-more _ _ (c .before .before .before .before .before .before .before .if1 .left) g (c .before .before .before .head-of .ensures) (c .before .before .first-above .ensures) (c .enum-told2 .given .1)
+
 returns-4 : tie.Need-returns-4
-returns-4 c = admit-stuck _ _ (c .before .before .before .before .before .before .before .if1 .left) (subst (Judged _) (c .before .before .before .before .k .given .1) (c .before .before .before .before .before .before .judge .ensures)) (c .before .before .number .ensures) (c .before .if2 .left) (c .if3 .left)
-
-returns-5 : tie.Need-returns-5
-returns-5 c = admit-over _ _ (c .before .before .before .if1 .left) (subst (Judged _) (c .enum-told .given .1) (c .before .before .judge .ensures))
-
-returns-6 : tie.Need-returns-6
-returns-6 c = admit-split _ _ (c .before .before .before .if1 .left) (subst (Judged _) (c .enum-told2 .given .1) (c .before .before .judge .ensures))
+returns-4 c =
+    let g = fit-of (subst (Checks _) (c .before .before .before .before .enum-told .given .1) (c .before .before .before .before .before .before .check .ensures)) in
+    admit-done _ _ (c .before .before .before .before .before .before .before .if1 .left) g (c .before .before .before .head-of .ensures) (c .before .before .first-above .ensures) (c .enum-told3 .given .1)
 
 pub admit-spec : {M : Type 1} → statement M
 admit-spec =
     tie.close
     (tie.spec
     returns
-    judge-requires
+    check-requires
     enum-known-k
-    number-requires
+    enum-told
+    head-of-requires
+    first-above-requires
+    enum-told-2
+    enum-told-3
     returns-2
     returns-3
-    enum-told
-    enum-told-2
-    returns-4
-    returns-5
-    returns-6)
+    returns-4)

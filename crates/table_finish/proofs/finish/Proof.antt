@@ -16,8 +16,8 @@ enum-known-k c = search needs
 enum-told : tie.Need-enum-told
 enum-told c = search needs
 
-finish-at-requires : tie.Need-finish-at-requires
-finish-at-requires c κs = opened-asks (subst (Opens _ _) (c .before .enum-told .given .1) (c .before .before .before .admit .ensures))
+finish-in-requires : tie.Need-finish-in-requires
+finish-in-requires c κs = opened-asks (subst (Opens _ _) (c .before .enum-told .given .1) (c .before .before .before .admit .ensures))
 
 cast-t11 : tie.Need-cast-t11
 cast-t11 c = search needs
@@ -32,7 +32,7 @@ same-length-2 : tie.Need-same-length-2
 same-length-2 c = search needs
 
 returns-2 : tie.Need-returns-2
-returns-2 c = opened-is (subst (Opens _ _) (c .before .before .before .before .enum-told .given .1) (c .before .before .before .before .before .before .admit .ensures)) (c .before .before .finish-at .ensures)
+returns-2 c = opened-is (subst (Opens _ _) (c .before .before .before .before .enum-told .given .1) (c .before .before .before .before .before .before .admit .ensures)) (c .before .before .finish-in .ensures)
 
 pub finish-spec : {M : Type 1} → statement M
 finish-spec =
@@ -41,7 +41,7 @@ finish-spec =
     admit-requires
     enum-known-k
     enum-told
-    finish-at-requires
+    finish-in-requires
     cast-t11
     same-length
     returns

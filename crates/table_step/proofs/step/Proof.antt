@@ -20,8 +20,8 @@ enum-told c = search needs
 enum-known-o : tie.Need-enum-known-o
 enum-known-o c = search needs
 
-step-at-requires : tie.Need-step-at-requires
-step-at-requires c κs = chosen-of (subst (Judged (now (c .before .before .before .before .before .before .before .args .table))) (c .before .before .o .given .1) (c .before .before .before .before .judge .ensures))
+step-in-requires : tie.Need-step-in-requires
+step-in-requires c κs = chosen-of (subst (Judged (now (c .before .before .before .before .before .before .before .args .table))) (c .before .before .o .given .1) (c .before .before .before .before .judge .ensures))
 
 same-length : tie.Need-same-length
 same-length c = search needs
@@ -39,7 +39,7 @@ same-length-3 : tie.Need-same-length-3
 same-length-3 c = search needs
 
 returns-3 : tie.Need-returns-3
-returns-3 c = step-taken (chosen-of (subst (Judged (now (c .before .before .before .before .before .before .before .before .before .before .args .table))) (c .before .before .before .before .before .o .given .1) (c .before .before .before .before .before .before .before .judge .ensures))) (c .before .before .step-at .ensures)
+returns-3 c = step-taken (chosen-of (subst (Judged (now (c .before .before .before .before .before .before .before .before .before .before .args .table))) (c .before .before .before .before .before .o .given .1) (c .before .before .before .before .before .before .before .judge .ensures))) (c .before .before .step-in .ensures)
 
 pub step-spec : {M : Type 1} → statement M
 step-spec =
@@ -49,7 +49,7 @@ step-spec =
     enum-known-k
     enum-told
     enum-known-o
-    step-at-requires
+    step-in-requires
     same-length
     returns
     same-length-2

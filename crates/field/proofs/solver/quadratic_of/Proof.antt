@@ -1,11 +1,10 @@
 -- `field::solver::quadratic_of` meets its contract, by the laws of the solutions of x^2 + x = b / a^2.
 -- Assumes nothing.
 use mathlib.Core.Path.{_≡_, sym, ap, _∙_}
-use mathlib.Core.List.{List}
 use Prim.Native.Nat.{ℕ, _<_, _≤_, _^_}
 use native.Mathlib.Omega.{arith}
 use borrow.Author.Needs.{needs}
-use Rattle.refusals.specs.Rows.{Listed}
+use Rattle.field.specs.Rows.{Listed}
 use Rattle.field.specs.Field.{fieldOf, mul, inverse}
 use Rattle.field.proofs.Generator.{generated, small, known, inverse-lt, mul-inverse}
 use Rattle.field.proofs.Ring.{mul-lt, mul-comm}
@@ -31,7 +30,7 @@ root-of-requires : tie.Need-root-of-requires
 root-of-requires c κs = search needs
 
 returns : tie.Need-returns
-returns c = ap (λ (l : List ℕ). (0, l)) (sym (one-root _ (generated (c .before .before .before .pre .0)) (c .before .if1 .taken) (c .before .before .before .pre .3) (c .root-of .ensures .0) (c .root-of .ensures .1)))
+returns c = sym (one-root _ (generated (c .before .before .before .pre .0)) (c .before .if1 .taken) (c .before .before .before .pre .3) (c .root-of .ensures .0) (c .root-of .ensures .1))
 
 inverse-of-requires : tie.Need-inverse-of-requires
 inverse-of-requires c κs = search needs
@@ -59,7 +58,7 @@ returns-2 c =
     let inv = inverse-times _ l (c .before .before .before .before .before .if1 .left) (c .before .before .before .before .before .before .before .pre .2) (c .before .before .before .before .inverse-of .ensures) in
     let part = c .before .before .product-of2 .ensures ∙ ap (mul _ _) (c .before .before .before .product-of .ensures) in
     let half = c .before .before .before .before .before .before .before .pre .1 .entry _ (product-lt _ _ l (c .before .before .product-of2 .ensures)) in
-    ap (λ (r : List ℕ). (0, r)) (sym (answer-none _ (generated l) _ _ (c .before .before .before .before .inverse-of .result) (c .before .before .before .before .before .before .before .pre .2) (c .before .before .before .before .before .before .before .pre .3) inv part half (marked l) (c .if2 .taken)))
+    sym (answer-none _ (generated l) _ _ (c .before .before .before .before .inverse-of .result) (c .before .before .before .before .before .before .before .pre .2) (c .before .before .before .before .before .before .before .pre .3) inv part half (marked l) (c .if2 .taken))
 
 product-of-requires-3 : tie.Need-product-of-requires-3
 product-of-requires-3 c κs =
@@ -73,7 +72,7 @@ returns-3 c =
     let inv = inverse-times _ l (c .before .before .before .before .before .before .before .if1 .left) (c .before .before .before .before .before .before .before .before .before .pre .2) (c .before .before .before .before .before .before .inverse-of .ensures) in
     let part = c .before .before .before .before .product-of2 .ensures ∙ ap (mul _ _) (c .before .before .before .before .before .product-of .ensures) in
     let half = c .before .before .before .before .before .before .before .before .before .pre .1 .entry _ (product-lt _ _ l (c .before .before .before .before .product-of2 .ensures)) in
-    ap (λ (r : List ℕ). (0, r)) (sym (answer-up _ (generated l) _ _ (c .before .before .before .before .before .before .inverse-of .result) (c .before .before .before .before .before .before .before .before .before .pre .2) (c .before .before .before .before .before .before .before .before .before .pre .3) inv part half (c .before .before .if2 .left) (c .before .product-of3 .ensures) (c .if3 .taken)))
+    sym (answer-up _ (generated l) _ _ (c .before .before .before .before .before .before .inverse-of .result) (c .before .before .before .before .before .before .before .before .before .pre .2) (c .before .before .before .before .before .before .before .before .before .pre .3) inv part half (c .before .before .if2 .left) (c .before .product-of3 .ensures) (c .if3 .taken))
 
 returns-4 : tie.Need-returns-4
 returns-4 c =
@@ -82,8 +81,7 @@ returns-4 c =
     let part = c .before .before .before .before .product-of2 .ensures ∙ ap (mul _ _) (c .before .before .before .before .before .product-of .ensures) in
     let half = c .before .before .before .before .before .before .before .before .before .pre .1 .entry _ (product-lt _ _ l (c .before .before .before .before .product-of2 .ensures)) in
     let pos = c .before .before .before .before .before .before .before .if1 .left in
-    ap (λ (r : List ℕ). (0, r))
-    (sym (answer-down _ (generated l) _ _ (c .before .before .before .before .before .before .inverse-of .result) (c .before .before .before .before .before .before .before .before .before .pre .2) (c .before .before .before .before .before .before .before .before .before .pre .3) inv part half (c .before .before .if2 .left) (c .before .product-of3 .ensures) (omega arith) (let h = c .if3 .left in omega arith)))
+    sym (answer-down _ (generated l) _ _ (c .before .before .before .before .before .before .inverse-of .result) (c .before .before .before .before .before .before .before .before .before .pre .2) (c .before .before .before .before .before .before .before .before .before .pre .3) inv part half (c .before .before .if2 .left) (c .before .product-of3 .ensures) (omega arith) (let h = c .if3 .left in omega arith))
 
 pub quadratic-of-spec : {M : Type 1} → statement M
 quadratic-of-spec =

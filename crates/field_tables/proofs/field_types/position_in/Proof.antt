@@ -2,7 +2,7 @@
 -- Assumes nothing.
 use mathlib.Core.Path.{_≡_, sym, subst}
 use Prim.Native.Nat.{ℕ, _<_, _^_}
-use Rattle.refusals.proofs.Rows.{last-row}
+use Rattle.field.proofs.Known.{last-row}
 use Rattle.field.specs.Field.{fieldAt, position}
 use Rattle.field_tables.proofs.field_types.position_in.Statement.{statement}
 use Rattle.field_tables.proofs.field_types.position_in.Tie as tie

@@ -14,9 +14,6 @@ quadratic-of-requires c κs = quadratic-asks (c .before .before .before .pre) (c
 enum-told : tie.Need-enum-told
 enum-told c = search needs
 
-enum-told-2 : tie.Need-enum-told-2
-enum-told-2 c = search needs
-
 enum-known-x : tie.Need-enum-known-x
 enum-known-x c = search needs
 
@@ -35,20 +32,17 @@ slice-write-out-3 c = search needs
 returns : tie.Need-returns
 returns c = front-none _ (quadratic-list _ _ _ (c .before .before .before .poly-of .ensures) (c .before .before .quadratic-of .ensures) (c .enum-told .given .1))
 
-returns-2 : tie.Need-returns-2
-returns-2 c = front-none _ (quadratic-list _ _ _ (c .before .before .before .poly-of .ensures) (c .before .before .quadratic-of .ensures) (c .enum-told2 .given .1))
-
 same-length : tie.Need-same-length
 same-length c = search needs
 
-returns-3 : tie.Need-returns-3
-returns-3 c = quadratic-one _ (c .before .before .before .before .before .before .before .pre) (quadratic-list _ _ _ (c .before .before .before .before .poly-of .ensures) (c .before .before .before .quadratic-of .ensures) (c .before .x .given .1))
+returns-2 : tie.Need-returns-2
+returns-2 c = quadratic-one _ (c .before .before .before .before .before .before .before .pre) (quadratic-list _ _ _ (c .before .before .before .before .poly-of .ensures) (c .before .before .before .quadratic-of .ensures) (c .before .x .given .1))
 
 same-length-2 : tie.Need-same-length-2
 same-length-2 c = search needs
 
-returns-4 : tie.Need-returns-4
-returns-4 c = quadratic-two _ _ (c .before .before .before .before .before .before .before .pre) (quadratic-list _ _ _ (c .before .before .before .before .poly-of .ensures) (c .before .before .before .quadratic-of .ensures) (c .before .x2 .given .1))
+returns-3 : tie.Need-returns-3
+returns-3 c = quadratic-two _ _ (c .before .before .before .before .before .before .before .pre) (quadratic-list _ _ _ (c .before .before .before .before .poly-of .ensures) (c .before .before .before .quadratic-of .ensures) (c .before .x2 .given .1))
 
 pub quadratic-roots-spec : {M : Type 1} → statement M
 quadratic-roots-spec =
@@ -57,15 +51,13 @@ quadratic-roots-spec =
     poly-of-requires
     quadratic-of-requires
     enum-told
-    enum-told-2
     enum-known-x
     slice-write-out
     enum-known-x-2
     slice-write-out-2
     slice-write-out-3
     returns
-    returns-2
     same-length
-    returns-3
+    returns-2
     same-length-2
-    returns-4)
+    returns-3)

@@ -1,7 +1,7 @@
 -- `field_tables::field_types::F11::position` meets its contract: the table is the log table.
 -- Assumes nothing.
 use borrow.Author.Needs.{needs}
-use Rattle.refusals.specs.Rows.{polyIn}
+use Rattle.field.specs.Rows.{polyIn}
 use Rattle.field_tables.proofs.field_types.F11.position.Statement.{statement}
 use Rattle.field_tables.proofs.field_types.F11.position.Tie as tie
 

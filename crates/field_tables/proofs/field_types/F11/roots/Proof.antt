@@ -1,8 +1,8 @@
 -- `field_tables::field_types::F11::roots` meets its contract: the table is the quadratic table.
 -- Assumes nothing.
 use borrow.Author.Needs.{needs}
-use Rattle.refusals.specs.Rows.{polyIn}
-use Rattle.refusals.proofs.Rows.{row11}
+use Rattle.field.specs.Rows.{polyIn}
+use Rattle.field.proofs.Known.{row11}
 use Rattle.field_tables.proofs.field_types.F11.roots.Statement.{statement}
 use Rattle.field_tables.proofs.field_types.F11.roots.Tie as tie
 

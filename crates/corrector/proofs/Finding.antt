@@ -1,0 +1,123 @@
+-- The roots of a locator polynomial, whichever engine finds them.
+--   leading, within         a polynomial that is not 0 has a leading coefficient, at one of its places
+--   one-front               of degree 1 and made monic, its constant is its root
+--   low-asks, low-front     of degree at most 2 and made monic, it can be solved, and its roots are the polynomial's
+--   low-few                 which are not many
+--   front-copied            a list that the roots were copied to has them in front
+--   findable                a locator polynomial can be given to them
+-- Assumes nothing.
+use mathlib.Core.Path.{_≡_, refl, sym, ap, _∙_, subst}
+use mathlib.Core.Bool.{Bool, true, false, _&&_}
+use mathlib.Core.Option.{none, some}
+use mathlib.Core.List.{List, [], _∷_}
+use Prim.Native.Nat.{ℕ, suc, _-_, _^_, _≤_, _<_}
+use native.Mathlib.Decide.{decLt}
+use native.Mathlib.Omega.{arith}
+use borrow.Author.Tests.{le-ltb}
+use lib.ListN.{length, getD, take, set}
+use lib.Seq.{length-take-le}
+use Rattle.algebra.specs.Field.{OnNumbers}
+use Rattle.algebra.specs.Polynomial.{Below, rootsOf}
+use Rattle.algebra.specs.Routines.{monic, norm}
+use Rattle.algebra.proofs.NumberMonic.{norm-none}
+use Rattle.algebra.proofs.RootList.{rootsOf-norm, rootsOf-count, rootsOf-one}
+use Rattle.algebra.proofs.StaysBelow.{below-from, norm-below}
+use Rattle.field.proofs.Known.{row11}
+use Rattle.slices.specs.Bounded.{allBelow, allZero}
+use Rattle.slices.specs.Lists.{copied}
+use Rattle.slices.proofs.Bounded.{allBelow-exactly}
+use Rattle.slices.proofs.Lists.{copied-front}
+use Rattle.field.specs.Field.{fieldAt, G, rootsAt}
+use Rattle.field.specs.Tables.{Halves}
+use Rattle.poly.specs.Monic.{front, MadeMonic}
+use Rattle.poly_small.specs.Roots.{Front, Lowly}
+use Rattle.table_rules.specs.Limit.{limit}
+use Rattle.table_rules.specs.Polynomials.{PolynomialIn}
+use Rattle.table_rules.proofs.Fields.{known-field}
+use Rattle.corrector_locator.specs.Under.{Under}
+use Rattle.corrector.specs.Places.{Findable}
+
+-- the field's laws
+eleven : OnNumbers (G 11) 2048
+eleven = known-field 11 (row11 .degree) .numbers
+
+-- ---- closed forms
+
+take-one : (y : List ℕ) → 1 ≤ length y → take 1 y ≡ getD y 0 0 ∷ []
+take-one [] h = absurd (omega arith)
+take-one (x ∷ y) h = refl
+
+take-set : (out : List ℕ) (x : ℕ) → 0 < length out → take 1 (set out 0 x) ≡ x ∷ []
+take-set [] x h = absurd (omega arith)
+take-set (y ∷ out) x h = refl
+
+module _ {f out y : List ℕ} {j : ℕ} (g : Findable f out) (d : MadeMonic 11 f j y) where
+  -- a polynomial that is not 0 has a leading coefficient
+  pub leading : 0 < j
+  unfolding front
+  leading = go (decLt 0 j)
+    where
+      go : Dec (0 < j) → 0 < j
+      go (yes p) = p
+      go (no n) =
+          let none-left : norm (G 11) (length f) f ≡ none = d .made ∙ ap (λ i. front i y) (let z : j ≡ 0 = omega arith in z) in
+          let zeros : allZero f ≡ true =
+          allBelow-exactly 1 f .1 (below-from 1 f (λ i l. let z : getD f i 0 ≡ 0 = norm-none eleven f (g .polynomial .small) none-left i in omega arith)) in
+          absurd (let b : _≡_ {A = Bool} true false = sym zeros ∙ g .polynomial .nonzero in let o : _≡_ {A = ℕ} 0 1 = cc in let x : ⊥ = omega arith in x)
+
+  -- at one of its places
+  pub within : j - 1 ≤ length y
+  within = omega (arith, d .within, d .long)
+
+  -- the low coefficients of the monic polynomial
+  lead : norm (G 11) (length f) f ≡ some (take (j - 1) y)
+  unfolding front
+  lead = let back : suc (j - 1) ≡ j = omega (arith, leading) in d .made ∙ ap (λ i. front i y) (sym back)
+
+  -- the one root
+  pub one-front : j - 1 ≡ 1 → Front (rootsAt 11 f) 1 (set out 0 (getD y 0 0))
+  one-front e =
+      let one : take (j - 1) y ≡ getD y 0 0 ∷ [] = ap (λ n. take n y) e ∙ take-one y (omega (arith, within)) in
+      let small : Below 2048 (getD y 0 0 ∷ []) = subst (Below 2048) one (norm-below eleven (length f) f (g .polynomial .small) lead) in
+      let roots : rootsAt 11 f ≡ getD y 0 0 ∷ [] =
+      sym (rootsOf-norm eleven f (g .polynomial .small) lead) ∙ ap (λ p. rootsOf (G 11) 2048 (monic (G 11) p)) one ∙ rootsOf-one eleven (getD y 0 0) (small .0) in
+      record { count = sym (ap length roots); front = take-set out (getD y 0 0) (omega (arith, g .room)) ∙ sym roots }
+
+  -- can be solved
+  pub low-asks : {hs : List ℕ} → Halves (fieldAt 11) hs → j - 1 ≤ 2 → Lowly 11 hs (take (j - 1) y) out
+  low-asks h l = record {
+    degree = row11 .degree;
+    halves = h;
+    small = norm-below eleven (length f) f (g .polynomial .small) lead;
+    low = omega (arith, length-take-le (j - 1) y within);
+    room = omega (arith, g .room, length-take-le (j - 1) y within);
+  }
+
+  module _ {k : ℕ} {list : List ℕ} (h : Front (rootsAt 11 (monic (G 11) (take (j - 1) y))) k list) where
+    -- and have the polynomial's roots
+    pub low-front : Front (rootsAt 11 f) k list
+    low-front = subst (λ rs. Front rs k list) (rootsOf-norm eleven f (g .polynomial .small) lead) h
+
+    -- no more than there are low coefficients
+    pub low-few : k ≤ j - 1
+    low-few = omega (arith, h .count, rootsOf-count eleven (take (j - 1) y) (norm-below eleven (length f) f (g .polynomial .small) lead), length-take-le (j - 1) y within)
+
+-- ---- the trace engine
+
+-- what it leaves
+pub front-copied : {rs list′ : List ℕ} {k : ℕ} (list : List ℕ) → k ≡ length rs → list′ ≡ copied rs list → Front rs k list′
+front-copied {rs} {k = k} list e w = record { count = e; front = ap (take k) w ∙ copied-front rs list (sym e) }
+
+-- ---- a locator polynomial
+
+-- its constant is 1
+not-zeros : (l : List ℕ) → getD l 0 0 ≡ 1 → allBelow 1 l ≡ false
+unfolding allBelow
+not-zeros [] e = absurd (omega arith)
+not-zeros (x ∷ l) e = ap (λ (a : Bool). a && allBelow 1 l) (le-ltb x 1 (omega arith))
+
+pub findable : (p list : List ℕ) → Under p → getD p 0 0 ≡ 1 → length p ≡ 9 → length list ≡ limit → Findable p list
+findable p list u first long room = record {
+  polynomial = record { field = row11 .degree; some = omega arith; few = omega arith; small = below-from 2048 p (λ i l. u i); nonzero = not-zeros p first };
+  room = omega arith;
+}

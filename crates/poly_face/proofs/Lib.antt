@@ -1,0 +1,2 @@
+-- Why: a table that was copied to lent room stands there.
+pub mod Copies

@@ -1,0 +1,30 @@
+-- `table_check::check` meets its contract: each return names the test that holds.
+-- Assumes nothing.
+use Rattle.table_check.specs.Verdicts.Checks.{short}
+use Rattle.table_check.proofs.Judging.{check-sound, check-unsound}
+use borrow.Author.Needs.{needs}
+use Rattle.table_check.proofs.check.Statement.{statement}
+use Rattle.table_check.proofs.check.Tie as tie
+use Rattle.table_slots.proofs.degrees.Reads as degrees-reads
+
+returns : tie.Need-returns
+returns c = short (c .if1 .taken)
+
+degrees-requires : tie.Need-degrees-requires
+degrees-requires c κs = search needs
+
+enum-known-sum : tie.Need-enum-known-sum
+enum-known-sum c = search needs
+
+enum-told : tie.Need-enum-told
+enum-told c = search needs
+
+returns-2 : tie.Need-returns-2
+returns-2 c = check-sound _ (c .before .before .before .degrees .ensures) (c .before .sum .given .1)
+
+returns-3 : tie.Need-returns-3
+returns-3 c = check-unsound _ (c .before .before .before .if1 .left) (c .before .before .degrees .ensures) (c .enum-told .given .1)
+
+pub check-spec : {M : Type 1} → statement M
+check-spec =
+    tie.close (tie.spec returns degrees-requires enum-known-sum enum-told returns-2 returns-3)
