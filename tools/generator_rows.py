@@ -76,12 +76,12 @@ def remainder(n, g):
 def function(k, w, g):
     """The row function of digits k to k + w - 1."""
     yield f"\n// The remainder of c x^{88 + k}: digits {k} to {k + w - 1} of what leaves at the top.\n"
-    yield f"pub fn row{k}(c: u64) -> Row\n    requires {{ ⌜ c < {1 << w} ⌝ }}\n"
-    yield f"    ensures {{ λ r. ⌜ rowOf r ≡ top (c * {1 << k}) ⌝ }}\n{{\n    match c {{\n"
+    yield f"pub fn row{k}(c: u64) -> Remainder\n    requires {{ ⌜ c < {1 << w} ⌝ }}\n"
+    yield f"    ensures {{ λ r. ⌜ remainderOf r ≡ backFromTop (c * {1 << k}) ⌝ }}\n{{\n    match c {{\n"
     for c in range(1 << w):
         r = remainder(c << (88 + k), g)
-        yield f"        {c} => Row({r % 2 ** 64}, {r >> 64}),\n"
-    yield "        _ => Row(0, 0),\n    }\n}\n"
+        yield f"        {c} => Remainder({r % 2 ** 64}, {r >> 64}),\n"
+    yield "        _ => Remainder(0, 0),\n    }\n}\n"
 
 
 def rows(g):
@@ -89,7 +89,7 @@ def rows(g):
     yield "// Remainders by the generator, as constants in place: a match whose arms are numbers is a table in the\n"
     yield "// program's read-only part, and nothing is built at a call. Written by tools/generator_rows.py.\n"
     yield "ghost use mathlib.Core.Path.{_≡_};\nghost use Prim.Native.Nat.{_*_, _<_};\n"
-    yield "ghost use Rattle.corrector_generator.specs.Rows.{rowOf, top};\nuse crate::Row;\n"
+    yield "ghost use Rattle.corrector_generator.specs.Rows.{remainderOf, backFromTop};\nuse crate::Remainder;\n"
     for k, w in PARTS:
         yield from function(k, w, g)
 
@@ -120,7 +120,7 @@ def proof(k, w):
 def powers():
     """The file of the powers: x^j at a, a^3, .., a^15."""
     yield "// The constant table of the syndromes. Written by tools/generator_rows.py.\n\n"
-    yield "// x^j at a, a^3, .., a^15, for j below 88: eight in a row.\npub const ROWS: [u16; 704] = [\n"
+    yield "// x^j at a, a^3, .., a^15, for j below 88: eight in a row.\npub const ODD_POWERS: [u16; 704] = [\n"
     for j in range(88):
         for k in range(8):
             yield f"    {power(power(2, 2 * k + 1), j)},\n"

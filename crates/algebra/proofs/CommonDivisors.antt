@@ -14,7 +14,7 @@ use Rattle.algebra.specs.Field.{Laws, Ops}
 use Rattle.algebra.specs.Polynomial.{IsGcd, coef}
 use Rattle.algebra.proofs.Series.{Series, nought, plus, plus-back, plus-comm, scale, scale-back, times-nought}
 use Rattle.algebra.proofs.Degree.{Monic, quotient-top}
-use Rattle.algebra.proofs.Divisibility.{divides-equal, divides-plus, divides-scale, divides-self, divides-trans, multiple, quotient-exact}
+use Rattle.algebra.proofs.Divisibility.{divides-equal, divides-plus, divides-scale, divides-self, divides-trans, divides-multiple, quotient-exact}
 use Rattle.algebra.proofs.Signs.{Signs, signs}
 
 module _ {K : Type 0} {F : Ops K} (L : Laws F) where
@@ -25,7 +25,7 @@ module _ {K : Type 0} {F : Ops K} (L : Laws F) where
   gcd-comm h d = (λ a. (h d .0 a .1, h d .0 a .0), λ b. h d .1 (b .1, b .0))
 
   pub gcd-nought : {p : Series K} → IsGcd F p (nought F) p
-  gcd-nought d = (λ a. (a, rw (times-nought L) at (multiple L d [])), λ b. b .0)
+  gcd-nought d = (λ a. (a, rw (times-nought L) at (divides-multiple L d [])), λ b. b .0)
 
   -- a nonzero multiple changes nothing
   pub gcd-scale : {p t g : Series K} (c : K) → c ≢ 0# → IsGcd F p t g → IsGcd F p (scale F c t) g

@@ -13,7 +13,7 @@ use Rattle.algebra.specs.Field.{Laws, Ops}
 use Rattle.algebra.specs.Polynomial.{Divides, add, coef, frobenius, mul, tracePoly}
 use Rattle.algebra.proofs.Series.{Series, plus, plus-assoc, plus-back, plus-left-comm, plus-self, plus-times, times, times-comm, times-nought}
 use Rattle.algebra.proofs.Coefficients.{coef-add, coef-mul}
-use Rattle.algebra.proofs.Divisibility.{divides-plus, divides-times, multiple}
+use Rattle.algebra.proofs.Divisibility.{divides-plus, divides-times, divides-multiple}
 use Rattle.algebra.proofs.Signs.{Signs, signs}
 
 abbrev pub Cong : {K : Type 0} (F : Ops K) → List K → List K → List K → Type 0
@@ -31,7 +31,7 @@ module _ {K : Type 0} {F : Ops K} (L : Laws F) where
       ∙ plus-assoc L (a ⊠ c) (b ⊠ c) (b ⊠ c ⊞ b ⊠ d) ∙ ap (λ w. a ⊠ c ⊞ w) (plus-back L (b ⊠ c) (b ⊠ d))
 
   pub cong-refl : (p f : List K) → Cong F p f f
-  cong-refl p f = subst (λ w. p ∣ w) (times-nought L (coef F p) ∙ sym (plus-self L (coef F f))) (multiple L p [])
+  cong-refl p f = subst (λ w. p ∣ w) (times-nought L (coef F p) ∙ sym (plus-self L (coef F f))) (divides-multiple L p [])
 
   pub cong-trans : {p : List K} (f g h : List K) → Cong F p f g → Cong F p g h → Cong F p f h
   cong-trans {p} f g h a b =

@@ -22,7 +22,7 @@ use lib.ListN.{List·getD-map, getD, length, length-map, replicate, take}
 use Rattle.algebra.specs.Field.{Laws, OnNumbers, Ops, power, squared, trace}
 use Rattle.algebra.specs.Trial.{All, Distinct, keep, upFrom}
 use Rattle.algebra.specs.Polynomial.{Below, add, coef, eval, fieldPoly, frobenius, fromRoots, linear, mul, tracePoly}
-use Rattle.algebra.specs.Routines.{cofactor, digit, euclid, frobeniusMod, gcd, monic, monicRoots, norm, quo, rem, shiftIn, square, traceMod}
+use Rattle.algebra.specs.Routines.{cofactor, quotientDigit, euclid, frobeniusMod, gcd, monic, monicRoots, norm, quo, rem, shiftIn, square, traceMod}
 use Rattle.algebra.proofs.Trial.{ascending-distinct, length-upFrom, upFrom-all, upFrom-ascending}
 
 module _ {A B : Type 0} (φ : A → B) where
@@ -108,17 +108,17 @@ module _ {G : Ops ℕ} {q : ℕ} (N : OnNumbers G q) where
   low-monicRoots s =
       map-take (λ u. u .0) (length s) (fromRoots elems s) ∙ ap₂ (λ n l. take n l) (sym (length-map s (λ u. u .0))) (low-fromRoots s)
 
-  pub low-digit : (p : List (Elem q)) (c : Elem q) (r : List (Elem q)) → digit elems p c r .0 ≡ digit G (low p) (c .0) (low r)
-  unfolding digit
+  pub low-digit : (p : List (Elem q)) (c : Elem q) (r : List (Elem q)) → quotientDigit elems p c r .0 ≡ quotientDigit G (low p) (c .0) (low r)
+  unfolding quotientDigit
   low-digit p c r = sym (ap (λ n. getD (low (c ∷ r)) n (G .zero)) (length-map p (λ u. u .0)) ∙ List·getD-map (λ u. u .0) (c ∷ r) (length p) (elems .zero))
 
   pub low-shiftIn : (p : List (Elem q)) (c : Elem q) (r : List (Elem q)) → low (shiftIn elems p c r) ≡ shiftIn G (low p) (c .0) (low r)
   unfolding shiftIn
   low-shiftIn p c r =
-      low-add (take (length p) (c ∷ r)) (map (elems .mul (digit elems p c r)) p)
+      low-add (take (length p) (c ∷ r)) (map (elems .mul (quotientDigit elems p c r)) p)
       ∙ ap₂ (add G)
       (map-take (λ u. u .0) (length p) (c ∷ r) ∙ ap (λ n. take n (low (c ∷ r))) (sym (length-map p (λ u. u .0))))
-      (low-scale (digit elems p c r) p ∙ ap (λ t. map (G .mul t) (low p)) (low-digit p c r))
+      (low-scale (quotientDigit elems p c r) p ∙ ap (λ t. map (G .mul t) (low p)) (low-digit p c r))
 
   pub low-rem : (p f : List (Elem q)) → low (rem elems p f) ≡ rem G (low p) (low f)
   unfolding rem
@@ -128,7 +128,7 @@ module _ {G : Ops ℕ} {q : ℕ} (N : OnNumbers G q) where
   pub low-quo : (p f : List (Elem q)) → low (quo elems p f) ≡ quo G (low p) (low f)
   unfolding quo
   low-quo p [] = refl
-  low-quo p (c ∷ f) = ap₂ (λ (t : ℕ) (l : List ℕ). t ∷ l) (low-digit p c (rem elems p f) ∙ ap (digit G (low p) (c .0)) (low-rem p f)) (low-quo p f)
+  low-quo p (c ∷ f) = ap₂ (λ (t : ℕ) (l : List ℕ). t ∷ l) (low-digit p c (rem elems p f) ∙ ap (quotientDigit G (low p) (c .0)) (low-rem p f)) (low-quo p f)
 
   pub low-monic : (p : List (Elem q)) → low (monic elems p) ≡ monic G (low p)
   low-monic p = map-append (λ u. u .0) p (elems .one ∷ [])

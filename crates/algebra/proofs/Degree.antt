@@ -26,7 +26,7 @@ use Rattle.algebra.specs.Field.{Laws, Ops}
 use Rattle.algebra.specs.Polynomial.{add, coef}
 use Rattle.algebra.specs.Routines.{monic}
 use Rattle.algebra.proofs.Elements.{add-zero, mul-zero, zero?}
-use Rattle.algebra.proofs.Series.{Series, behind, equal-of-plus, front, nought, nought-at, plus, plus-self, times, times-nought, times-plus}
+use Rattle.algebra.proofs.Series.{Series, afterFirst, equal-of-plus, startingWith, nought, nought-at, plus, plus-self, times, times-nought, times-plus}
 use Rattle.algebra.proofs.Coefficients.{coef-add, coef-cons}
 use Rattle.algebra.proofs.Signs.{Signs, signs}
 
@@ -57,7 +57,7 @@ module _ {K : Type 0} {F : Ops K} (L : Laws F) where
   top-at zero m f g hf hg = ap (f ⊠ g) (zero-plus m) ∙ const-at f g hf m
   top-at (suc n) m f g hf hg =
       ap (f ⊠ g) (suc-add n m)
-      ∙ ap₂ _⊕_ (ap (λ w. f 0 ⊗ w) (hg (suc (n + m)) (omega arith)) ∙ mul-zero L (f 0)) (top-at n m (behind f) g (λ k h. hf (suc k) (omega arith)) hg)
+      ∙ ap₂ _⊕_ (ap (λ w. f 0 ⊗ w) (hg (suc (n + m)) (omega arith)) ∙ mul-zero L (f 0)) (top-at n m (afterFirst f) g (λ k h. hf (suc k) (omega arith)) hg)
       ∙ zero-add (f (suc n) ⊗ g m)
 
   top-above : (n m : ℕ) (f g : Series K) → Ends f n → Ends g m → Ends (f ⊠ g) (n + m)
@@ -65,7 +65,7 @@ module _ {K : Type 0} {F : Ops K} (L : Laws F) where
   top-above zero m f g hf hg k h = const-at f g hf k ∙ ap (λ w. f 0 ⊗ w) (hg k (omega arith)) ∙ mul-zero L (f 0)
   top-above (suc n) m f g hf hg zero h = absurd (not-suc-le-zero h)
   top-above (suc n) m f g hf hg (suc k) h =
-      ap₂ _⊕_ (ap (λ w. f 0 ⊗ w) (hg (suc k) (omega arith)) ∙ mul-zero L (f 0)) (top-above n m (behind f) g (λ j l. hf (suc j) (omega arith)) hg k (omega arith))
+      ap₂ _⊕_ (ap (λ w. f 0 ⊗ w) (hg (suc k) (omega arith)) ∙ mul-zero L (f 0)) (top-above n m (afterFirst f) g (λ j l. hf (suc j) (omega arith)) hg k (omega arith))
       ∙ zero-add 0#
 
   -- degrees add, and leading coefficients multiply
@@ -98,7 +98,7 @@ module _ {K : Type 0} {F : Ops K} (L : Laws F) where
 
   -- a list is 0 or has a leading coefficient
   pub top? : (p : List K) → (coef F p ≡ nought F) ⊎ ((n : ℕ) × (c : K) × (c ≢ 0#) × Top F (coef F p) n c)
-  unfolding Led front
+  unfolding Led startingWith
   top? [] = inl refl
   top? (c ∷ p) = go (top? p) (zero? L c)
     where

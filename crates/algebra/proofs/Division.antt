@@ -12,13 +12,13 @@ use lib.ListN.{List·getD-eq-default, getD, length, take}
 use lib.Seq.{ext-getD}
 use Rattle.algebra.specs.Field.{Laws, Ops}
 use Rattle.algebra.specs.Polynomial.{add, coef}
-use Rattle.algebra.specs.Routines.{digit, monic, quo, rem, shiftIn}
+use Rattle.algebra.specs.Routines.{quotientDigit, monic, quo, rem, shiftIn}
 use Rattle.algebra.proofs.Elements.{add-back, add-left-comm, add-zero, equal-of-sum, mul-zero}
-use Rattle.algebra.proofs.Series.{Series, equal-of-plus, front, front-plus, front-times, nought, nought-plus, plus, plus-assoc, plus-comm, plus-self, scale, times, times-comm, times-nought, times-plus}
+use Rattle.algebra.proofs.Series.{Series, equal-of-plus, startingWith, startingWith-plus, startingWith-times, nought, nought-plus, plus, plus-assoc, plus-comm, plus-self, scale, times, times-comm, times-nought, times-plus}
 use Rattle.algebra.proofs.Coefficients.{coef-add, coef-cons, coef-zeros}
 use Rattle.algebra.proofs.Degree.{Top, monic-list, top-times, top?}
 use Rattle.algebra.proofs.Lengths.{length-rem}
-use Rattle.algebra.proofs.Divisibility.{multiple}
+use Rattle.algebra.proofs.Divisibility.{divides-multiple}
 use Rattle.algebra.proofs.Congruence.{Cong}
 use Rattle.algebra.proofs.Signs.{Signs, signs}
 
@@ -38,8 +38,8 @@ module _ {K : Type 0} {F : Ops K} (L : Laws F) where
   step-at (a ∷ p) (x ∷ s) e (suc k) = step-at p s (omega (arith, e)) k
 
   step : (p : List K) (c : K) (r : List K) → length r ≡ length p
-      → coef F (c ∷ r) ≡ scale F (digit F p c r) (coef F (monic F p)) ⊞ coef F (shiftIn F p c r)
-  unfolding digit shiftIn plus scale
+      → coef F (c ∷ r) ≡ scale F (quotientDigit F p c r) (coef F (monic F p)) ⊞ coef F (shiftIn F p c r)
+  unfolding quotientDigit shiftIn plus scale
   step p c r e = fun-ext (step-at p (c ∷ r) (ap suc e))
 
   pub plus-rotate : (a b c : Series K) → (a ⊞ b) ⊞ c ≡ (a ⊞ c) ⊞ b
@@ -53,13 +53,13 @@ module _ {K : Type 0} {F : Ops K} (L : Laws F) where
       let m : Series K = coef F (monic F p) in
       let q : Series K = coef F (quo F p f) in
       let r : List K = rem F p f in
-      let t : K = digit F p c r in
+      let t : K = quotientDigit F p c r in
       coef-cons L c f
-      ∙ ap₂ (λ a w. front a w) (sym (add-zero L c)) (division p f ∙ plus-comm L (m ⊠ q) (coef F r))
-      ∙ sym (front-plus L c 0# (coef F r) (m ⊠ q))
-      ∙ ap₂ _⊞_ (sym (coef-cons L c r) ∙ step p c r (length-rem F p f)) (ap (front 0#) (times-comm L m q))
-      ∙ plus-rotate (scale F t m) (coef F (shiftIn F p c r)) (front 0# (q ⊠ m))
-      ∙ ap (λ w. w ⊞ coef F (shiftIn F p c r)) (sym (front-times L t q m) ∙ times-comm L (front t q) m ∙ ap (λ w. m ⊠ w) (sym (coef-cons L t (quo F p f))))
+      ∙ ap₂ (λ a w. startingWith a w) (sym (add-zero L c)) (division p f ∙ plus-comm L (m ⊠ q) (coef F r))
+      ∙ sym (startingWith-plus L c 0# (coef F r) (m ⊠ q))
+      ∙ ap₂ _⊞_ (sym (coef-cons L c r) ∙ step p c r (length-rem F p f)) (ap (startingWith 0#) (times-comm L m q))
+      ∙ plus-rotate (scale F t m) (coef F (shiftIn F p c r)) (startingWith 0# (q ⊠ m))
+      ∙ ap (λ w. w ⊞ coef F (shiftIn F p c r)) (sym (startingWith-times L t q m) ∙ times-comm L (startingWith t q) m ∙ ap (λ w. m ⊠ w) (sym (coef-cons L t (quo F p f))))
 
   -- the remainder is congruent to f
   pub rem-cong : (p f : List K) → Cong F (monic F p) f (rem F p f)
@@ -67,7 +67,7 @@ module _ {K : Type 0} {F : Ops K} (L : Laws F) where
       subst (λ w. monic F p ∣ w)
       (sym (ap (λ w. w ⊞ coef F (rem F p f)) (division p f) ∙ plus-assoc L _ _ _ ∙ ap (λ w. coef F (monic F p) ⊠ coef F (quo F p f) ⊞ w) (plus-self L _)
       ∙ plus-comm L _ _ ∙ nought-plus L _))
-      (multiple L (monic F p) (quo F p f))
+      (divides-multiple L (monic F p) (quo F p f))
 
   -- what is equal on both sides changes sides
   across : (a b r s : Series K) → a ⊞ r ≡ b ⊞ s → a ⊞ b ≡ r ⊞ s

@@ -20,7 +20,7 @@ use Rattle.algebra.specs.Field.{Laws, Ops, power, squared, trace}
 use Rattle.algebra.specs.Polynomial.{add, coef, eval, fieldPoly, frobenius, linear, mul, traceOf, tracePoly}
 use Rattle.algebra.specs.Routines.{monic, square}
 use Rattle.algebra.proofs.Elements.{add-left-comm, add-mul, add-zero, mul-left-comm, mul-one, mul-zero, zero-mul}
-use Rattle.algebra.proofs.Series.{Series, behind, nought, times}
+use Rattle.algebra.proofs.Series.{Series, afterFirst, nought, times}
 use Rattle.algebra.proofs.Coefficients.{coef-mul, coef-square}
 
 module _ {K : Type 0} {F : Ops K} (L : Laws F) where
@@ -37,7 +37,7 @@ module _ {K : Type 0} {F : Ops K} (L : Laws F) where
   unfolding eval
   eval-nought [] x e = refl
   eval-nought (c ∷ p) x e =
-      ap₂ (λ a b. a ⊕ x ⊗ b) (ap (λ f. f 0) e) (eval-nought p x (ap behind e)) ∙ zero-add (x ⊗ 0#) ∙ mul-zero L x
+      ap₂ (λ a b. a ⊕ x ⊗ b) (ap (λ f. f 0) e) (eval-nought p x (ap afterFirst e)) ∙ zero-add (x ⊗ 0#) ∙ mul-zero L x
 
   -- a value depends on the polynomial, and not on the list that holds it
   pub eval-same : (p q : List K) (x : K) → coef F p ≡ coef F q → eval F p x ≡ eval F q x
@@ -45,7 +45,7 @@ module _ {K : Type 0} {F : Ops K} (L : Laws F) where
   eval-same [] q x e = sym (eval-nought q x (sym e))
   eval-same (c ∷ p) [] x e = eval-nought (c ∷ p) x e
   eval-same (c ∷ p) (d ∷ q) x e =
-      ap₂ (λ a b. a ⊕ x ⊗ b) (ap (λ f. f 0) e) (eval-same p q x (ap behind e))
+      ap₂ (λ a b. a ⊕ x ⊗ b) (ap (λ f. f 0) e) (eval-same p q x (ap afterFirst e))
 
   pub eval-add : (p q : List K) (x : K) → eval F (add F p q) x ≡ eval F p x ⊕ eval F q x
   unfolding eval add

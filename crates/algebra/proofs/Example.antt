@@ -12,7 +12,7 @@ use lib.Dec.{eqb, ltb}
 use Rattle.algebra.specs.Field.{Ops}
 use Rattle.algebra.specs.Trial.{upFrom}
 use Rattle.algebra.specs.Polynomial.{add, eval, fromRoots, mul, rootsOf, traceOf, tracePoly}
-use Rattle.algebra.specs.Routines.{cofactor, digit, euclid, gcd, monicRoots, norm, quo, rem, shiftIn, square, traceMod}
+use Rattle.algebra.specs.Routines.{cofactor, quotientDigit, euclid, gcd, monicRoots, norm, quo, rem, shiftIn, square, traceMod}
 
 -- the product, by Horner's rule on the bits of the second factor
 double : ℕ → ℕ
@@ -46,13 +46,13 @@ roots-are = refl
 
 -- Tr(4 z) is 0 at 1 alone
 split-gcd : gcd G16 (6 ∷ 7 ∷ 0 ∷ []) (traceOf G16 4 4) ≡ 1 ∷ []
-unfolding G16 tracePoly mul add gcd euclid norm rem shiftIn digit
+unfolding G16 tracePoly mul add gcd euclid norm rem shiftIn quotientDigit
 split-gcd = refl
 
 split-modulo : gcd G16 (6 ∷ 7 ∷ 0 ∷ []) (traceMod G16 (6 ∷ 7 ∷ 0 ∷ []) 4 (rem G16 (6 ∷ 7 ∷ 0 ∷ []) (0 ∷ 4 ∷ []))) ≡ 1 ∷ []
-unfolding G16 traceMod square add gcd euclid norm rem shiftIn digit
+unfolding G16 traceMod square add gcd euclid norm rem shiftIn quotientDigit
 split-modulo = refl
 
 split-cofactor : cofactor G16 (6 ∷ 7 ∷ 0 ∷ []) (1 ∷ []) ≡ 6 ∷ 1 ∷ []
-unfolding G16 cofactor quo rem shiftIn digit add
+unfolding G16 cofactor quo rem shiftIn quotientDigit add
 split-cofactor = refl

@@ -21,12 +21,12 @@ use Rattle.algebra.specs.Trial.{All, Distinct}
 use Rattle.algebra.specs.Polynomial.{coef, eval, fromRoots, linear}
 use Rattle.algebra.specs.Routines.{monic, monicRoots}
 use Rattle.algebra.proofs.Elements.{add-back, add-zero, equal-of-sum, mul-zero, zero-mul, zero-of-product, zero?}
-use Rattle.algebra.proofs.Series.{Series, front, front-times, nought, plus, scale, times, times-comm, times-unit, unit}
+use Rattle.algebra.proofs.Series.{Series, startingWith, startingWith-times, nought, plus, scale, times, times-comm, times-unit, unit}
 use Rattle.algebra.proofs.Coefficients.{coef-cons, coef-mul}
 use Rattle.algebra.proofs.Evaluation.{eval-linear, eval-mul, eval-multiple}
 use Rattle.algebra.proofs.Degree.{Monic, Top, monic-list, monic-times, quotient-top}
 use Rattle.algebra.proofs.Lengths.{length-fromRoots}
-use Rattle.algebra.proofs.Divisibility.{divides-product, multiple, one-divides, quotient-exact}
+use Rattle.algebra.proofs.Divisibility.{divides-product, divides-multiple, one-divides, quotient-exact}
 use Rattle.algebra.proofs.Signs.{Signs, signs}
 
 one-add : (n : ℕ) → 1 + n ≡ suc n
@@ -36,10 +36,10 @@ module _ {K : Type 0} {F : Ops K} (L : Laws F) where
   open Signs (signs F) using (0#, 1#, _⊕_, _⊗_, _⊞_, _⊠_, _∣_)
   open Laws L using (add-comm, zero-add, add-self, one≢zero)
 
-  pub linear-times : (r : K) (f : Series K) → coef F (linear F r) ⊠ f ≡ scale F r f ⊞ front 0# f
+  pub linear-times : (r : K) (f : Series K) → coef F (linear F r) ⊠ f ≡ scale F r f ⊞ startingWith 0# f
   linear-times r f =
-      ap (λ w. w ⊠ f) (coef-cons L r (1# ∷ []) ∙ ap (front r) (coef-cons L 1# [])) ∙ front-times L r (unit F) f
-      ∙ ap (λ w. scale F r f ⊞ front 0# w) (times-comm L (unit F) f ∙ times-unit L f)
+      ap (λ w. w ⊠ f) (coef-cons L r (1# ∷ []) ∙ ap (startingWith r) (coef-cons L 1# [])) ∙ startingWith-times L r (unit F) f
+      ∙ ap (λ w. scale F r f ⊞ startingWith 0# w) (times-comm L (unit F) f ∙ times-unit L f)
 
   -- the quotient by z + r (Ruffini): f = (z + r) f' + f(r)
   deflate : K → List K → List K
@@ -47,8 +47,8 @@ module _ {K : Type 0} {F : Ops K} (L : Laws F) where
   deflate r (c ∷ p) = eval F p r ∷ deflate r p
 
   deflate-at : (r : K) (p : List K) (k : ℕ)
-      → (r ⊗ coef F (deflate r p) k ⊕ front 0# (coef F (deflate r p)) k) ⊕ front (eval F p r) (nought F) k ≡ coef F p k
-  unfolding deflate eval front
+      → (r ⊗ coef F (deflate r p) k ⊕ startingWith 0# (coef F (deflate r p)) k) ⊕ startingWith (eval F p r) (nought F) k ≡ coef F p k
+  unfolding deflate eval startingWith
   deflate-at r [] zero = simp (mul-zero L, zero-add)
   deflate-at r [] (suc k) = simp (mul-zero L, zero-add)
   deflate-at r (c ∷ p) zero = simp (add-zero L, add-comm c (r ⊗ eval F p r), add-back L)
@@ -57,15 +57,15 @@ module _ {K : Type 0} {F : Ops K} (L : Laws F) where
 
   -- where f(r) = 0, z + r divides f
   pub factor : (r : K) (f : List K) → eval F f r ≡ 0# → linear F r ∣ coef F f
-  unfolding plus scale front
-  factor r f h = subst (λ w. linear F r ∣ w) (linear-times r (coef F (deflate r f)) ∙ fun-ext at) (multiple L (linear F r) (deflate r f))
+  unfolding plus scale startingWith
+  factor r f h = subst (λ w. linear F r ∣ w) (linear-times r (coef F (deflate r f)) ∙ fun-ext at) (divides-multiple L (linear F r) (deflate r f))
     where
-      none : (k : ℕ) → front (eval F f r) (nought F) k ≡ 0#
+      none : (k : ℕ) → startingWith (eval F f r) (nought F) k ≡ 0#
       none zero = h
       none (suc k) = refl
 
-      at : (k : ℕ) → (scale F r (coef F (deflate r f)) ⊞ front 0# (coef F (deflate r f))) k ≡ coef F f k
-      at k = sym (ap (λ w. (scale F r (coef F (deflate r f)) ⊞ front 0# (coef F (deflate r f))) k ⊕ w) (none k) ∙ add-zero L _) ∙ deflate-at r f k
+      at : (k : ℕ) → (scale F r (coef F (deflate r f)) ⊞ startingWith 0# (coef F (deflate r f))) k ≡ coef F f k
+      at k = sym (ap (λ w. (scale F r (coef F (deflate r f)) ⊞ startingWith 0# (coef F (deflate r f))) k ⊕ w) (none k) ∙ add-zero L _) ∙ deflate-at r f k
 
   -- the other roots of f are roots of f / (z + r)
   other-root : (r x : K) (f : List K) (h : linear F r ∣ coef F f) → r ≢ x → eval F f x ≡ 0# → eval F (h .quotient) x ≡ 0#

@@ -23,7 +23,7 @@ use lib.ListN.{getD, length, length-append, length-map, length-replicate, length
 use lib.Seq.{length-take-le}
 use Rattle.algebra.specs.Field.{Ops}
 use Rattle.algebra.specs.Polynomial.{add, fromRoots, linear, mul}
-use Rattle.algebra.specs.Routines.{cofactor, digit, euclid, frobeniusMod, gcd, monic, monicRoots, norm, quo, rem, shiftIn, square, traceMod}
+use Rattle.algebra.specs.Routines.{cofactor, quotientDigit, euclid, frobeniusMod, gcd, monic, monicRoots, norm, quo, rem, shiftIn, square, traceMod}
 
 module _ {K : Type 0} (F : Ops K) where
   pub length-add : (p q : List K) → length p ≤ length q → length (add F p q) ≡ length q
@@ -42,8 +42,8 @@ module _ {K : Type 0} (F : Ops K) where
   pub length-shiftIn : (p : List K) (c : K) (r : List K) → length r ≡ length p → length (shiftIn F p c r) ≡ length p
   unfolding shiftIn
   length-shiftIn p c r e =
-      length-add (take (length p) (c ∷ r)) (map (F .mul (digit F p c r)) p) (omega (arith, length-take (length p) (c ∷ r), length-map p (F .mul (digit F p c r))))
-      ∙ length-map p (F .mul (digit F p c r))
+      length-add (take (length p) (c ∷ r)) (map (F .mul (quotientDigit F p c r)) p) (omega (arith, length-take (length p) (c ∷ r), length-map p (F .mul (quotientDigit F p c r))))
+      ∙ length-map p (F .mul (quotientDigit F p c r))
 
   pub length-rem : (p f : List K) → length (rem F p f) ≡ length p
   unfolding rem

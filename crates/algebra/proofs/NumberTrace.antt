@@ -20,7 +20,7 @@ use lib.Pow.{pow-lt, pow-mono}
 use lib.Bits.{bitXor, xor-shifted}
 use lib.Dec.{T}
 use Rattle.algebra.specs.Field.{OnNumbers, Ops, squared, trace}
-use Rattle.algebra.proofs.TraceBits.{Spans}
+use Rattle.algebra.proofs.TraceBits.{SpansField}
 use Rattle.algebra.proofs.Crossing.{Elem, all, count-all, distinct-all, elem-equal, elems, laws, low-squared, low-trace}
 use Rattle.algebra.proofs.Trace as R
 use Rattle.algebra.proofs.TraceBits as B
@@ -77,7 +77,7 @@ module _ {G : Ops ℕ} {q : ℕ} (N : OnNumbers G q) where
     abbrev unit-bit : (i : ℕ) → i < m → Elem q
     unit-bit i h = (2 ^ i, rw size (pow-lt h))
 
-    pub bits-span : Spans (elems N) m unit-bit
+    pub bits-span : SpansField (elems N) m unit-bit
     bits-span Q z s b (x, h) =
         below-spans (λ x. (h : x < q) → Q (x, h)) (λ h. subst Q (elem-equal zero-is) z)
         (λ k y hk hy qk qy h.

@@ -1,15 +1,15 @@
 -- The ring of sequences of coefficients (formal power series). Two sequences are equal where all coefficients are, and the equality is antt's own: `rw`,
 -- `simp` and `cc` work on it. A polynomial is a sequence that a list holds (`Coefficients.antt`).
 --   Series           a sequence, constant first
---   behind           what stands behind its first place
---   front            c + z f
+--   afterFirst           what stands behind its first place
+--   startingWith            c + z f
 --   plus, times      sum and product
 --   scale            a multiple by an element
 --   nought, unit     0 and 1
 --   plus-comm, plus-assoc, nought-plus, plus-self            the sums are a group in which each is its own inverse
 --   times-comm, times-assoc, times-unit, times-plus          the ring
 --   equal-of-plus    sequences whose sum is 0 are equal
---   front-square     (c + z f)^2 = c^2 + z^2 f^2
+--   startingWith-square     (c + z f)^2 = c^2 + z^2 f^2
 -- Assumes nothing.
 use mathlib.Core.Path.{_∙_, _≡_, ap, ap₂, fun-ext, refl, sym}
 use mathlib.Core.Logic.{_≢_}
@@ -21,12 +21,12 @@ use Rattle.algebra.proofs.Elements.{add-back, add-left-comm, add-mul, a
 abbrev pub Series : Type 0 → Type 0
 Series K = ℕ → K
 
-abbrev pub behind : {K : Type 0} → Series K → Series K
-behind f k = f (suc k)
+abbrev pub afterFirst : {K : Type 0} → Series K → Series K
+afterFirst f k = f (suc k)
 
-unfoldable pub front : {K : Type 0} → K → Series K → Series K
-front c f zero = c
-front c f (suc k) = f k
+unfoldable pub startingWith : {K : Type 0} → K → Series K → Series K
+startingWith c f zero = c
+startingWith c f (suc k) = f k
 
 module _ {K : Type 0} (F : Ops K) where
   unfoldable pub plus : Series K → Series K → Series K
@@ -37,13 +37,13 @@ module _ {K : Type 0} (F : Ops K) where
 
   unfoldable pub times : Series K → Series K → Series K
   times f g zero = F .mul (f 0) (g 0)
-  times f g (suc k) = F .add (F .mul (f 0) (g (suc k))) (times (behind f) g k)
+  times f g (suc k) = F .add (F .mul (f 0) (g (suc k))) (times (afterFirst f) g k)
 
   abbrev pub nought : Series K
   nought k = F .zero
 
   abbrev pub unit : Series K
-  unit = front (F .one) nought
+  unit = startingWith (F .one) nought
 
 module _ {K : Type 0} {F : Ops K} (L : Laws F) where
   infixl 60 _⊕_
@@ -97,27 +97,27 @@ module _ {K : Type 0} {F : Ops K} (L : Laws F) where
   unfolding times plus
   add-at f g h zero = add-mul L (f 0) (g 0) (h 0)
   add-at f g h (suc k) =
-      ap₂ _⊕_ (add-mul L (f 0) (g 0) (h (suc k))) (add-at (behind f) (behind g) h k)
+      ap₂ _⊕_ (add-mul L (f 0) (g 0) (h (suc k))) (add-at (afterFirst f) (afterFirst g) h k)
       ∙ simp (add-assoc, add-left-comm L)
 
   scale-at : (c : K) (f g : Series K) (k : ℕ) → (scale F c f ⊠ g) k ≡ c ⊗ (f ⊠ g) k
   unfolding times scale
   scale-at c f g zero = mul-assoc c (f 0) (g 0)
   scale-at c f g (suc k) =
-      ap₂ _⊕_ (mul-assoc c (f 0) (g (suc k))) (scale-at c (behind f) g k) ∙ sym (mul-add c (f 0 ⊗ g (suc k)) ((behind f ⊠ g) k))
+      ap₂ _⊕_ (mul-assoc c (f 0) (g (suc k))) (scale-at c (afterFirst f) g k) ∙ sym (mul-add c (f 0 ⊗ g (suc k)) ((afterFirst f ⊠ g) k))
 
   -- the product by its last place, where `times` goes by the first
-  other-end : (f g : Series K) (k : ℕ) → (f ⊠ g) (suc k) ≡ f (suc k) ⊗ g 0 ⊕ (f ⊠ behind g) k
+  other-end : (f g : Series K) (k : ℕ) → (f ⊠ g) (suc k) ≡ f (suc k) ⊗ g 0 ⊕ (f ⊠ afterFirst g) k
   unfolding times
   other-end f g zero = add-comm (f 0 ⊗ g 1) (f 1 ⊗ g 0)
   other-end f g (suc k) =
-      ap (λ w. f 0 ⊗ g (suc (suc k)) ⊕ w) (other-end (behind f) g k)
-      ∙ add-left-comm L (f 0 ⊗ g (suc (suc k))) (f (suc (suc k)) ⊗ g 0) ((behind f ⊠ behind g) k)
+      ap (λ w. f 0 ⊗ g (suc (suc k)) ⊕ w) (other-end (afterFirst f) g k)
+      ∙ add-left-comm L (f 0 ⊗ g (suc (suc k))) (f (suc (suc k)) ⊗ g 0) ((afterFirst f ⊠ afterFirst g) k)
 
   comm-at : (f g : Series K) (k : ℕ) → (f ⊠ g) k ≡ (g ⊠ f) k
   unfolding times
   comm-at f g zero = mul-comm (f 0) (g 0)
-  comm-at f g (suc k) = ap₂ _⊕_ (mul-comm (f 0) (g (suc k))) (comm-at (behind f) g k) ∙ sym (other-end g f k)
+  comm-at f g (suc k) = ap₂ _⊕_ (mul-comm (f 0) (g (suc k))) (comm-at (afterFirst f) g k) ∙ sym (other-end g f k)
 
   regroup : (x y z v w : K) → x ⊗ y ⊗ z ⊕ (x ⊗ v ⊕ w) ≡ x ⊗ (y ⊗ z ⊕ v) ⊕ w
   regroup x y z v w = simp (mul-add, mul-assoc, add-assoc)
@@ -127,11 +127,11 @@ module _ {K : Type 0} {F : Ops K} (L : Laws F) where
   assoc-at f g h zero = mul-assoc (f 0) (g 0) (h 0)
   assoc-at f g h (suc k) =
       ap (λ w. f 0 ⊗ g 0 ⊗ h (suc k) ⊕ w)
-      (add-at (scale F (f 0) (behind g)) (behind f ⊠ g) h k ∙ ap₂ _⊕_ (scale-at (f 0) (behind g) h k) (assoc-at (behind f) g h k))
-      ∙ regroup (f 0) (g 0) (h (suc k)) ((behind g ⊠ h) k) ((behind f ⊠ (g ⊠ h)) k)
+      (add-at (scale F (f 0) (afterFirst g)) (afterFirst f ⊠ g) h k ∙ ap₂ _⊕_ (scale-at (f 0) (afterFirst g) h k) (assoc-at (afterFirst f) g h k))
+      ∙ regroup (f 0) (g 0) (h (suc k)) ((afterFirst g ⊠ h) k) ((afterFirst f ⊠ (g ⊠ h)) k)
 
   unit-at : (f : Series K) (k : ℕ) → (unit F ⊠ f) k ≡ f k
-  unfolding times front
+  unfolding times startingWith
   unit-at f zero = one-mul (f 0)
   unit-at f (suc k) = ap₂ _⊕_ (one-mul (f (suc k))) (nought-at f k) ∙ add-zero L (f (suc k))
 
@@ -176,22 +176,22 @@ module _ {K : Type 0} {F : Ops K} (L : Laws F) where
 
   -- ---- c + z f
 
-  pub front-plus : (c d : K) (f g : Series K) → front c f ⊞ front d g ≡ front (c ⊕ d) (f ⊞ g)
-  unfolding front plus
-  front-plus c d f g = fun-ext λ k. elim k [ zero ↦ refl | suc k ↦ refl ]
+  pub startingWith-plus : (c d : K) (f g : Series K) → startingWith c f ⊞ startingWith d g ≡ startingWith (c ⊕ d) (f ⊞ g)
+  unfolding startingWith plus
+  startingWith-plus c d f g = fun-ext λ k. elim k [ zero ↦ refl | suc k ↦ refl ]
 
-  pub front-times : (c : K) (f g : Series K) → front c f ⊠ g ≡ scale F c g ⊞ front 0# (f ⊠ g)
-  unfolding front plus times scale
-  front-times c f g = fun-ext λ k. elim k [ zero ↦ sym (add-zero L (c ⊗ g 0)) | suc k ↦ refl ]
+  pub startingWith-times : (c : K) (f g : Series K) → startingWith c f ⊠ g ≡ scale F c g ⊞ startingWith 0# (f ⊠ g)
+  unfolding startingWith plus times scale
+  startingWith-times c f g = fun-ext λ k. elim k [ zero ↦ sym (add-zero L (c ⊗ g 0)) | suc k ↦ refl ]
 
-  pub front-scale : (c d : K) (f : Series K) → scale F c (front d f) ≡ front (c ⊗ d) (scale F c f)
-  unfolding front scale
-  front-scale c d f = fun-ext λ k. elim k [ zero ↦ refl | suc k ↦ refl ]
+  pub startingWith-scale : (c d : K) (f : Series K) → scale F c (startingWith d f) ≡ startingWith (c ⊗ d) (scale F c f)
+  unfolding startingWith scale
+  startingWith-scale c d f = fun-ext λ k. elim k [ zero ↦ refl | suc k ↦ refl ]
 
   -- (c + z f)^2 = c^2 + z^2 f^2: the middle terms cancel
-  pub front-square : (c : K) (f : Series K) → front c f ⊠ front c f ≡ front (c ⊗ c) (front 0# (f ⊠ f))
-  front-square c f =
-      front-times c f (front c f)
-      ∙ ap₂ _⊞_ (front-scale c c f) (ap (front 0#) (times-comm f (front c f) ∙ front-times c f f))
-      ∙ front-plus (c ⊗ c) 0# (scale F c f) (scale F c f ⊞ front 0# (f ⊠ f))
-      ∙ ap₂ (λ d g. front d g) (add-zero L (c ⊗ c)) (plus-back (scale F c f) (front 0# (f ⊠ f)))
+  pub startingWith-square : (c : K) (f : Series K) → startingWith c f ⊠ startingWith c f ≡ startingWith (c ⊗ c) (startingWith 0# (f ⊠ f))
+  startingWith-square c f =
+      startingWith-times c f (startingWith c f)
+      ∙ ap₂ _⊞_ (startingWith-scale c c f) (ap (startingWith 0#) (times-comm f (startingWith c f) ∙ startingWith-times c f f))
+      ∙ startingWith-plus (c ⊗ c) 0# (scale F c f) (scale F c f ⊞ startingWith 0# (f ⊠ f))
+      ∙ ap₂ (λ d g. startingWith d g) (add-zero L (c ⊗ c)) (plus-back (scale F c f) (startingWith 0# (f ⊠ f)))

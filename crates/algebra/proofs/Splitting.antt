@@ -23,7 +23,7 @@ use Rattle.algebra.proofs.Series.{Series, times, times-assoc, times-lef
 use Rattle.algebra.proofs.Coefficients.{coef-cons, coef-mul, one-times}
 use Rattle.algebra.proofs.Evaluation.{eval-linear, eval-mul, eval-multiple, eval-traceOf}
 use Rattle.algebra.proofs.Degree.{monic-cancel, monic-list}
-use Rattle.algebra.proofs.Divisibility.{divides-trans, multiple, quotient-exact}
+use Rattle.algebra.proofs.Divisibility.{divides-trans, divides-multiple, quotient-exact}
 use Rattle.algebra.proofs.Factors.{factor, monic-roots, roots-divide}
 use Rattle.algebra.proofs.Euclid.{gcd-only}
 use Rattle.algebra.proofs.Quotients.{cofactor-only}
@@ -115,7 +115,7 @@ module _ {K : Type 0} {F : Ops K} (L : Laws F) where
   gcd-split s t u d =
       let g : List K = fromRoots F (keep (isRoot F t) s) in
       let h : List K = fromRoots F (keep (λ r. not (isRoot F t r)) s) in
-      let in-s : g ∣ coef F (fromRoots F s) = rw (split-product (isRoot F t) s) (multiple L g h) in
+      let in-s : g ∣ coef F (fromRoots F s) = rw (split-product (isRoot F t) s) (divides-multiple L g h) in
       let in-t : g ∣ coef F t =
       roots-divide L (keep (isRoot F t) s) t (distinct-keep (isRoot F t) s u)
       (all-map (λ r. T (isRoot F t r)) (λ r. eval F t r ≡ 0#) (keep (isRoot F t) s) (λ r. zero-test (eval F t r) .0) (keep-passed (isRoot F t) s)) in (

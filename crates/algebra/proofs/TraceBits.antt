@@ -1,5 +1,5 @@
 -- Trace bits tell elements apart, since Tr(z) has lower degree than the field has elements.
---   Spans          what holds of 0, of sums and of each element of the basis holds of every element
+--   SpansField     what holds of 0, of sums and of each element of the basis holds of every element
 --   trace-monic    f + f^2 + f^4 + .. is monic where f is
 --   fermat         x^(2^m) = x for every x where it holds for the elements of a basis
 --   trace-nonzero  an element whose trace bits are all 0 is 0
@@ -25,8 +25,8 @@ use Rattle.algebra.proofs.Factors.{roots-at-most}
 use Rattle.algebra.proofs.Trace.{trace-add, trace-zero}
 
 -- what holds of 0, of sums and of each element of the basis holds of every element
-abbrev pub Spans : {K : Type 0} (F : Ops K) (n : ℕ) → ((i : ℕ) → i < n → K) → Type 1
-Spans {K} F n basis =
+abbrev pub SpansField : {K : Type 0} (F : Ops K) (n : ℕ) → ((i : ℕ) → i < n → K) → Type 1
+SpansField {K} F n basis =
     (Q : K → Type 0) → Q (F .zero) → ((x y : K) → Q x → Q y → Q (F .add x y)) → ((i : ℕ) (h : i < n) → Q (basis i h)) → (y : K) → Q y
 
 module _ {K : Type 0} {F : Ops K} (L : Laws F) where
@@ -48,7 +48,7 @@ module _ {K : Type 0} {F : Ops K} (L : Laws F) where
       rw (coef-add L f (tracePoly F (suc j) (mul F f f)), plus-comm L (coef F f) (coef F (tracePoly F (suc j) (mul F f f))))
       (plus-top L rest t (higher n j h))
 
-  module _ (n : ℕ) (basis : (i : ℕ) → i < n → K) (spans : Spans F n basis) where
+  module _ (n : ℕ) (basis : (i : ℕ) → i < n → K) (spans : SpansField F n basis) where
     -- x^(2^m) = x for every x where it holds for the elements of a basis: a test of n elements shows it for the field
     pub fermat : (m : ℕ) → ((i : ℕ) (h : i < n) → squared F m (basis i h) ≡ basis i h) → (x : K) → squared F m x ≡ x
     fermat m = spans (λ x. squared F m x ≡ x) (squared-zero L m) (λ x y a b. squared-add L m x y ∙ ap₂ _⊕_ a b)

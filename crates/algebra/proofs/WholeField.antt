@@ -17,7 +17,7 @@ use Rattle.algebra.specs.Field.{Laws, Ops, squared}
 use Rattle.algebra.specs.Trial.{All, Distinct, keep}
 use Rattle.algebra.specs.Polynomial.{IsGcd, add, coef, eval, fieldPoly, frobenius, fromRoots, isRoot, linear, mul}
 use Rattle.algebra.specs.Routines.{gcd, monic, monicRoots}
-use Rattle.algebra.proofs.Series.{Series, front, front-times, nought-plus, plus, times, unit, unit-times, zero-scale}
+use Rattle.algebra.proofs.Series.{Series, startingWith, startingWith-times, nought-plus, plus, times, unit, unit-times, zero-scale}
 use Rattle.algebra.proofs.Coefficients.{coef-add, coef-cons, coef-mul}
 use Rattle.algebra.proofs.Evaluation.{eval-fieldPoly}
 use Rattle.algebra.proofs.Degree.{Monic, monic-list, monic-times, plus-top}
@@ -29,7 +29,7 @@ use Rattle.algebra.proofs.Splitting.{gcd-split}
 
 unfoldable pub zpow : {K : Type 0} → Ops K → ℕ → Series K
 zpow F zero = unit F
-zpow F (suc n) = front (F .zero) (zpow F n)
+zpow F (suc n) = startingWith (F .zero) (zpow F n)
 
 module _ {K : Type 0} {F : Ops K} (L : Laws F) where
   infixl 60 _⊕_
@@ -51,12 +51,12 @@ module _ {K : Type 0} {F : Ops K} (L : Laws F) where
 
   -- 1 at place n, and 0 elsewhere
   pub zpow-at : (n : ℕ) → zpow F n n ≡ 1#
-  unfolding zpow front
+  unfolding zpow startingWith
   zpow-at zero = refl
   zpow-at (suc n) = zpow-at n
 
   pub zpow-other : (n k : ℕ) → n ≢ k → zpow F n k ≡ 0#
-  unfolding zpow front
+  unfolding zpow startingWith
   zpow-other zero zero h = absurd (h refl)
   zpow-other zero (suc k) h = refl
   zpow-other (suc n) zero h = refl
@@ -66,8 +66,8 @@ module _ {K : Type 0} {F : Ops K} (L : Laws F) where
   unfolding zpow
   zpow-times zero k = unit-times L (zpow F k) ∙ ap (zpow F) (sym (zero-plus k))
   zpow-times (suc n) k =
-      front-times L 0# (zpow F n) (zpow F k) ∙ ap (λ w. plus F w (front 0# (times F (zpow F n) (zpow F k)))) (zero-scale L (zpow F k))
-      ∙ nought-plus L (front 0# (times F (zpow F n) (zpow F k))) ∙ ap (front 0#) (zpow-times n k) ∙ ap (zpow F) (sym (suc-add n k))
+      startingWith-times L 0# (zpow F n) (zpow F k) ∙ ap (λ w. plus F w (startingWith 0# (times F (zpow F n) (zpow F k)))) (zero-scale L (zpow F k))
+      ∙ nought-plus L (startingWith 0# (times F (zpow F n) (zpow F k))) ∙ ap (startingWith 0#) (zpow-times n k) ∙ ap (zpow F) (sym (suc-add n k))
 
   frobenius-zpow : (j : ℕ) (f : List K) (n : ℕ) → coef F f ≡ zpow F n → coef F (frobenius F j f) ≡ zpow F (n * 2 ^ j)
   unfolding frobenius
@@ -78,7 +78,7 @@ module _ {K : Type 0} {F : Ops K} (L : Laws F) where
 
   linear-zpow : coef F (linear F 0#) ≡ zpow F 1
   unfolding zpow
-  linear-zpow = coef-cons L 0# (1# ∷ []) ∙ ap (front 0#) (coef-cons L 1# [])
+  linear-zpow = coef-cons L 0# (1# ∷ []) ∙ ap (startingWith 0#) (coef-cons L 1# [])
 
   -- its coefficients: 1 at places 2^m and 1, and 0 elsewhere
   pub fieldPoly-is : (m : ℕ) → coef F (fieldPoly F m) ≡ plus F (zpow F (2 ^ m)) (zpow F 1)

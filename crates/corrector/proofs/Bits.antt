@@ -20,8 +20,8 @@ use lib.Seq.{getD-set-same, getD-set-other}
 use lib.Pow.{shr-shr, pow-add, pow-lt, pow-pos}
 use Rattle.algebra.specs.Trial.{All, upFrom}
 use Rattle.field.proofs.Xor.{xor-assoc}
-use Rattle.corrector_code.specs.Word.{both, places}
-use Rattle.corrector_code.specs.Digits.{numberOf, digits}
+use Rattle.corrector_code.specs.Word.{difference, places}
+use Rattle.corrector_code.specs.Digits.{bytesNumber, digits}
 use Rattle.corrector_code.proofs.Flips.{digits-xor, flip-number}
 use Rattle.corrector.specs.Correcting.{bitAt}
 use Rattle.corrector.specs.Places.{xorOver, flipAll}
@@ -44,8 +44,8 @@ digits-row (suc n) k W =
     ap (λ l. digitAt W k ∷ l) (ap (digits n) (shr-shr W k 1 ∙ ap (λ (m : ℕ). W / 2 ^ m) (let e : k + 1 ≡ suc k = omega arith in e)) ∙ digits-row n (suc k) W)
 
 -- a digit of a number in bytes
-byte-digit : (bytes : List ℕ) → ((k : ℕ) → getD bytes k 0 < 256) → (j : ℕ) → numberOf bytes / 2 ^ j % 2 ≡ getD bytes (j / 8) 0 / 2 ^ (j % 8) % 2
-unfolding numberOf
+byte-digit : (bytes : List ℕ) → ((k : ℕ) → getD bytes k 0 < 256) → (j : ℕ) → bytesNumber bytes / 2 ^ j % 2 ≡ getD bytes (j / 8) 0 / 2 ^ (j % 8) % 2
+unfolding bytesNumber
 byte-digit [] u j = ap (λ (n : ℕ). n % 2) (nought j) ∙ sym (ap (λ (n : ℕ). n % 2) (nought (j % 8)))
   where
     nought : (k : ℕ) → 0 / 2 ^ k ≡ 0
@@ -53,7 +53,7 @@ byte-digit [] u j = ap (λ (n : ℕ). n % 2) (nought j) ∙ sym (ap (λ (n : ℕ
 byte-digit (b ∷ bs) u j = go (decLt j 8) (byte-digit bs (λ k. u (suc k)) (j - 8))
   where
     N : ℕ
-    N = numberOf bs
+    N = bytesNumber bs
 
     low : (i : ℕ) → i < 8 → (N * 256 + b) / 2 ^ i % 2 ≡ b / 2 ^ i % 2
     low zero h = omega arith
@@ -80,19 +80,19 @@ byte-digit (b ∷ bs) u j = go (decLt j 8) (byte-digit bs (λ k. u (suc k)) (j -
         ∙ ih ∙ sym (ap₂ (λ (m k : ℕ). getD (b ∷ bs) m 0 / 2 ^ k % 2) q r)
 
 -- THE BITS OF A BLOCK ARE THE DIGITS OF ITS NUMBER
-pub bits-digits : (bytes : List ℕ) → ((k : ℕ) → getD bytes k 0 < 256) → bitsOf bytes ≡ digits 2047 (numberOf bytes)
+pub bits-digits : (bytes : List ℕ) → ((k : ℕ) → getD bytes k 0 < 256) → bitsOf bytes ≡ digits 2047 (bytesNumber bytes)
 unfolding bitsOf
 bits-digits bytes u =
     ap (λ f. map f (upFrom 0 2047)) (fun-ext λ j. ap (λ (n : ℕ). eqb n 1) (sym (byte-digit bytes u j)))
-    ∙ sym (digits-row 2047 0 (numberOf bytes)) ∙ ap (digits 2047) (div-one (numberOf bytes))
+    ∙ sym (digits-row 2047 0 (bytesNumber bytes)) ∙ ap (digits 2047) (div-one (bytesNumber bytes))
 
 -- a block's number
-number-below : (bytes : List ℕ) (n : ℕ) → length bytes ≡ suc n → getD bytes n 0 < 128 → ((k : ℕ) → getD bytes k 0 < 256) → numberOf bytes < 128 * 256 ^ n
-unfolding numberOf
+number-below : (bytes : List ℕ) (n : ℕ) → length bytes ≡ suc n → getD bytes n 0 < 128 → ((k : ℕ) → getD bytes k 0 < 256) → bytesNumber bytes < 128 * 256 ^ n
+unfolding bytesNumber
 number-below [] n e l u = absurd (omega arith)
-number-below (b ∷ bs) zero e l u = let z : numberOf bs ≡ 0 = empty bs (omega arith) in omega arith
+number-below (b ∷ bs) zero e l u = let z : bytesNumber bs ≡ 0 = empty bs (omega arith) in omega arith
   where
-    empty : (bs : List ℕ) → length bs ≡ 0 → numberOf bs ≡ 0
+    empty : (bs : List ℕ) → length bs ≡ 0 → bytesNumber bs ≡ 0
     empty [] e = refl
     empty (x ∷ bs) e = absurd (omega arith)
 number-below (b ∷ bs) (suc n) e l u =
@@ -100,9 +100,9 @@ number-below (b ∷ bs) (suc n) e l u =
     let p : 256 ^ suc n ≡ 256 ^ n * 256 = pow-suc 256 n in
     let q : 128 * (256 ^ n * 256) ≡ 128 * 256 ^ n * 256 = sym (times-assoc 128 (256 ^ n) 256) in
     let h = u 0 in
-    subst (λ (m : ℕ). numberOf bs * 256 + b < 128 * m) (sym p) (subst (λ (m : ℕ). numberOf bs * 256 + b < m) (sym q) (omega arith))
+    subst (λ (m : ℕ). bytesNumber bs * 256 + b < 128 * m) (sym p) (subst (λ (m : ℕ). bytesNumber bs * 256 + b < m) (sym q) (omega arith))
 
-pub block-below : (bytes : List ℕ) → length bytes ≡ 256 → getD bytes 255 0 < 128 → ((k : ℕ) → getD bytes k 0 < 256) → numberOf bytes < 2 ^ 2047
+pub block-below : (bytes : List ℕ) → length bytes ≡ 256 → getD bytes 255 0 < 128 → ((k : ℕ) → getD bytes k 0 < 256) → bytesNumber bytes < 2 ^ 2047
 block-below bytes e l u = number-below bytes 255 e l u
 
 pub length-digits : (n W : ℕ) → length (digits n W) ≡ n
@@ -158,7 +158,7 @@ bytes-set bytes q x u l h k = go (decLt k q) (decLt q k)
 pub record Flipped (js bytes after : List ℕ) : Type 0 where
   pub long : length after ≡ 256
   pub bytes-fit : (k : ℕ) → getD after k 0 < 256
-  pub number : numberOf after ≡ bitXor (numberOf bytes) (xorOver (λ j. 2 ^ j) js)
+  pub number : bytesNumber after ≡ bitXor (bytesNumber bytes) (xorOver (λ j. 2 ^ j) js)
 
 weight : (j : ℕ) → 2 ^ (j % 8) * 256 ^ (j / 8) ≡ 2 ^ j
 weight j = ap (λ (p : ℕ). 2 ^ (j % 8) * p) (power256 (j / 8)) ∙ sym (pow-add 2 (j % 8) (8 * (j / 8))) ∙ ap (λ (n : ℕ). 2 ^ n) (let e : j % 8 + 8 * (j / 8) ≡ j = omega arith in e)
@@ -172,7 +172,7 @@ bit-fits i h = pow-lt {i = i} {j = 8} h
 
 pub flipped : (js bytes : List ℕ) → All (λ j. j < 2047) js → length bytes ≡ 256 → ((k : ℕ) → getD bytes k 0 < 256) → Flipped js bytes (flipAll js bytes)
 unfolding flipAll xorOver
-flipped [] bytes a e u = record { long = e; bytes-fit = u; number = sym (xor-zero-r (numberOf bytes)) }
+flipped [] bytes a e u = record { long = e; bytes-fit = u; number = sym (xor-zero-r (bytesNumber bytes)) }
 flipped (j ∷ js) bytes a e u =
     let q : ℕ = j / 8 in
     let x : ℕ = 2 ^ (j % 8) in
@@ -184,6 +184,6 @@ flipped (j ∷ js) bytes a e u =
     record {
       long = r .long;
       bytes-fit = r .bytes-fit;
-      number = r .number ∙ ap (λ (n : ℕ). bitXor n (xorOver (λ i. 2 ^ i) js)) (flip-number bytes q x l u fits ∙ ap (bitXor (numberOf bytes)) (weight j))
-          ∙ xor-assoc (numberOf bytes) (2 ^ j) (xorOver (λ i. 2 ^ i) js);
+      number = r .number ∙ ap (λ (n : ℕ). bitXor n (xorOver (λ i. 2 ^ i) js)) (flip-number bytes q x l u fits ∙ ap (bitXor (bytesNumber bytes)) (weight j))
+          ∙ xor-assoc (bytesNumber bytes) (2 ^ j) (xorOver (λ i. 2 ^ i) js);
     }

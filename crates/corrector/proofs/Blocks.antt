@@ -18,7 +18,7 @@ use Rattle.algebra.specs.Field.{power}
 use Rattle.algebra.specs.Polynomial.{eval}
 use Rattle.algebra.specs.Trial.{keep, upFrom}
 use Rattle.field.proofs.Digits.{bit-cases}
-use Rattle.corrector_code.specs.Word.{differs, both, bit, value, places}
+use Rattle.corrector_code.specs.Word.{differs, difference, bit, wordValue, places}
 use Rattle.corrector_code.specs.Word as words
 use Rattle.corrector_code.specs.Eleven.{F11}
 use Rattle.corrector.specs.Correcting.{bitAt, polynomial, distance, IsBlock, IsCodeword, Within}
@@ -50,7 +50,7 @@ digit-bit : (n : ℕ) → n % 2 ≡ bit F11 (eqb (n % 2) 1)
 digit-bit n = bit-cases (λ d. d ≡ bit F11 (eqb d 1)) refl refl n
 
 -- the value of a word's polynomial is that of its bits
-pub value-bits : (word : List ℕ) (x : ℕ) → eval F11 (polynomial word) x ≡ value F11 (bitsOf word) x
+pub value-bits : (word : List ℕ) (x : ℕ) → eval F11 (polynomial word) x ≡ wordValue F11 (bitsOf word) x
 unfolding polynomial bitsOf
 value-bits word x = ap (λ (p : List ℕ). eval F11 p x) (each (upFrom 0 2047))
   where
@@ -66,13 +66,13 @@ digits-differ a b =
     (bit-cases (λ e. differs (eqb 1 1) (eqb e 1) ≡ not (eqb 1 e)) refl refl b) a
 
 -- where two words that tests make differ
-both-map : (f g : ℕ → Bool) (l : List ℕ) → both (map f l) (map g l) ≡ map (λ j. differs (f j) (g j)) l
-unfolding both
+both-map : (f g : ℕ → Bool) (l : List ℕ) → difference (map f l) (map g l) ≡ map (λ j. differs (f j) (g j)) l
+unfolding difference
 both-map f g [] = refl
 both-map f g (j ∷ l) = ap (λ r. differs (f j) (g j) ∷ r) (both-map f g l)
 
 -- distance by counting is that of the bits
-pub distance-bits : (word v : List ℕ) → distance word v ≡ words.distance (bitsOf word) (bitsOf v)
+pub distance-bits : (word v : List ℕ) → distance word v ≡ words.bitDistance (bitsOf word) (bitsOf v)
 unfolding distance bitsOf
 distance-bits word v = ap length (sym
     (ap (places 0) (both-map (set word) (set v) (upFrom 0 2047))
@@ -101,7 +101,7 @@ distance-self word = ap length (none (upFrom 0 2047))
 
 -- a codeword near a word, in bits
 abbrev pub Near : ℕ → List Bool → List Bool → Type 0
-Near t w v = words.Corrects F11 2 t w v
+Near t w v = words.CodewordWithin F11 2 t w v
 
 -- from bytes to bits
 pub within-bits : {t : ℕ} {word v : List ℕ} → Within t word v → Near t (bitsOf word) (bitsOf v)

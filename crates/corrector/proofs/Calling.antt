@@ -1,10 +1,10 @@
 -- What the called functions answer here: the roots of a locator polynomial, their places, and what is returned.
 --   place-of                          the place of a root, by its position
 --   count-places                      as many places as roots
---   placing, holds                    the roots whose places are asked for; the struct that holds the places
+--   placing, places-held                    the roots whose places are asked for; the struct that holds the places
 --   spotted-many, spotted-few, spotted-no, spotted-yes   the places of a locator polynomial, told and read
 --   Keyed, keyed                      the register that was found
---   located-many, located-few, located-other, fits   the places to flip
+--   located-many, located-few, located-other, places-fit   the places to flip
 -- Assumes nothing.
 use mathlib.Core.Path.{_≡_, refl, sym, ap, _∙_, subst}
 use mathlib.Core.Bool.{true, false}
@@ -21,7 +21,7 @@ use Rattle.corrector_locator.specs.declared.State.{State}
 use Rattle.corrector_locator.proofs.Fine.{Fine, register-fine}
 use Rattle.corrector_code.specs.Eleven.{F11}
 use Rattle.corrector_code.specs.Key.{register}
-use Rattle.corrector.specs.Places.{placesOf, placesIn, named, Placing, Placed, Holds, Few8, Either, Spotted, Located, Acceptable, Agrees}
+use Rattle.corrector.specs.Places.{placesOf, placesIn, named, Placing, Placed, HoldsPlaces, Few8, Either, Spotted, Located, Acceptable, Agrees}
 use Rattle.corrector.specs.declared.Places.{Places}
 use Rattle.corrector.proofs.Marking.{roots-nonzero, places-below}
 use Rattle.field_elements.specs.Calls.{positionUnder}
@@ -68,8 +68,8 @@ module _ (p : List ℕ) (first : getD p 0 0 ≡ 1) {s : ℕ} {list : List ℕ} (
   place-map i h = map-at (positionUnder 1 (fieldAt 11)) (rootsAt 11 p) i h
 
   -- the struct holds the places
-  pub holds : (q : Places) → s ≤ 8 → Placed list s q → Holds (placesOf p) q
-  holds q h d = record {
+  pub places-held : (q : Places) → s ≤ 8 → Placed list s q → HoldsPlaces (placesOf p) q
+  places-held q h d = record {
     count = d .count ∙ count-places;
     places = places-are;
     fits = record {
@@ -96,16 +96,16 @@ module _ (p : List ℕ) (first : getD p 0 0 ≡ 1) {s : ℕ} {list : List ℕ} (
 -- ---- what is returned
 
 pub spotted-many : (js : List ℕ) (t : ℕ) (q : Places) → q .good ≡ false → t < length js → Spotted js t q
-spotted-many js t q e h = subst (λ b. Either b (Holds js q × (length js ≤ t)) (t < length js)) (sym e) h
+spotted-many js t q e h = subst (λ b. Either b (HoldsPlaces js q × (length js ≤ t)) (t < length js)) (sym e) h
 
-pub spotted-few : (js : List ℕ) (t : ℕ) (q : Places) → q .good ≡ true → Holds js q → length js ≤ t → Spotted js t q
-spotted-few js t q e h l = subst (λ b. Either b (Holds js q × (length js ≤ t)) (t < length js)) (sym e) (h, l)
+pub spotted-few : (js : List ℕ) (t : ℕ) (q : Places) → q .good ≡ true → HoldsPlaces js q → length js ≤ t → Spotted js t q
+spotted-few js t q e h l = subst (λ b. Either b (HoldsPlaces js q × (length js ≤ t)) (t < length js)) (sym e) (h, l)
 
 pub spotted-no : (js : List ℕ) (t : ℕ) (q : Places) → Spotted js t q → q .good ≡ false → t < length js
-spotted-no js t q h e = subst (λ b. Either b (Holds js q × (length js ≤ t)) (t < length js)) e h
+spotted-no js t q h e = subst (λ b. Either b (HoldsPlaces js q × (length js ≤ t)) (t < length js)) e h
 
-pub spotted-yes : (js : List ℕ) (t : ℕ) (q : Places) → Spotted js t q → q .good ≡ true → Holds js q × (length js ≤ t)
-spotted-yes js t q h e = subst (λ b. Either b (Holds js q × (length js ≤ t)) (t < length js)) e h
+pub spotted-yes : (js : List ℕ) (t : ℕ) (q : Places) → Spotted js t q → q .good ≡ true → HoldsPlaces js q × (length js ≤ t)
+spotted-yes js t q h e = subst (λ b. Either b (HoldsPlaces js q × (length js ≤ t)) (t < length js)) e h
 
 -- the register that the code found
 pub record Keyed (s : List ℕ) (t : ℕ) (l : List ℕ) : Type 0 where
@@ -128,13 +128,13 @@ module _ (odd s : List ℕ) (t : ℕ) (ps : PowerSums odd s) (l : List ℕ) (k :
       omega arith
 
   pub located-many : (q : Places) → q .good ≡ false → p .good ≡ false → Located odd t q
-  located-many q e g = (s, ps, subst (λ b. Either b (Holds (named s t) q × Acceptable odd t (named s t)) (Acceptable odd t (named s t) → ⊥)) (sym e) (not-few g))
+  located-many q e g = (s, ps, subst (λ b. Either b (HoldsPlaces (named s t) q × Acceptable odd t (named s t)) (Acceptable odd t (named s t) → ⊥)) (sym e) (not-few g))
 
-  holds-named : p .good ≡ true → Holds (named s t) p × (length (named s t) ≤ t)
-  holds-named e = subst (λ (js : List ℕ). Holds js p × (length js ≤ t)) (k .places) (spotted-yes (placesOf l) t p h e)
+  holds-named : p .good ≡ true → HoldsPlaces (named s t) p × (length (named s t) ≤ t)
+  holds-named e = subst (λ (js : List ℕ). HoldsPlaces js p × (length js ≤ t)) (k .places) (spotted-yes (placesOf l) t p h e)
 
-  pub fits : p .good ≡ true → Few8 p
-  fits e = holds-named e .0 .fits
+  pub places-fit : p .good ≡ true → Few8 p
+  places-fit e = holds-named e .0 .fits
 
   same : p .good ≡ true → placesIn p ≡ named s t
   same e = holds-named e .0 .places
@@ -143,7 +143,7 @@ module _ (odd s : List ℕ) (t : ℕ) (ps : PowerSums odd s) (l : List ℕ) (k :
   located-few e a = (
     s,
     ps,
-    subst (λ b. Either b (Holds (named s t) p × Acceptable odd t (named s t)) (Acceptable odd t (named s t) → ⊥)) (sym e)
+    subst (λ b. Either b (HoldsPlaces (named s t) p × Acceptable odd t (named s t)) (Acceptable odd t (named s t) → ⊥)) (sym e)
         (holds-named e .0, record { few = holds-named e .1; sums = subst (λ (js : List ℕ). Agrees odd t js) (same e) a }),
   )
 
@@ -151,6 +151,6 @@ module _ (odd s : List ℕ) (t : ℕ) (ps : PowerSums odd s) (l : List ℕ) (k :
   located-other q e g n = (
     s,
     ps,
-    subst (λ b. Either b (Holds (named s t) q × Acceptable odd t (named s t)) (Acceptable odd t (named s t) → ⊥)) (sym e)
+    subst (λ b. Either b (HoldsPlaces (named s t) q × Acceptable odd t (named s t)) (Acceptable odd t (named s t) → ⊥)) (sym e)
         (λ a. n (subst (λ (js : List ℕ). Agrees odd t js) (sym (same g)) (a .sums))),
   )

@@ -1,9 +1,9 @@
 -- Two outcomes that the corrector's contract admits coincide: the answer and every byte.
---   block-told        two blocks with the same bits are one
---   unique            NO TWO CODEWORDS QUALIFY
---   coincide          two outcomes that the contract admits for one input are one, and so is what they leave
---   corrected-told    two answers with one number and value are one
---   correct-coincide  so for the call
+--   block-told         two blocks with the same bits are one
+--   within-unique      NO TWO CODEWORDS QUALIFY
+--   outcomes-coincide  two outcomes that the contract admits for one input are one, and so is what they leave
+--   corrected-told     two answers with one number and value are one
+--   correct-coincide   so for the call
 -- Assumes nothing.
 use mathlib.Core.Path.{_≡_, refl, sym, ap, ap₂, _∙_, subst}
 use mathlib.Core.Bool.{Bool, true, false}
@@ -15,13 +15,13 @@ use lib.Arith.{lt-one}
 use lib.Dec.{eqb}
 use lib.ListN.{length, getD}
 use Rattle.refusals.proofs.Numbers.{by-number, refused-back, accepted-back}
-use Rattle.refusals.proofs.Told.{told}
+use Rattle.refusals.proofs.Told.{way-back}
 use Rattle.field.specs.Field.{fieldAt}
 use Rattle.field.proofs.Digits.{bit-cases}
-use Rattle.corrector_code.specs.Digits.{numberOf as numberOfBytes, digits}
+use Rattle.corrector_code.specs.Digits.{bytesNumber as numberOfBytes, digits}
 use Rattle.corrector_code.proofs.Eleven.{gen11}
 use Rattle.corrector_code.proofs.Numbers as codes
-use Rattle.corrector.specs.Correcting.{distance, IsBlock, Within, Corrects, paperCorrected}
+use Rattle.corrector.specs.Correcting.{distance, IsBlock, Within, Corrects, toldCorrected}
 use Rattle.corrector.specs.Correcting.Corrects.{no-block, no-strength, none-near, mended}
 use Rattle.corrector.specs.declared.Corrected.{Corrected}
 use Rattle.corrector.specs.declared.Corrected.the-variants.{Flips, NotCorrected}
@@ -83,48 +83,48 @@ block-told l m a b e =
     (sym (bits-digits l (a .bytes)) ∙ e ∙ bits-digits m (b .bytes)))
 
 -- NO TWO CODEWORDS QUALIFY
-pub unique : {t : ℕ} {word u v : List ℕ} → Within t word u → Within t word v → u ≡ v
-unique {t} {word} {u} {v} x y =
+pub within-unique : {t : ℕ} {word u v : List ℕ} → Within t word u → Within t word v → u ≡ v
+within-unique {t} {word} {u} {v} x y =
     block-told u v (x .block) (y .block)
-    (codes.unique (fieldAt 11) gen11 t (bitsOf word) (bitsOf u) (bitsOf v) (let l = long-bits word in omega arith)
+    (codes.code-unique (fieldAt 11) gen11 t (bitsOf word) (bitsOf u) (bitsOf v) (let l = long-bits word in omega arith)
     (within-bits x) (within-bits y))
 
 -- TWO OUTCOMES COINCIDE
-pub coincide : {t : ℕ} {word : List ℕ} {o p : ℕ × List ℕ} {a b : List ℕ}
+pub outcomes-coincide : {t : ℕ} {word : List ℕ} {o p : ℕ × List ℕ} {a b : List ℕ}
     → Corrects t word o a → Corrects t word p b → (o ≡ p) × (a ≡ b)
-coincide (no-block x) (no-block y) = (refl, refl)
-coincide (no-block x) (no-strength b y) = absurd (x b)
-coincide (no-block x) (none-near b s y) = absurd (x b)
-coincide (no-block x) (mended b s y) = absurd (x b)
-coincide (no-strength b x) (no-block y) = absurd (y b)
-coincide (no-strength b x) (no-strength c y) = (refl, refl)
-coincide (no-strength b x) (none-near c s y) = absurd (x s)
-coincide (no-strength b x) (mended c s y) = absurd (x s)
-coincide (none-near b s x) (no-block y) = absurd (y b)
-coincide (none-near b s x) (no-strength c y) = absurd (y s)
-coincide (none-near b s x) (none-near c r y) = (refl, refl)
-coincide (none-near b s x) (mended c r y) = absurd (x _ y)
-coincide (mended b s x) (no-block y) = absurd (y b)
-coincide (mended b s x) (no-strength c y) = absurd (y s)
-coincide (mended b s x) (none-near c r y) = absurd (y _ x)
-coincide {t} {word} (mended b s x) (mended c r y) =
-    let e = unique x y in (ap (λ (v : List ℕ). (0, distance word v ∷ [])) e, e)
+outcomes-coincide (no-block x) (no-block y) = (refl, refl)
+outcomes-coincide (no-block x) (no-strength b y) = absurd (x b)
+outcomes-coincide (no-block x) (none-near b s y) = absurd (x b)
+outcomes-coincide (no-block x) (mended b s y) = absurd (x b)
+outcomes-coincide (no-strength b x) (no-block y) = absurd (y b)
+outcomes-coincide (no-strength b x) (no-strength c y) = (refl, refl)
+outcomes-coincide (no-strength b x) (none-near c s y) = absurd (x s)
+outcomes-coincide (no-strength b x) (mended c s y) = absurd (x s)
+outcomes-coincide (none-near b s x) (no-block y) = absurd (y b)
+outcomes-coincide (none-near b s x) (no-strength c y) = absurd (y s)
+outcomes-coincide (none-near b s x) (none-near c r y) = (refl, refl)
+outcomes-coincide (none-near b s x) (mended c r y) = absurd (x _ y)
+outcomes-coincide (mended b s x) (no-block y) = absurd (y b)
+outcomes-coincide (mended b s x) (no-strength c y) = absurd (y s)
+outcomes-coincide (mended b s x) (none-near c r y) = absurd (y _ x)
+outcomes-coincide {t} {word} (mended b s x) (mended c r y) =
+    let e = within-unique x y in (ap (λ (v : List ℕ). (0, distance word v ∷ [])) e, e)
 
 -- the value is the number of flips
 correctedOf : ℕ × List ℕ → Corrected
 correctedOf o = by-number NotCorrected (Flips (getD (o .1) 0 0)) (o .0)
 
 -- it takes number and value back
-corrected-back : (r : Corrected) → correctedOf (paperCorrected r) ≡ r
+corrected-back : (r : Corrected) → correctedOf (toldCorrected r) ≡ r
 unfolding correctedOf
 corrected-back (Flips n) = accepted-back NotCorrected (Flips n)
 corrected-back (NotCorrected k) = refused-back NotCorrected (Flips 0) k
 
 -- two answers with one number and value are one
-pub corrected-told : (r s : Corrected) → paperCorrected r ≡ paperCorrected s → r ≡ s
-corrected-told = told paperCorrected correctedOf corrected-back
+pub corrected-told : (r s : Corrected) → toldCorrected r ≡ toldCorrected s → r ≡ s
+corrected-told = way-back toldCorrected correctedOf corrected-back
 
 -- the answer and the lent word
 pub correct-coincide : {t : ℕ} {word : List ℕ} (r s : Corrected) (a b : List ℕ)
-    → Corrects t word (paperCorrected r) a → Corrects t word (paperCorrected s) b → (r ≡ s) × (a ≡ b)
-correct-coincide r s a b x y = let h = coincide x y in (corrected-told r s (h .0), h .1)
+    → Corrects t word (toldCorrected r) a → Corrects t word (toldCorrected s) b → (r ≡ s) × (a ≡ b)
+correct-coincide r s a b x y = let h = outcomes-coincide x y in (corrected-told r s (h .0), h .1)

@@ -12,7 +12,7 @@ use native.Mathlib.Omega.{arith}
 use Rattle.corrector.specs.Correcting.{distance, IsBlock, IsStrength, IsCodeword, Within, Corrects}
 use Rattle.corrector.specs.Correcting.Corrects.{no-block, no-strength, none-near, mended}
 use Rattle.corrector.proofs.Blocks.{distance-self}
-use Rattle.corrector.proofs.Coincide.{coincide}
+use Rattle.corrector.proofs.Coincide.{outcomes-coincide}
 
 -- two outcomes with different numbers
 clash : {A : Type 0} {o p : ℕ × List ℕ} → o ≡ p → (o .0 ≡ p .0 → ⊥) → A
@@ -31,7 +31,7 @@ pub codeword-kept : {t : ℕ} {word after : List ℕ} {o : ℕ × List ℕ} → 
     → Corrects t word o after → (o ≡ (0, 0 ∷ [])) × (after ≡ word)
 codeword-kept {t} {word} b s c h =
     let near : distance word word ≤ t = (let z = distance-self word in omega arith) in
-    let e = coincide h (mended b s (record { block = b; codeword = c; near = near })) in
+    let e = outcomes-coincide h (mended b s (record { block = b; codeword = c; near = near })) in
     (e .0 ∙ ap (λ (n : ℕ). (0, n ∷ [])) (distance-self word), e .1)
 
 -- what is accepted leaves a codeword

@@ -19,17 +19,17 @@ use Rattle.algebra.specs.Field.{power}
 use Rattle.algebra.specs.Polynomial.{coef, isRoot}
 use Rattle.algebra.specs.Trial.{All, upFrom}
 use Rattle.field.specs.Field.{fieldAt, mul, inverse, numbers, reduce}
-use Rattle.corrector_code.specs.Word.{both, places, distance, total, value, locators, differs}
+use Rattle.corrector_code.specs.Word.{difference, places, bitDistance, total, wordValue, locators, differs}
 use Rattle.corrector_code.specs.Key.{register}
-use Rattle.corrector_code.specs.Correct.{syndromes, locatorOf, marked, flips, Passes}
-use Rattle.corrector_code.specs.Digits.{numberOf, digits}
+use Rattle.corrector_code.specs.Correct.{syndromes, locatorOf, markedAt, flips, Passes}
+use Rattle.corrector_code.specs.Digits.{bytesNumber, digits}
 use Rattle.corrector_code.specs.Eleven.{F11}
 use Rattle.corrector_code.proofs.Eleven.{gen11}
 use Rattle.corrector_code.proofs.Odd.{half}
 use Rattle.corrector_code.proofs.Same.{register-same}
-use Rattle.corrector_code.proofs.Complete.{row-at, both-both}
+use Rattle.corrector_code.proofs.Complete.{map-upFrom-at, difference-difference}
 use Rattle.corrector_code.proofs.Flips.{digits-xor}
-use Rattle.corrector_code.proofs.Numbers.{syndrome-square, accepted, exactly}
+use Rattle.corrector_code.proofs.Numbers.{syndrome-square, passes-within, passes-exactly}
 use Rattle.corrector_generator.specs.Rows.{generator}
 use Rattle.corrector_syndromes.specs.Remainder.{OddValues}
 use Rattle.corrector_syndromes.proofs.Zeros.{odd-syndromes}
@@ -54,8 +54,8 @@ length-row k zero = refl
 length-row k (suc n) = ap suc (length-row (suc k) n)
 
 -- the highest byte of a number that is small
-top-byte : (bytes : List ℕ) (n : ℕ) → length bytes ≡ suc n → getD bytes n 0 * 256 ^ n ≤ numberOf bytes
-unfolding numberOf
+top-byte : (bytes : List ℕ) (n : ℕ) → length bytes ≡ suc n → getD bytes n 0 * 256 ^ n ≤ bytesNumber bytes
+unfolding bytesNumber
 top-byte [] n e = absurd (omega arith)
 top-byte (b ∷ bs) zero e = omega arith
 top-byte (b ∷ bs) (suc n) e =
@@ -70,8 +70,8 @@ factor x p N a b = go (decLt x 128)
     go (yes h) = h
     go (no h) = let m : 128 * p ≤ x * p = mul-le-mul-right p (let l : 128 ≤ x = omega arith in l) in absurd (let z : ⊥ = omega arith in z)
 
-last-below : (bytes : List ℕ) → length bytes ≡ 256 → numberOf bytes < 2 ^ 2047 → getD bytes 255 0 < 128
-last-below bytes e h = factor (getD bytes 255 0) (256 ^ 255) (numberOf bytes) (top-byte bytes 255 e) h
+last-below : (bytes : List ℕ) → length bytes ≡ 256 → bytesNumber bytes < 2 ^ 2047 → getD bytes 255 0 < 128
+last-below bytes e h = factor (getD bytes 255 0) (256 ^ 255) (bytesNumber bytes) (top-byte bytes 255 e) h
 
 xor-below : (js : List ℕ) → All (λ j. j < 2047) js → xorOver (λ j. 2 ^ j) js < 2 ^ 2047
 unfolding xorOver
@@ -93,8 +93,8 @@ unfolding none places
 places-none k [] = refl
 places-none k (x ∷ w) = places-none (suc k) w
 
-none-both : (w : List Bool) → both w (none w) ≡ w
-unfolding none both
+none-both : (w : List Bool) → difference w (none w) ≡ w
+unfolding none difference
 none-both [] = refl
 none-both (true ∷ w) = ap (λ l. true ∷ l) (none-both w)
 none-both (false ∷ w) = ap (λ l. false ∷ l) (none-both w)
@@ -104,7 +104,7 @@ module _ (word : List ℕ) (t : ℕ) (b : IsBlock word) (st : IsStrength t) wher
   w = bitsOf word
 
   abbrev W : ℕ
-  W = numberOf word
+  W = bytesNumber word
 
   small : W < 2 ^ 2047
   small = block-below word (b .long) (last-small b) (b .bytes)
@@ -117,29 +117,29 @@ module _ (word : List ℕ) (t : ℕ) (b : IsBlock word) (st : IsStrength t) wher
   long-w = ap length w-digits ∙ length-digits 2047 W
 
   module _ {n : ℕ} {odd : List ℕ} (e : n ≡ reduce generator W) (v : OddValues n odd) where
-    odd-at : (k : ℕ) → k < 8 → getD odd k 0 ≡ value F11 w (power F11 2 (suc (2 * k)))
-    odd-at k h = odd-syndromes W small e v k h ∙ ap (λ (x : List Bool). value F11 x (power F11 2 (suc (2 * k)))) (sym w-digits)
+    odd-at : (k : ℕ) → k < 8 → getD odd k 0 ≡ wordValue F11 w (power F11 2 (suc (2 * k)))
+    odd-at k h = odd-syndromes W small e v k h ∙ ap (λ (x : List Bool). wordValue F11 x (power F11 2 (suc (2 * k)))) (sym w-digits)
 
     module _ (s : List ℕ) (ps : PowerSums odd s) where
-      sum-at : (f k : ℕ) → k ≤ f → 0 < k → k ≤ 16 → getD s k 0 ≡ value F11 w (power F11 2 k)
+      sum-at : (f k : ℕ) → k ≤ f → 0 < k → k ≤ 16 → getD s k 0 ≡ wordValue F11 w (power F11 2 k)
       sum-at zero k l p q = absurd (omega arith)
       sum-at (suc f) k l p q =
           ⊎-elim (λ h. even (h .0) (h .1) (sum-at f (h .0) (omega (arith, h .1)) (omega (arith, h .1)) (omega (arith, h .1))))
-          (λ h. ap (λ (m : ℕ). getD s m 0) (h .1) ∙ ps .odd-is (h .0) (omega (arith, h .1)) ∙ odd-at (h .0) (omega (arith, h .1)) ∙ ap (λ (m : ℕ). value F11 w (power F11 2 m)) (sym (h .1))) (half k)
+          (λ h. ap (λ (m : ℕ). getD s m 0) (h .1) ∙ ps .odd-is (h .0) (omega (arith, h .1)) ∙ odd-at (h .0) (omega (arith, h .1)) ∙ ap (λ (m : ℕ). wordValue F11 w (power F11 2 m)) (sym (h .1))) (half k)
         where
-          even : (i : ℕ) → k ≡ 2 * i → getD s i 0 ≡ value F11 w (power F11 2 i) → getD s k 0 ≡ value F11 w (power F11 2 k)
+          even : (i : ℕ) → k ≡ 2 * i → getD s i 0 ≡ wordValue F11 w (power F11 2 i) → getD s k 0 ≡ wordValue F11 w (power F11 2 k)
           even i h ih =
               let m : k ≡ suc (suc (2 * (i - 1))) = omega arith in
               let c : suc (i - 1) ≡ i = omega arith in
               ap (λ (m : ℕ). getD s m 0) m ∙ ps .even-is (i - 1) (omega arith) ∙ ap (λ (m : ℕ). mul (fieldAt 11) (getD s m 0) (getD s m 0)) c
-              ∙ ap (λ (x : ℕ). mul (fieldAt 11) x x) ih ∙ sym (syndrome-square (fieldAt 11) gen11 w i) ∙ ap (λ (m : ℕ). value F11 w (power F11 2 m)) (sym h)
+              ∙ ap (λ (x : ℕ). mul (fieldAt 11) x x) ih ∙ sym (syndrome-square (fieldAt 11) gen11 w i) ∙ ap (λ (m : ℕ). wordValue F11 w (power F11 2 m)) (sym h)
 
       coef-at : (k : ℕ) → k ≤ 2 * t → getD s k 0 ≡ coef F11 (syndromes F11 2 t w) k
       unfolding syndromes
       coef-at zero h = ps .first
       coef-at (suc k) h =
           sum-at 16 (suc k) (let m = st .most in omega arith) (omega arith) (let m = st .most in omega arith)
-          ∙ sym (row-at 0 (λ i. value F11 w (power F11 2 i)) 1 (2 * t) k h ∙ ap (λ (m : ℕ). value F11 w (power F11 2 m)) (let z : 1 + k ≡ suc k = omega arith in z))
+          ∙ sym (map-upFrom-at 0 (λ i. wordValue F11 w (power F11 2 i)) 1 (2 * t) k h ∙ ap (λ (m : ℕ). wordValue F11 w (power F11 2 m)) (let z : 1 + k ≡ suc k = omega arith in z))
 
       p : List ℕ
       p = register F11 8 (λ j. getD s j 0) t .locator
@@ -166,7 +166,7 @@ module _ (word : List ℕ) (t : ℕ) (b : IsBlock word) (st : IsStrength t) wher
       f = map test (upFrom 0 2047)
 
       f-is : f ≡ flips F11 2 t w
-      unfolding f test flips marked
+      unfolding f test flips markedAt
       f-is = ap₂ (λ (q : List ℕ) (m : ℕ). map (λ j. isRoot F11 q (inverse (fieldAt 11) (power F11 2 j))) (upFrom 0 m)) p-is (sym long-w)
 
       long-f : length f ≡ 2047
@@ -201,7 +201,7 @@ module _ (word : List ℕ) (t : ℕ) (b : IsBlock word) (st : IsStrength t) wher
       unfolding js w
       none-within never v h =
           let some : (x : List Bool) × Near t w x = (bitsOf v, within-bits h) in
-          let p = exactly (fieldAt 11) gen11 t w (st .most) (let l = long-w in omega arith) .1 some in
+          let p = passes-exactly (fieldAt 11) gen11 t w (st .most) (let l = long-w in omega arith) .1 some in
           never (acceptable (subst (Passes F11 2 t w) (sym f-is) p))
 
       after : List ℕ
@@ -214,39 +214,39 @@ module _ (word : List ℕ) (t : ℕ) (b : IsBlock word) (st : IsStrength t) wher
       unfolding after
       fl = flipped js word below (b .long) (b .bytes)
 
-      after-small : numberOf after < 2 ^ 2047
+      after-small : bytesNumber after < 2 ^ 2047
       after-small =
           subst (λ (m : ℕ). m < 2 ^ 2047) (sym (fl .number))
           (xor-lt 2047 W (xorOver (λ j. 2 ^ j) js) small (xor-below js below))
 
-      bits-after : bitsOf after ≡ both w f
+      bits-after : bitsOf after ≡ difference w f
       bits-after =
           bits-digits after (fl .bytes-fit) ∙ ap (digits 2047) (fl .number) ∙ digits-xor 2047 W (xorOver (λ j. 2 ^ j) js)
-          ∙ ap₂ both (sym w-digits) (ap (digits 2047) (sym (sums (λ j. 2 ^ j))) ∙ word-back f long-f)
+          ∙ ap₂ difference (sym w-digits) (ap (digits 2047) (sym (sums (λ j. 2 ^ j))) ∙ word-back f long-f)
 
       -- WHERE THEY ARE, FLIPPING THEM MAKES THE CODEWORD
       pub flipped-within : Acceptable odd t (named s t) → Within t word (flipAll (named s t) word)
       unfolding js w after
       flipped-within a =
           within-block (make-block (fl .long) (fl .bytes-fit) (last-below after (fl .long) after-small))
-          (subst (Near t w) (sym bits-after) (accepted (fieldAt 11) gen11 t w f (long-f ∙ sym long-w) (passes a)))
+          (subst (Near t w) (sym bits-after) (passes-within (fieldAt 11) gen11 t w f (long-f ∙ sym long-w) (passes a)))
 
       -- by so many flips
       pub flipped-distance : length (named s t) ≡ blocks.distance word (flipAll (named s t) word)
       unfolding js w after
       flipped-distance = sym
-          (distance-bits word after ∙ ap (distance w) bits-after
-          ∙ ap (λ (x : List Bool). length (places 0 x)) (both-both w f (long-f ∙ sym long-w)) ∙ count)
+          (distance-bits word after ∙ ap (bitDistance w) bits-after
+          ∙ ap (λ (x : List Bool). length (places 0 x)) (difference-difference w f (long-f ∙ sym long-w)) ∙ count)
 
     -- A WORD WHOSE SYNDROMES ARE 0 IS A CODEWORD
     pub clean-within : ((k : ℕ) → k < t → getD odd k 0 ≡ 0) → Within t word word
     unfolding w total
-    clean-within z = within-block b (subst (Near t w) (none-both w) (accepted (fieldAt 11) gen11 t w (none w) (length-none w) (few, sum)))
+    clean-within z = within-block b (subst (Near t w) (none-both w) (passes-within (fieldAt 11) gen11 t w (none w) (length-none w) (few, sum)))
       where
         few : length (places 0 (none w)) ≤ t
         few = subst (λ (l : List ℕ). length l ≤ t) (sym (places-none 0 w)) (omega arith)
 
-        sum : (i : ℕ) → i < t → total F11 (λ x. power F11 x (suc (2 * i))) (locators F11 2 (none w)) ≡ value F11 w (power F11 2 (suc (2 * i)))
+        sum : (i : ℕ) → i < t → total F11 (λ x. power F11 x (suc (2 * i))) (locators F11 2 (none w)) ≡ wordValue F11 w (power F11 2 (suc (2 * i)))
         sum i l =
             ap (λ (m : List ℕ). total F11 (λ x. power F11 x (suc (2 * i))) (map (power F11 2) m)) (places-none 0 w)
             ∙ sym (sym (odd-at i (let m = st .most in omega arith)) ∙ z i l)

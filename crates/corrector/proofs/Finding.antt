@@ -1,10 +1,10 @@
 -- The roots of a locator polynomial, whichever engine finds them.
---   leading, within         a polynomial that is not 0 has a leading coefficient, at one of its places
---   one-front               of degree 1 and made monic, its constant is its root
---   low-asks, low-front     of degree at most 2 and made monic, it can be solved, and its roots are the polynomial's
---   low-few                 which are not many
---   front-copied            a list that the roots were copied to has them in front
---   findable                a locator polynomial can be given to them
+--   leading-there, low-within     a polynomial that is not 0 has a leading coefficient, at one of its places
+--   one-front                     of degree 1 and made monic, its constant is its root
+--   low-asks, low-front           of degree at most 2 and made monic, it can be solved, and its roots are the polynomial's
+--   low-few                       which are not many
+--   front-copied                  a list that the roots were copied to has them in front
+--   findable                      a locator polynomial can be given to them
 -- Assumes nothing.
 use mathlib.Core.Path.{_≡_, refl, sym, ap, _∙_, subst}
 use mathlib.Core.Bool.{Bool, true, false, _&&_}
@@ -29,7 +29,7 @@ use Rattle.slices.proofs.Bounded.{allBelow-exactly}
 use Rattle.slices.proofs.Lists.{copied-front}
 use Rattle.field.specs.Field.{fieldAt, G, rootsAt}
 use Rattle.field.specs.Tables.{Halves}
-use Rattle.poly.specs.Monic.{front, MadeMonic}
+use Rattle.poly.specs.Monic.{monicLow, MadeMonic}
 use Rattle.poly_small.specs.Roots.{Front, Lowly}
 use Rattle.table_rules.specs.Limit.{limit}
 use Rattle.table_rules.specs.Polynomials.{PolynomialIn}
@@ -53,31 +53,31 @@ take-set (y ∷ out) x h = refl
 
 module _ {f out y : List ℕ} {j : ℕ} (g : Findable f out) (d : MadeMonic 11 f j y) where
   -- a polynomial that is not 0 has a leading coefficient
-  pub leading : 0 < j
-  unfolding front
-  leading = go (decLt 0 j)
+  pub leading-there : 0 < j
+  unfolding monicLow
+  leading-there = go (decLt 0 j)
     where
       go : Dec (0 < j) → 0 < j
       go (yes p) = p
       go (no n) =
-          let none-left : norm (G 11) (length f) f ≡ none = d .made ∙ ap (λ i. front i y) (let z : j ≡ 0 = omega arith in z) in
+          let none-left : norm (G 11) (length f) f ≡ none = d .made ∙ ap (λ i. monicLow i y) (let z : j ≡ 0 = omega arith in z) in
           let zeros : allZero f ≡ true =
           allBelow-exactly 1 f .1 (below-from 1 f (λ i l. let z : getD f i 0 ≡ 0 = norm-none eleven f (g .polynomial .small) none-left i in omega arith)) in
           absurd (let b : _≡_ {A = Bool} true false = sym zeros ∙ g .polynomial .nonzero in let o : _≡_ {A = ℕ} 0 1 = cc in let x : ⊥ = omega arith in x)
 
   -- at one of its places
-  pub within : j - 1 ≤ length y
-  within = omega (arith, d .within, d .long)
+  pub low-within : j - 1 ≤ length y
+  low-within = omega (arith, d .within, d .long)
 
   -- the low coefficients of the monic polynomial
   lead : norm (G 11) (length f) f ≡ some (take (j - 1) y)
-  unfolding front
-  lead = let back : suc (j - 1) ≡ j = omega (arith, leading) in d .made ∙ ap (λ i. front i y) (sym back)
+  unfolding monicLow
+  lead = let back : suc (j - 1) ≡ j = omega (arith, leading-there) in d .made ∙ ap (λ i. monicLow i y) (sym back)
 
   -- the one root
   pub one-front : j - 1 ≡ 1 → Front (rootsAt 11 f) 1 (set out 0 (getD y 0 0))
   one-front e =
-      let one : take (j - 1) y ≡ getD y 0 0 ∷ [] = ap (λ n. take n y) e ∙ take-one y (omega (arith, within)) in
+      let one : take (j - 1) y ≡ getD y 0 0 ∷ [] = ap (λ n. take n y) e ∙ take-one y (omega (arith, low-within)) in
       let small : Below 2048 (getD y 0 0 ∷ []) = subst (Below 2048) one (norm-below eleven (length f) f (g .polynomial .small) lead) in
       let roots : rootsAt 11 f ≡ getD y 0 0 ∷ [] =
       sym (rootsOf-norm eleven f (g .polynomial .small) lead) ∙ ap (λ p. rootsOf (G 11) 2048 (monic (G 11) p)) one ∙ rootsOf-one eleven (getD y 0 0) (small .0) in
@@ -89,8 +89,8 @@ module _ {f out y : List ℕ} {j : ℕ} (g : Findable f out) (d : MadeMonic 11 f
     degree = row11 .degree;
     halves = h;
     small = norm-below eleven (length f) f (g .polynomial .small) lead;
-    low = omega (arith, length-take-le (j - 1) y within);
-    room = omega (arith, g .room, length-take-le (j - 1) y within);
+    low = omega (arith, length-take-le (j - 1) y low-within);
+    room = omega (arith, g .room, length-take-le (j - 1) y low-within);
   }
 
   module _ {k : ℕ} {list : List ℕ} (h : Front (rootsAt 11 (monic (G 11) (take (j - 1) y))) k list) where
@@ -100,7 +100,7 @@ module _ {f out y : List ℕ} {j : ℕ} (g : Findable f out) (d : MadeMonic 11 f
 
     -- no more than there are low coefficients
     pub low-few : k ≤ j - 1
-    low-few = omega (arith, h .count, rootsOf-count eleven (take (j - 1) y) (norm-below eleven (length f) f (g .polynomial .small) lead), length-take-le (j - 1) y within)
+    low-few = omega (arith, h .count, rootsOf-count eleven (take (j - 1) y) (norm-below eleven (length f) f (g .polynomial .small) lead), length-take-le (j - 1) y low-within)
 
 -- ---- the trace engine
 

@@ -21,7 +21,7 @@ use Rattle.algebra.proofs.RootList.{rootsOf-distinct, rootsOf-member}
 use Rattle.algebra.proofs.Trial.{all-at}
 use Rattle.field.specs.Field.{fieldAt, mul, inverse, position, rootsAt}
 use Rattle.field.proofs.Ring.{ring, RingLaws, power-lt, power-add}
-use Rattle.field.proofs.Generator.{unit, inverse-lt, inverse-only, mul-inverse, position-only, position-is, power-order}
+use Rattle.field.proofs.Generator.{one-below, inverse-lt, inverse-only, mul-inverse, position-only, position-is, power-order}
 use Rattle.field_elements.specs.Calls.{positionUnder}
 use Rattle.field_elements.proofs.Mirror.{goppa, of-inverse}
 use Rattle.corrector_code.specs.Eleven.{F11}
@@ -62,14 +62,14 @@ power-positive j h = go (power F11 2 j) refl
         absurd (let b : ⊥ = omega arith in b)
       where
         sum : mul (fieldAt 11) (power F11 2 j) (power F11 2 (2047 - j)) ≡ 1
-        sum = sym (power-add (fieldAt 11) (gen11 .monic) (unit (fieldAt 11) gen11) 2 j (2047 - j)) ∙ ap (power F11 2) (let e : j + (2047 - j) ≡ 2047 = omega arith in e) ∙ power-order (fieldAt 11) gen11
+        sum = sym (power-add (fieldAt 11) (gen11 .monic) (one-below (fieldAt 11) gen11) 2 j (2047 - j)) ∙ ap (power F11 2) (let e : j + (2047 - j) ≡ 2047 = omega arith in e) ∙ power-order (fieldAt 11) gen11
     go (suc y) e = omega arith
 
 place-back : (j : ℕ) → j < 2047 → positionUnder 1 (fieldAt 11) (inverse (fieldAt 11) (power F11 2 j)) ≡ j
 place-back j h =
     let x : ℕ = power F11 2 j in
     let p : 0 < x = power-positive j h in
-    let l : x < 2048 = power-lt (fieldAt 11) (gen11 .monic) (unit (fieldAt 11) gen11) 2 j in
+    let l : x < 2048 = power-lt (fieldAt 11) (gen11 .monic) (one-below (fieldAt 11) gen11) 2 j in
     place-is (inverse (fieldAt 11) x) (inverse-positive x p l) (inverse-lt (fieldAt 11) gen11 x) ∙ ap (position (fieldAt 11)) (inverse-twice x p l) ∙ position-only (fieldAt 11) gen11 x j h refl
 
 -- ---- members and distinctness of a list of images

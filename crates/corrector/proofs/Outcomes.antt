@@ -3,7 +3,7 @@
 --   odd-under                the odd syndromes are elements
 --   located-yes, located-no  good places, and none
 --   clean, spotless          nothing to flip: by the remainder, and by the syndromes
---   flipped, refused         the places flipped;  no codeword near
+--   flipped, far-refused     the places flipped;  no codeword near
 -- Assumes nothing.
 use mathlib.Core.Path.{_≡_, refl, sym, ap, ap₂, _∙_, subst}
 use mathlib.Core.Bool.{Bool, true, false}
@@ -13,15 +13,15 @@ use native.Mathlib.Decide.{decLt}
 use native.Mathlib.Omega.{arith}
 use lib.ListN.{length, getD, replicate}
 use Rattle.field.specs.Field.{fieldAt, reduce}
-use Rattle.field.proofs.Generator.{unit}
-use Rattle.corrector_code.specs.Digits.{numberOf, at}
+use Rattle.field.proofs.Generator.{one-below}
+use Rattle.corrector_code.specs.Digits.{bytesNumber, valueOfDigits}
 use Rattle.corrector_code.proofs.Eleven.{gen11}
-use Rattle.corrector_code.proofs.Values.{at-lt, at-zero}
+use Rattle.corrector_code.proofs.Values.{valueOfDigits-lt, valueOfDigits-zero}
 use Rattle.corrector_generator.specs.Rows.{generator}
 use Rattle.corrector_syndromes.specs.Remainder.{restOf, oddPower, OddValues}
 use Rattle.corrector_syndromes.specs.declared.Rest.{Rest}
 use Rattle.corrector_locator.specs.Under.{Under, PowerSums}
-use Rattle.corrector.specs.Places.{named, placesIn, flipAll, Holds, Few8, Acceptable, Either, Located, Tells}
+use Rattle.corrector.specs.Places.{named, placesIn, flipAll, HoldsPlaces, Few8, Acceptable, Either, Located, Tells}
 use Rattle.corrector.specs.Correcting.{distance, IsBlock, IsStrength, Within, Corrects}
 use Rattle.corrector.specs.Correcting.Corrects.{none-near, mended}
 use Rattle.corrector.specs.declared.Places.{Places}
@@ -43,17 +43,17 @@ pub odd-under : {n : ℕ} {odd : List ℕ} → OddValues n odd → Under odd
 odd-under {n} {odd} v k = go (decLt k 8)
   where
     go : Dec (k < 8) → getD odd k 0 < 2048
-    go (yes h) = subst (λ (x : ℕ). x < 2048) (sym (v .value k h)) (at-lt (fieldAt 11) (gen11 .monic) (unit (fieldAt 11) gen11) (oddPower k) n)
+    go (yes h) = subst (λ (x : ℕ). x < 2048) (sym (v .value k h)) (valueOfDigits-lt (fieldAt 11) (gen11 .monic) (one-below (fieldAt 11) gen11) (oddPower k) n)
     go (no h) = subst (λ (x : ℕ). x < 2048) (sym (past-end odd k (let l = v .long in omega arith))) (omega arith)
 
 -- good places
-pub located-yes : (odd : List ℕ) (t : ℕ) (p : Places) → Located odd t p → p .good ≡ true → (s : List ℕ) × PowerSums odd s × Holds (named s t) p × Acceptable odd t (named s t)
+pub located-yes : (odd : List ℕ) (t : ℕ) (p : Places) → Located odd t p → p .good ≡ true → (s : List ℕ) × PowerSums odd s × HoldsPlaces (named s t) p × Acceptable odd t (named s t)
 located-yes odd t p l e =
-    let h = subst (λ b. Either b (Holds (named (l .0) t) p × Acceptable odd t (named (l .0) t)) (Acceptable odd t (named (l .0) t) → ⊥)) e (l .2) in
+    let h = subst (λ b. Either b (HoldsPlaces (named (l .0) t) p × Acceptable odd t (named (l .0) t)) (Acceptable odd t (named (l .0) t) → ⊥)) e (l .2) in
     (l .0, l .1, h .0, h .1)
 
 pub located-no : (odd : List ℕ) (t : ℕ) (p : Places) → Located odd t p → p .good ≡ false → (s : List ℕ) × PowerSums odd s × (Acceptable odd t (named s t) → ⊥)
-located-no odd t p l e = (l .0, l .1, subst (λ b. Either b (Holds (named (l .0) t) p × Acceptable odd t (named (l .0) t)) (Acceptable odd t (named (l .0) t) → ⊥)) e (l .2))
+located-no odd t p l e = (l .0, l .1, subst (λ b. Either b (HoldsPlaces (named (l .0) t) p × Acceptable odd t (named (l .0) t)) (Acceptable odd t (named (l .0) t) → ⊥)) e (l .2))
 
 module _ (word : List ℕ) (t : ℕ) (b : IsBlock word) (st : IsStrength t) where
   -- a codeword near, at so many flips
@@ -61,14 +61,14 @@ module _ (word : List ℕ) (t : ℕ) (b : IsBlock word) (st : IsStrength t) wher
   mended-by n after h e = subst (λ (m : ℕ). Corrects t word (0, m ∷ []) after) (sym e) (mended b st h)
 
   -- the first t syndromes are 0
-  pub spotless : {n : ℕ} {odd : List ℕ} → n ≡ reduce generator (numberOf word) → OddValues n odd
+  pub spotless : {n : ℕ} {odd : List ℕ} → n ≡ reduce generator (bytesNumber word) → OddValues n odd
       → ((k : ℕ) → k < t → getD odd k 0 ≡ 0) → Corrects t word (0, 0 ∷ []) word
   spotless e v z = mended-by 0 word (clean-within word t b st e v z) (sym (distance-self word))
 
   -- the remainder is 0
-  pub clean : (r : Rest) → restOf r ≡ reduce generator (numberOf word) → r .lo ≡ 0 → r .hi ≡ 0 → Corrects t word (0, 0 ∷ []) word
+  pub clean : (r : Rest) → restOf r ≡ reduce generator (bytesNumber word) → r .lo ≡ 0 → r .hi ≡ 0 → Corrects t word (0, 0 ∷ []) word
   clean r e x y =
-      let z : 0 ≡ reduce generator (numberOf word) = sym (ap₂ (λ (h l : ℕ). h * 2 ^ 64 + l) y x) ∙ e in
+      let z : 0 ≡ reduce generator (bytesNumber word) = sym (ap₂ (λ (h l : ℕ). h * 2 ^ 64 + l) y x) ∙ e in
       spotless {n = 0} {odd = zeros} z (record { long = refl; value = λ k h. zero-at k ∙ sym (none-at k) }) (λ k h. zero-at k)
     where
       zeros : List ℕ
@@ -85,10 +85,10 @@ module _ (word : List ℕ) (t : ℕ) (b : IsBlock word) (st : IsStrength t) wher
       zero-at (suc (suc (suc (suc (suc (suc (suc zero))))))) = refl
       zero-at (suc (suc (suc (suc (suc (suc (suc (suc k)))))))) = refl
 
-      none-at : (k : ℕ) → at (fieldAt 11) (oddPower k) 0 ≡ 0
-      none-at k = at-zero (fieldAt 11) (gen11 .monic) (unit (fieldAt 11) gen11) (oddPower k)
+      none-at : (k : ℕ) → valueOfDigits (fieldAt 11) (oddPower k) 0 ≡ 0
+      none-at k = valueOfDigits-zero (fieldAt 11) (gen11 .monic) (one-below (fieldAt 11) gen11) (oddPower k)
 
-  module _ {n : ℕ} {odd : List ℕ} (e : n ≡ reduce generator (numberOf word)) (v : OddValues n odd) (p : Places) (l : Located odd t p) where
+  module _ {n : ℕ} {odd : List ℕ} (e : n ≡ reduce generator (bytesNumber word)) (v : OddValues n odd) (p : Places) (l : Located odd t p) where
     -- good places, flipped
     pub flipped : (after : List ℕ) → p .good ≡ true → after ≡ flipAll (placesIn p) word → Corrects t word (0, p .n ∷ []) after
     flipped after g f =
@@ -99,7 +99,7 @@ module _ (word : List ℕ) (t : ℕ) (b : IsBlock word) (st : IsStrength t) wher
         mended-by (p .n) after near (h .2 .count ∙ flipped-distance word t b st e v (h .0) (h .1) ∙ ap (distance word) (sym a))
 
     -- none near
-    pub refused : p .good ≡ false → Corrects t word (24, []) word
-    refused g =
+    pub far-refused : p .good ≡ false → Corrects t word (24, []) word
+    far-refused g =
         let h = located-no odd t p l g in
         none-near b st (none-within word t b st e v (h .0) (h .1) (h .2))

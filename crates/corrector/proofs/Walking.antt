@@ -1,10 +1,10 @@
 -- The loops over places: what is summed, what is flipped, and what is stored.
---   power-at, product-small                     the table at (j k) mod 2047, and that the product fits
---   Summing, sum-from, sum-on, sum-end          the loop of a power sum
---   Flipping, flip-from, flip-on, flip-end      the loop of the flips
---   Storing, store-from, store-on               the loop that stores the places
---   agree-on, agree-not                         the comparison of the sums
---   false-never                                 false is not true
+--   power-at, product-small                                            the table at (j k) mod 2047, and that the product fits
+--   SummingPlaces, sum-places-from, sum-places-on, sum-places-end      the loop of a power sum
+--   Flipping, flip-from, flip-on, flip-end                             the loop of the flips
+--   Storing, store-from, store-on                                      the loop that stores the places
+--   agree-on, agree-not                                                the comparison of the sums
+--   false-never                                                        false is not true
 -- Assumes nothing.
 use mathlib.Core.Path.{_≡_, refl, sym, ap, ap₂, _∙_, subst}
 use mathlib.Core.Logic.{_≢_, ⊎-elim}
@@ -23,8 +23,8 @@ use Rattle.algebra.specs.Trial.{All}
 use Rattle.field.specs.Field.{fieldAt, mul}
 use Rattle.field.specs.Tables.{antilogOf, Antilogs}
 use Rattle.field.proofs.Xor.{xor-assoc}
-use Rattle.field.proofs.Ring.{ring, RingLaws, power-add, power-mul, power-lt}
-use Rattle.field.proofs.Generator.{unit, power-order}
+use Rattle.field.proofs.Ring.{ring, RingLaws, power-add, power-of-power, power-lt}
+use Rattle.field.proofs.Generator.{one-below, power-order}
 use Rattle.field_elements.specs.Calls.{positionUnder}
 use Rattle.corrector_code.specs.Eleven.{F11}
 use Rattle.corrector_code.proofs.Eleven.{gen11}
@@ -38,9 +38,9 @@ power-cycle : (q r : ℕ) → power F11 2 (2047 * q + r) ≡ power F11 2 r
 power-cycle zero r = ap (power F11 2) (let e : 2047 * 0 + r ≡ r = omega arith in e)
 power-cycle (suc q) r =
     ap (power F11 2) (let e : 2047 * suc q + r ≡ 2047 + (2047 * q + r) = omega arith in e)
-    ∙ power-add (fieldAt 11) (gen11 .monic) (unit (fieldAt 11) gen11) 2 2047 (2047 * q + r)
+    ∙ power-add (fieldAt 11) (gen11 .monic) (one-below (fieldAt 11) gen11) 2 2047 (2047 * q + r)
     ∙ ap₂ (mul (fieldAt 11)) (power-order (fieldAt 11) gen11) (power-cycle q r)
-    ∙ mul-one-l (power F11 2 r) (power-lt (fieldAt 11) (gen11 .monic) (unit (fieldAt 11) gen11) 2 r)
+    ∙ mul-one-l (power F11 2 r) (power-lt (fieldAt 11) (gen11 .monic) (one-below (fieldAt 11) gen11) 2 r)
 
 antilog-power : (j : ℕ) → j < 2047 → antilogOf (fieldAt 11) j ≡ power F11 2 j
 unfolding antilogOf
@@ -52,7 +52,7 @@ power-at A j k =
     let m : ℕ = j * k in
     A .entry (m % 2047) (omega arith)
     ∙ antilog-power (m % 2047) (omega arith) ∙ sym (power-cycle (m / 2047) (m % 2047)) ∙ ap (power F11 2) (let e : 2047 * (m / 2047) + m % 2047 ≡ m = omega arith in e)
-    ∙ power-mul (fieldAt 11) (gen11 .monic) (unit (fieldAt 11) gen11) 2 j k
+    ∙ power-of-power (fieldAt 11) (gen11 .monic) (one-below (fieldAt 11) gen11) 2 j k
 
 pub product-small : (a k : ℕ) → a < 2047 → k < 100 → a * k < 4294967296
 product-small a k h l =
@@ -66,24 +66,24 @@ unfolding xorOver
 xor-snoc g [] j = xor-zero-r (g j)
 xor-snoc g (x ∷ l) j = ap (bitXor (g x)) (xor-snoc g l j) ∙ sym (xor-assoc (g x) (xorOver g l) (g j))
 
-pub record Summing (at : List ℕ) (k n sum i : ℕ) : Type 0 where
+pub record SummingPlaces (at : List ℕ) (k n sum i : ℕ) : Type 0 where
   pub within : i ≤ n
   pub done : sum ≡ sumAt (take i at) k
 
-pub sum-from : (at : List ℕ) (k n : ℕ) → Summing at k n 0 0
+pub sum-places-from : (at : List ℕ) (k n : ℕ) → SummingPlaces at k n 0 0
 unfolding xorOver
-sum-from at k n = record { within = omega arith; done = refl }
+sum-places-from at k n = record { within = omega arith; done = refl }
 
-pub sum-on : {at : List ℕ} {k n sum i : ℕ} (v : ℕ) → Summing at k n sum i → i < n → i < length at → v ≡ power F11 (power F11 2 (getD at i 0)) k → Summing at k n (bitXor sum v) (i + 1)
-sum-on {at} {k} {n} {sum} {i} v w h l e = record {
+pub sum-places-on : {at : List ℕ} {k n sum i : ℕ} (v : ℕ) → SummingPlaces at k n sum i → i < n → i < length at → v ≡ power F11 (power F11 2 (getD at i 0)) k → SummingPlaces at k n (bitXor sum v) (i + 1)
+sum-places-on {at} {k} {n} {sum} {i} v w h l e = record {
   within = omega arith;
   done =
       ap₂ bitXor (w .done) e ∙ sym (xor-snoc (λ j. power F11 (power F11 2 j) k) (take i at) (getD at i 0))
       ∙ ap (λ (s : List ℕ). sumAt s k) (sym (ap (λ (m : ℕ). take m at) (add-one i) ∙ take-suc at i 0 l));
 }
 
-pub sum-end : {at : List ℕ} {k n sum i : ℕ} → Summing at k n sum i → n ≤ i → sum ≡ sumAt (take n at) k
-sum-end {at} {k} {n} {sum} {i} w h = let z : i ≡ n = (let l = w .within in omega arith) in w .done ∙ ap (λ (m : ℕ). sumAt (take m at) k) z
+pub sum-places-end : {at : List ℕ} {k n sum i : ℕ} → SummingPlaces at k n sum i → n ≤ i → sum ≡ sumAt (take n at) k
+sum-places-end {at} {k} {n} {sum} {i} w h = let z : i ≡ n = (let l = w .within in omega arith) in w .done ∙ ap (λ (m : ℕ). sumAt (take m at) k) z
 
 -- ---- flips
 

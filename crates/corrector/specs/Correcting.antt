@@ -9,7 +9,7 @@
 --   IsCodeword t word   zero at a^1 to a^(2t)
 --   Within t word v     v is a codeword of strength t that differs from the word in at most t bits
 --   Corrects            THE CONTRACT: the outcome for t and a word, and what the lent word holds afterwards
---   paperCorrected      the number and the value of an answer
+--   toldCorrected       the number and the value of an answer
 -- Assumes nothing.
 use mathlib.Core.Path.{_≡_}
 use mathlib.Core.Bool.{not}
@@ -66,6 +66,6 @@ pub data Corrects (t : ℕ) (word : List ℕ) : ℕ × List ℕ → List ℕ →
   mended : {v : List ℕ} → IsBlock word → IsStrength t → Within t word v → Corrects t word (0, distance word v ∷ []) v
 
 -- the number and the value of an answer
-abbrev pub paperCorrected : Corrected → ℕ × List ℕ
-paperCorrected (Flips n) = (0, n ∷ [])
-paperCorrected (NotCorrected k) = (numberOf k, [])
+abbrev pub toldCorrected : Corrected → ℕ × List ℕ
+toldCorrected (Flips n) = (0, n ∷ [])
+toldCorrected (NotCorrected k) = (numberOf k, [])

@@ -1,17 +1,17 @@
 -- The places that a locator polynomial names, and how they are judged and flipped.
 -- Inner contracts alone cite it: what the corrector promises does not rest on it.
---   xorOver g js          the sum of g(j) over the places j
---   placesOf p            the positions of the roots of p under the recorders' convention
---   sumAt js i            the sum of a^(ij) over the places j
---   Acceptable odd t js   at most t places, whose first t odd power sums are the odd syndromes;  Agrees  only that
---   named s t             the places that the register names after t turns on the power sums s
---   placesIn p            the places that a struct holds
---   flipAll js bytes      the bytes, with bit j flipped for each place j
---   Findable p list       a locator polynomial, and room for its roots
---   Placing, Placed       roots whose places are asked for, and their places
---   Few8 p, Holds js p    a struct holds at most eight places of a word; it holds these
---   Either, Tells         one of two by a test; what a test's answer says
---   Spotted, Located      the places of a locator polynomial, and those to flip, unless they are too many or disagree
+--   xorOver g js               the sum of g(j) over the places j
+--   placesOf p                 the positions of the roots of p under the recorders' convention
+--   sumAt js i                 the sum of a^(ij) over the places j
+--   Acceptable odd t js        at most t places, whose first t odd power sums are the odd syndromes;  Agrees  only that
+--   named s t                  the places that the register names after t turns on the power sums s
+--   placesIn p                 the places that a struct holds
+--   flipAll js bytes           the bytes, with bit j flipped for each place j
+--   Findable p list            a locator polynomial, and room for its roots
+--   Placing, Placed            roots whose places are asked for, and their places
+--   Few8 p, HoldsPlaces js p   a struct holds at most eight places of a word; it holds these
+--   Either, Tells              one of two by a test; what a test's answer says
+--   Spotted, Located           the places of a locator polynomial, and those to flip, unless they are too many or disagree
 -- Assumes nothing.
 use mathlib.Core.Path.{_≡_}
 use mathlib.Core.Bool.{Bool, true, false}
@@ -89,7 +89,7 @@ abbrev pub Agrees : List ℕ → ℕ → List ℕ → Type 0
 Agrees odd t js = (i : ℕ) → i < t → sumAt js (suc (2 * i)) ≡ getD odd i 0
 
 -- what a struct of places holds: these
-pub record Holds (js : List ℕ) (p : Places) : Type 0 where
+pub record HoldsPlaces (js : List ℕ) (p : Places) : Type 0 where
   pub count : p .n ≡ length js
   pub places : placesIn p ≡ js
   pub fits : Few8 p
@@ -101,13 +101,13 @@ Either false A B = B
 
 -- the places of a locator polynomial, unless there are more than t
 abbrev pub Spotted : List ℕ → ℕ → Places → Type 0
-Spotted js t p = Either (p .good) (Holds js p × (length js ≤ t)) (t < length js)
+Spotted js t p = Either (p .good) (HoldsPlaces js p × (length js ≤ t)) (t < length js)
 
 -- the places to flip for these odd syndromes, unless they are not acceptable
 abbrev pub Located : List ℕ → ℕ → Places → Type 0
 Located odd t p =
     (s : List ℕ) × PowerSums odd s
-    × Either (p .good) (Holds (named s t) p × Acceptable odd t (named s t)) (Acceptable odd t (named s t) → ⊥)
+    × Either (p .good) (HoldsPlaces (named s t) p × Acceptable odd t (named s t)) (Acceptable odd t (named s t) → ⊥)
 
 -- a test's answer
 abbrev pub Tells : Type 0 → Bool → Type 0

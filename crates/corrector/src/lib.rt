@@ -16,7 +16,7 @@ ghost use Rattle.poly_small.specs.Roots.{Front};
 ghost use Rattle.corrector_locator.specs.Under.{Under};
 ghost use Rattle.corrector.specs.Places.{placesOf, sumAt, placesIn, flipAll, Findable, Placing, Placed, Few8};
 ghost use Rattle.corrector.specs.Places.{Spotted, Located, Tells, Agrees};
-ghost use Rattle.corrector.specs.Correcting.{IsBlock, IsStrength, Corrects, paperCorrected};
+ghost use Rattle.corrector.specs.Correcting.{IsBlock, IsStrength, Corrects, toldCorrected};
 use field::arithmetic::position_of;
 use field_tables::constants::antilogs11;
 use field_tables::constants::halves11;
@@ -78,7 +78,7 @@ fn roots_of(logs: &[u16], antilogs: &[u16], locator: [u16; 9], roots: &mut [u16]
 }
 
 // The place of a root: its position under the recorders' convention.
-fn place(logs: &[u16], r: u16) -> u16
+fn place_of(logs: &[u16], r: u16) -> u16
     requires { ⌜ Logs (fieldAt 11) (now logs) × (0 < r) × (r < 2048) ⌝ }
     ensures { λ j. ⌜ j ≡ positionUnder 1 (fieldAt 11) r ⌝ }
 {
@@ -93,7 +93,7 @@ fn places_of(logs: &[u16], roots: &[u16], n: u16) -> Places
     let mut at: [u16; 8] = [0; 8];
     let mut i: usize = 0;
     while i < n as usize {
-        at[i] = place(logs, roots[i]);
+        at[i] = place_of(logs, roots[i]);
         i += 1;
     }
     Places {
@@ -230,9 +230,9 @@ fn flip(word: &mut [u8], p: Places)
 }
 
 // A block at a strength: the word becomes the codeword near it, if there is one.
-fn mend(strength: u16, word: &mut [u8]) -> Corrected
+fn mend_block(strength: u16, word: &mut [u8]) -> Corrected
     requires { ⌜ IsBlock (now word) × IsStrength strength ⌝ }
-    ensures { λ r. ⌜ Corrects strength (now (word .entry)) (paperCorrected r) (now (word .exit)) ⌝ }
+    ensures { λ r. ⌜ Corrects strength (now (word .entry)) (toldCorrected r) (now (word .exit)) ⌝ }
 {
     let r = corrector_syndromes::word_rest(word);
     if r.lo == 0 && r.hi == 0 {
@@ -254,7 +254,7 @@ fn mend(strength: u16, word: &mut [u8]) -> Corrected
 // Makes the word the codeword of this strength within so many bits of it, if there is one, and tells how many bits were
 // flipped.
 pub fn correct(strength: u16, word: &mut [u8]) -> Corrected
-    ensures { λ r. ⌜ Corrects strength (now (word .entry)) (paperCorrected r) (now (word .exit)) ⌝ }
+    ensures { λ r. ⌜ Corrects strength (now (word .entry)) (toldCorrected r) (now (word .exit)) ⌝ }
 {
     if word.len() != 256 {
         return Corrected::NotCorrected(Refusal::Block);
@@ -268,5 +268,5 @@ pub fn correct(strength: u16, word: &mut [u8]) -> Corrected
     if strength > 8 {
         return Corrected::NotCorrected(Refusal::Strength);
     }
-    mend(strength, word)
+    mend_block(strength, word)
 }

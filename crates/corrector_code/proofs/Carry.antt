@@ -15,9 +15,9 @@ use lib.ListN.{length, take, replicate, getD, length-map}
 use Rattle.algebra.specs.Field.{Ops, power}
 use Rattle.algebra.specs.Polynomial.{coef, eval, add, isRoot}
 use Rattle.algebra.specs.Trial.{upFrom}
-use Rattle.corrector_code.specs.Word.{places, total, bit, value, locators}
+use Rattle.corrector_code.specs.Word.{places, total, bit, wordValue, locators}
 use Rattle.corrector_code.specs.Key.{Register, conv, shift, plusTimes, mend, turn, register}
-use Rattle.corrector_code.specs.Correct.{syndromes, locatorOf, marked, flips}
+use Rattle.corrector_code.specs.Correct.{syndromes, locatorOf, markedAt, flips}
 
 -- φ commutes with the operations
 pub record Carries {A B : Type 0} (F : Ops A) (G : Ops B) (φ : A → B) : Type 0 where
@@ -51,11 +51,11 @@ module _ {A B : Type 0} {F : Ops A} {G : Ops B} {φ : A → B} (h : Carries F G 
   bit-carries true = h .one
   bit-carries false = h .zero
 
-  pub value-carries : (w : List Bool) (x : A) → φ (value F w x) ≡ value G w (φ x)
+  pub value-carries : (w : List Bool) (x : A) → φ (wordValue F w x) ≡ wordValue G w (φ x)
   value-carries w x = eval-carries (map (bit F) w) x ∙ ap (λ p. eval G p (φ x)) (map-map (bit F) φ w ∙ ap (λ f. map f w) (fun-ext bit-carries))
 
-  pub value-pow : (w : List Bool) (a : A) (i : ℕ) → φ (value F w (power F a i)) ≡ value G w (power G (φ a) i)
-  value-pow w a i = value-carries w (power F a i) ∙ ap (value G w) (pow-carries a i)
+  pub value-pow : (w : List Bool) (a : A) (i : ℕ) → φ (wordValue F w (power F a i)) ≡ wordValue G w (power G (φ a) i)
+  value-pow w a i = value-carries w (power F a i) ∙ ap (wordValue G w) (pow-carries a i)
 
   coef-carries : (p : List A) (k : ℕ) → φ (coef F p k) ≡ coef G (map φ p) k
   coef-carries [] k = h .zero
@@ -131,7 +131,7 @@ module _ {A B : Type 0} {F : Ops A} {G : Ops B} {φ : A → B} (h : Carries F G 
 
   syndromes-carry : (a : A) (t : ℕ) (w : List Bool) → map φ (syndromes F a t w) ≡ syndromes G (φ a) t w
   unfolding syndromes
-  syndromes-carry a t w = ap₂ (λ x l. x ∷ l) (h .one) (map-map (λ i. value F w (power F a i)) φ (upFrom 1 (2 * t)) ∙ ap (λ f. map f (upFrom 1 (2 * t))) (fun-ext (value-pow w a)))
+  syndromes-carry a t w = ap₂ (λ x l. x ∷ l) (h .one) (map-map (λ i. wordValue F w (power F a i)) φ (upFrom 1 (2 * t)) ∙ ap (λ f. map f (upFrom 1 (2 * t))) (fun-ext (value-pow w a)))
 
   locator-carries : (a : A) (t : ℕ) (w : List Bool) → map φ (locatorOf F a t w) ≡ locatorOf G (φ a) t w
   unfolding locatorOf
@@ -140,7 +140,7 @@ module _ {A B : Type 0} {F : Ops A} {G : Ops B} {φ : A → B} (h : Carries F G 
       ∙ ap (λ s. register G 8 s t .locator) (fun-ext (coef-carries (syndromes F a t w)) ∙ ap (coef G) (syndromes-carry a t w))
 
   pub flips-carry : (a : A) (t : ℕ) (w : List Bool) → flips F a t w ≡ flips G (φ a) t w
-  unfolding flips marked
+  unfolding flips markedAt
   flips-carry a t w =
       ap (λ f. map f (upFrom 0 (length w)))
       (fun-ext λ j. h .isZero _ ∙ ap (G .isZero) (eval-carries (locatorOf F a t w) (F .inv (power F a j))

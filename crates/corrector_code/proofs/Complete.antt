@@ -1,9 +1,9 @@
 -- THE CORRECTOR IS COMPLETE: where a codeword lies within t of w, the candidate is that codeword. So w can be corrected
 -- exactly where the candidate corrects it.
---   both-both     what is different twice is as before
---   row-at        what stands at k in a list made of numbers in a row
---   complete      a codeword within t of w is the candidate
---   correctable   w can be corrected exactly where the candidate corrects it
+--   difference-difference   what is different twice is as before
+--   map-upFrom-at           what stands at k in a list made of numbers in a row
+--   complete                a codeword within t of w is the candidate
+--   correctable             w can be corrected exactly where the candidate corrects it
 -- Assumes nothing.
 use mathlib.Core.Path.{_≡_, refl, sym, ap, ap₂, _∙_, subst}
 use mathlib.Core.Logic.{_≢_, _↔_}
@@ -17,17 +17,17 @@ use lib.ListN.{length, getD, length-map}
 use Rattle.algebra.specs.Field.{Ops, Laws, power}
 use Rattle.algebra.specs.Polynomial.{coef, eval, isRoot}
 use Rattle.algebra.specs.Trial.{upFrom}
-use Rattle.algebra.proofs.Series.{Series, front}
+use Rattle.algebra.proofs.Series.{Series, startingWith}
 use Rattle.algebra.proofs.Series as S
 use Rattle.algebra.proofs.Elements as E
 use Rattle.algebra.proofs.Coefficients as P
 use Rattle.algebra.proofs.Evaluation as I
 use Rattle.algebra.specs.Trial.{All, Distinct}
-use Rattle.corrector_code.specs.Word.{differs, both, places, distance, total, value, Codeword, Corrects, locators, Spread}
+use Rattle.corrector_code.specs.Word.{differs, difference, places, bitDistance, total, wordValue, Codeword, CodewordWithin, locators, DistinctPowers}
 use Rattle.corrector_code.specs.Key.{register, fromLocators}
-use Rattle.corrector_code.specs.Correct.{syndromes, locatorOf, marked, flips, candidate}
+use Rattle.corrector_code.specs.Correct.{syndromes, locatorOf, markedAt, flips, candidate}
 use Rattle.corrector_code.proofs.Sums.{all-map}
-use Rattle.corrector_code.proofs.Words.{length-both}
+use Rattle.corrector_code.proofs.Words.{length-difference}
 use Rattle.corrector_code.proofs.Words as X
 use Rattle.corrector_code.proofs.Locate.{sums}
 use Rattle.corrector_code.proofs.Locate as O
@@ -35,11 +35,11 @@ use Rattle.corrector_code.proofs.Locate as O
 -- ---- words
 
 -- what is different twice is as before
-pub both-both : (w v : List Bool) → length v ≡ length w → both w (both w v) ≡ v
-unfolding both
-both-both [] v e = refl
-both-both (b ∷ w) [] e = absurd (omega arith)
-both-both (b ∷ w) (c ∷ v) e = ap₂ (λ x l. x ∷ l) (twice b c) (both-both w v (omega arith))
+pub difference-difference : (w v : List Bool) → length v ≡ length w → difference w (difference w v) ≡ v
+unfolding difference
+difference-difference [] v e = refl
+difference-difference (b ∷ w) [] e = absurd (omega arith)
+difference-difference (b ∷ w) (c ∷ v) e = ap₂ (λ x l. x ∷ l) (twice b c) (difference-difference w v (omega arith))
   where
     twice : (b c : Bool) → differs b (differs b c) ≡ c
     twice false c = refl
@@ -69,11 +69,11 @@ marks f k (false ∷ w) on off =
     (marks f (suc k) w on (λ j a b h. off j (omega arith) (omega arith) h))
 
 -- what stands at k in a list made of numbers in a row
-pub row-at : {A : Type 0} (z : A) (f : ℕ → A) (b n k : ℕ) → k < n → getD (map f (upFrom b n)) k z ≡ f (b + k)
+pub map-upFrom-at : {A : Type 0} (z : A) (f : ℕ → A) (b n k : ℕ) → k < n → getD (map f (upFrom b n)) k z ≡ f (b + k)
 unfolding upFrom
-row-at z f b zero k h = absurd (not-suc-le-zero h)
-row-at z f b (suc n) zero h = ap f (sym (add-zero b))
-row-at z f b (suc n) (suc k) h = row-at z f (suc b) n k (omega arith) ∙ ap f (omega arith)
+map-upFrom-at z f b zero k h = absurd (not-suc-le-zero h)
+map-upFrom-at z f b (suc n) zero h = ap f (sym (add-zero b))
+map-upFrom-at z f b (suc n) (suc k) h = map-upFrom-at z f (suc b) n k (omega arith) ∙ ap f (omega arith)
 
 unmap : {A B : Type 0} (P : B → Type 0) (f : A → B) (s : List A) → All P (map f s) → All (λ x. P (f x)) s
 unmap P f [] h = tt
@@ -98,10 +98,10 @@ module _ {K : Type 0} {F : Ops K} (L : Laws F) where
       go true t = absurd (t tt)
       go false t = refl
 
-  module _ (a : K) (n : ℕ) (o : Spread F a n) where
+  module _ (a : K) (n : ℕ) (o : DistinctPowers F a n) where
     -- a polynomial that is the product of 1 + x z over the locators of a word marks that word
-    marked-right : (p : List K) (w : List Bool) → length w ≤ n → coef F p ≡ coef F (fromLocators F (locators F a w)) → marked F a p (length w) ≡ w
-    unfolding marked
+    marked-right : (p : List K) (w : List Bool) → length w ≤ n → coef F p ≡ coef F (fromLocators F (locators F a w)) → markedAt F a p (length w) ≡ w
+    unfolding markedAt
     marked-right p w l e = marks (λ j. isRoot F p (F .inv (power F a j))) 0 w on off
       where
         same : (y : K) → eval F p y ≡ eval F (fromLocators F (locators F a w)) y
@@ -121,26 +121,26 @@ module _ {K : Type 0} {F : Ops K} (L : Laws F) where
             (others j (omega arith) (places 0 w) (all-map (λ p q. omega arith) (places 0 w) (places-below 0 w)) d) (sym (same _) ∙ z))
 
     -- the syndromes of w are the power sums of the places where it differs from a codeword
-    syndromes-are : (t : ℕ) (w v : List Bool) → Codeword F a t v → (k : ℕ) → k ≤ 2 * t → coef F (syndromes F a t w) k ≡ sums F (locators F a (both w v)) k
-    unfolding syndromes sums front
+    syndromes-are : (t : ℕ) (w v : List Bool) → Codeword F a t v → (k : ℕ) → k ≤ 2 * t → coef F (syndromes F a t w) k ≡ sums F (locators F a (difference w v)) k
+    unfolding syndromes sums startingWith
     syndromes-are t w v c zero h = refl
     syndromes-are t w v c (suc k) h =
-        row-at 0# (λ i. value F w (power F a i)) 1 (2 * t) k h
-        ∙ ap (λ i. value F w (power F a i)) (omega arith)
-        ∙ sym (X.value-both L w v (power F a (suc k)) ∙ ap (λ x. value F w (power F a (suc k)) ⊕ x) (c (suc k) (omega arith) h) ∙ E.add-zero L _)
-        ∙ X.value-sum L a (suc k) (both w v)
+        map-upFrom-at 0# (λ i. wordValue F w (power F a i)) 1 (2 * t) k h
+        ∙ ap (λ i. wordValue F w (power F a i)) (omega arith)
+        ∙ sym (X.value-difference L w v (power F a (suc k)) ∙ ap (λ x. wordValue F w (power F a (suc k)) ⊕ x) (c (suc k) (omega arith) h) ∙ E.add-zero L _)
+        ∙ X.value-sum L a (suc k) (difference w v)
 
     -- COMPLETE: a codeword within t of w is the candidate
-    pub complete : (t : ℕ) (w v : List Bool) → t ≤ 8 → length w ≤ n → Corrects F a t w v → candidate F a t w ≡ v
+    pub complete : (t : ℕ) (w v : List Bool) → t ≤ 8 → length w ≤ n → CodewordWithin F a t w v → candidate F a t w ≡ v
     unfolding candidate flips locatorOf
     complete t w v r l c =
-        let e : List Bool = both w v in
-        let long : length e ≡ length w = length-both w v (c .0) in
+        let e : List Bool = difference w v in
+        let long : length e ≡ length w = length-difference w v (c .0) in
         let key : coef F (locatorOf F a t w) ≡ coef F (fromLocators F (locators F a e)) =
         O.key-right L 8 t (locators F a e) (coef F (syndromes F a t w)) r (X.locators-distinct L a n o e (omega arith)) (X.locators-nonzero L a n o e)
         (omega (arith, length-map (places 0 e) (power F a), c .2)) (syndromes-are t w v (c .1)) in
-        ap (both w) (ap (marked F a (locatorOf F a t w)) (sym long) ∙ marked-right (locatorOf F a t w) e (omega arith) key) ∙ both-both w v (c .0)
+        ap (difference w) (ap (markedAt F a (locatorOf F a t w)) (sym long) ∙ marked-right (locatorOf F a t w) e (omega arith) key) ∙ difference-difference w v (c .0)
 
     -- w can be corrected exactly where the candidate corrects it
-    pub correctable : (t : ℕ) (w : List Bool) → t ≤ 8 → length w ≤ n → Corrects F a t w (candidate F a t w) ↔ ((v : List Bool) × Corrects F a t w v)
-    correctable t w r l = (λ c. (candidate F a t w, c), λ h. subst (Corrects F a t w) (sym (complete t w (h .0) r l (h .1))) (h .1))
+    pub correctable : (t : ℕ) (w : List Bool) → t ≤ 8 → length w ≤ n → CodewordWithin F a t w (candidate F a t w) ↔ ((v : List Bool) × CodewordWithin F a t w v)
+    correctable t w r l = (λ c. (candidate F a t w, c), λ h. subst (CodewordWithin F a t w) (sym (complete t w (h .0) r l (h .1))) (h .1))

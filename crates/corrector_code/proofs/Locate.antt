@@ -15,7 +15,7 @@ use native.Mathlib.Omega.{arith}
 use lib.ListN.{length, length-map, List·getD-eq-default}
 use Rattle.algebra.specs.Field.{Ops, Laws, power}
 use Rattle.algebra.specs.Polynomial.{coef, eval, add, mul}
-use Rattle.algebra.proofs.Series.{Series, front, plus, times, nought}
+use Rattle.algebra.proofs.Series.{Series, startingWith, plus, times, nought}
 use Rattle.algebra.proofs.Series as S
 use Rattle.algebra.proofs.Elements as E
 use Rattle.algebra.proofs.Coefficients as P
@@ -31,14 +31,14 @@ use Rattle.corrector_code.proofs.Sums as Y
 use Rattle.corrector_code.proofs.Words as X
 use Rattle.corrector_code.proofs.Odd.{odd}
 use Rattle.corrector_code.proofs.Odd as H
-use Rattle.corrector_code.proofs.Massey.{Short}
+use Rattle.corrector_code.proofs.Massey.{ShortFor}
 use Rattle.corrector_code.proofs.Massey as M
 use Rattle.corrector_code.proofs.Run as R
 use Rattle.algebra.proofs.Signs.{Signs, signs}
 
 -- 1, and the power sums of a list
 unfoldable pub sums : {K : Type 0} (F : Ops K) → List K → Series K
-sums F s = front (F .one) (λ k. total F (λ x. power F x (suc k)) s)
+sums F s = startingWith (F .one) (λ k. total F (λ x. power F x (suc k)) s)
 
 module _ {K : Type 0} {F : Ops K} (L : Laws F) where
   open Signs (signs F) using (0#, 1#, _⊕_, _⊗_, _⊞_, _⊠_)
@@ -59,7 +59,7 @@ module _ {K : Type 0} {F : Ops K} (L : Laws F) where
   -- behind the degree of p, a coefficient of p times the power sums is the sum of x^k p(1/x)
   product-sum : (s : List K) → All (λ x. x ≢ 0#) s → (p : List K) (k : ℕ) → ((j : ℕ) → k ≤ j → coef F p j ≡ 0#)
       → (coef F p ⊠ sums F s) k ≡ total F (λ x. power F x k ⊗ eval F p (F .inv x)) s
-  unfolding times eval power sums front
+  unfolding times eval power sums startingWith
   product-sum s z [] k h = S.nought-at L (sums F s) k ∙ sym (Y.total-zero L _ s (all-map (λ x e. E.mul-zero L (power F x k)) s z))
   product-sum s z (c ∷ p) zero h =
       M.product-none L 0 (coef F (c ∷ p)) (sums F s) (λ i j e. inl (h i (omega arith)))
@@ -104,7 +104,7 @@ module _ {K : Type 0} {F : Ops K} (L : Laws F) where
 
   -- x z + x^2 z^2 + ..
   powers : K → Series K
-  powers x = front 0# (λ k. power F x (suc k))
+  powers x = startingWith 0# (λ k. power F x (suc k))
 
   abbrev factor : K → Series K
   factor x = coef F (1# ∷ x ∷ [])
@@ -113,11 +113,11 @@ module _ {K : Type 0} {F : Ops K} (L : Laws F) where
   middle x = coef F (0# ∷ x ∷ [])
 
   sums-cons : (x : K) (s : List K) → sums F (x ∷ s) ≡ sums F s ⊞ powers x
-  unfolding sums powers front plus total
+  unfolding sums powers startingWith plus total
   sums-cons x s = fun-ext (elim [ zero ↦ sym (E.add-zero L 1#) | suc k ↦ add-comm _ _ ])
 
   factor-powers : (x : K) → factor x ⊠ powers x ≡ middle x
-  unfolding powers front conv power
+  unfolding powers startingWith conv power
   factor-powers x = fun-ext (λ k. sym (R.conv-is L (1# ∷ x ∷ []) (powers x) k) ∙ at k)
     where
       at : (k : ℕ) → conv F (1# ∷ x ∷ []) (powers x) k ≡ middle x k
@@ -145,7 +145,7 @@ module _ {K : Type 0} {F : Ops K} (L : Laws F) where
       ∙ ap (λ w. c ⊠ p ⊞ w) (S.plus-comm L (c ⊠ odd F p) (middle x ⊠ p) ∙ ap (λ w. w ⊠ p ⊞ c ⊠ odd F p) (sym (odd-factor x)) ∙ sym (H.leibniz L c p))
       ∙ sym (ap (λ f. f ⊞ odd F f) (P.coef-mul L (1# ∷ x ∷ []) (fromLocators F s)))
 
-  from-makes : (s : List K) (n : ℕ) → Short F (sums F s) n (coef F (fromLocators F s)) (length s)
+  from-makes : (s : List K) (n : ℕ) → ShortFor F (sums F s) n (coef F (fromLocators F s)) (length s)
   unfolding plus
   from-makes s n = record {
     ends = from-ends s;
@@ -245,13 +245,13 @@ module _ {K : Type 0} {F : Ops K} (L : Laws F) where
   -- THE KEY EQUATION: after t turns, on 2t power sums of at most t locators, a register with room holds the product of 1 + x z
   pub key-right : (m t : ℕ) (s : List K) (u : Series K) → t ≤ m → Distinct s → All (λ x. x ≢ 0#) s → length s ≤ t → ((k : ℕ) → k ≤ 2 * t → u k ≡ sums F s k)
       → coef F (register F m u t .locator) ≡ coef F (fromLocators F s)
-  unfolding sums front
+  unfolding sums startingWith
   key-right m t s u l d z h e =
       ap (λ r. coef F (r .locator)) (R.register-same L m u (sums F s) t e)
       ∙ (let w = R.register-runs L (sums F s) (coef F (fromLocators F s)) (length s) m (omega arith) refl (from-first s) (from-makes s) t in
       let a = M.short-wider L (w .small) (w .good) in
       same-locator s (register F m (sums F s) t .locator) (fromLocators F s) d z (w .first) (from-first s) (a .ends) (from-ends s)
-      (zero-inverses s (register F m (sums F s) t .locator) d z (a .ends) (M.goes-on L a refl (from-first s) (from-makes s) (omega arith))) (from-zeros s z))
+      (zero-inverses s (register F m (sums F s) t .locator) d z (a .ends) (M.register-goes-on L a refl (from-first s) (from-makes s) (omega arith))) (from-zeros s z))
 
   -- the roots of the product of 1 + x z are the inverses of the locators
   pub from-root : (s : List K) → All (λ x. x ≢ 0#) s → All (λ x. eval F (fromLocators F s) (F .inv x) ≡ 0#) s

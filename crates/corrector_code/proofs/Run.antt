@@ -1,6 +1,6 @@
 -- The register of `Key.antt` turn by turn: it stays as short as any sequence t that makes all of s, and makes what it
 -- has seen.
---   Running          what holds of the register after n turns
+--   RegisterAfter    what holds of the register after n turns
 --   conv-is          the coefficient of a product, on lists and on sequences
 --   register-runs    it holds after every turn
 --   register-same    the register depends on the power sums that it takes
@@ -17,25 +17,25 @@ use lib.ListN.{length, take, replicate, length-map, length-take, length-replicat
 use borrow.Author.Tests.{ltb-true, ltb-false}
 use Rattle.algebra.specs.Field.{Ops, Laws}
 use Rattle.algebra.specs.Polynomial.{coef, add}
-use Rattle.algebra.proofs.Series.{Series, front, plus, scale, times, nought}
+use Rattle.algebra.proofs.Series.{Series, startingWith, plus, scale, times, nought}
 use Rattle.algebra.proofs.Series as S
 use Rattle.algebra.proofs.Elements as E
 use Rattle.algebra.proofs.Coefficients as P
 use Rattle.algebra.proofs.Evaluation as I
 use Rattle.algebra.proofs.Lengths.{length-add}
 use Rattle.corrector_code.specs.Key.{Register, conv, shift, plusTimes, mend, turn, register}
-use Rattle.corrector_code.proofs.Massey.{Short}
+use Rattle.corrector_code.proofs.Massey.{ShortFor}
 use Rattle.corrector_code.proofs.Massey as M
 use Rattle.algebra.proofs.Signs.{Signs, signs}
 
 -- what holds of the register after n turns on s, where some sequence of degree v makes all of s
-pub record Running {K : Type 0} (F : Ops K) (s : Series K) (v N n : ℕ) (r : Register K) : Type 0 where
+pub record RegisterAfter {K : Type 0} (F : Ops K) (s : Series K) (v N n : ℕ) (r : Register K) : Type 0 where
   pub balance : r .low + r .high ≡ suc (2 * n)
   pub small : r .low ≤ v
   pub first : coef F (r .locator) 0 ≡ F .one
-  pub good : Short F s n (coef F (r .locator)) (r .low)
+  pub good : ShortFor F s n (coef F (r .locator)) (r .low)
   pub clear : coef F (r .spare) 0 ≡ F .zero
-  pub other : r .high < N → Short F s n (coef F (r .spare)) (r .high) × (times F (coef F (r .spare)) s (suc (2 * n)) ≡ F .one)
+  pub other : r .high < N → ShortFor F s n (coef F (r .spare)) (r .high) × (times F (coef F (r .spare)) s (suc (2 * n)) ≡ F .one)
   pub long : length (r .locator) ≡ N
   pub long-spare : length (r .spare) ≡ N
 
@@ -61,11 +61,11 @@ module _ {K : Type 0} {F : Ops K} (L : Laws F) where
   cut-zeros (suc n) (c ∷ l) h zero = refl
   cut-zeros (suc n) (c ∷ l) h (suc k) = cut-zeros n l (λ j e. h (suc j) (omega arith)) k
 
-  shift-is : (p : List K) → ((k : ℕ) → length p ≤ suc (suc k) → coef F p k ≡ 0#) → coef F (shift F p) ≡ front 0# (front 0# (coef F p))
+  shift-is : (p : List K) → ((k : ℕ) → length p ≤ suc (suc k) → coef F p k ≡ 0#) → coef F (shift F p) ≡ startingWith 0# (startingWith 0# (coef F p))
   unfolding shift
   shift-is p h =
       fun-ext (cut-zeros (length p) (0# ∷ 0# ∷ p) (elim [ zero ↦ λ e. refl | suc zero ↦ λ e. refl | suc (suc k) ↦ λ e. h k e ]))
-      ∙ P.coef-cons L 0# (0# ∷ p) ∙ ap (front 0#) (P.coef-cons L 0# p)
+      ∙ P.coef-cons L 0# (0# ∷ p) ∙ ap (startingWith 0#) (P.coef-cons L 0# p)
 
   length-shift : (p : List K) → length (shift F p) ≡ length p
   unfolding shift
@@ -85,16 +85,16 @@ module _ {K : Type 0} {F : Ops K} (L : Laws F) where
   on-two n = omega arith
 
   -- z^2 p where p is short: the next spare
-  next-spare : {s : Series K} {n N d : ℕ} (p : List K) → length p ≡ N → (d < N → Short F s n (coef F p) d × ((coef F p ⊠ s) (suc (2 * n)) ≡ 1#))
-      → suc (suc d) < N → Short F s (suc n) (coef F (shift F p)) (suc (suc d)) × ((coef F (shift F p) ⊠ s) (suc (2 * suc n)) ≡ 1#)
+  next-spare : {s : Series K} {n N d : ℕ} (p : List K) → length p ≡ N → (d < N → ShortFor F s n (coef F p) d × ((coef F p ⊠ s) (suc (2 * n)) ≡ 1#))
+      → suc (suc d) < N → ShortFor F s (suc n) (coef F (shift F p)) (suc (suc d)) × ((coef F (shift F p) ⊠ s) (suc (2 * suc n)) ≡ 1#)
   next-spare {s} {n} {N} {d} p e h l =
       let (a, one) = h (omega arith) in
-      let z : coef F (shift F p) ≡ front 0# (front 0# (coef F p)) = shift-is p (λ k m. a .ends k (omega arith)) in
-      (rw z (M.short-front L a), ap₂ (λ f k. (f ⊠ s) k) z (on-two n) ∙ M.front-two L (coef F p) s (suc (2 * n)) ∙ one)
+      let z : coef F (shift F p) ≡ startingWith 0# (startingWith 0# (coef F p)) = shift-is p (λ k m. a .ends k (omega arith)) in
+      (rw z (M.short-front L a), ap₂ (λ f k. (f ⊠ s) k) z (on-two n) ∙ M.startingWith-two L (coef F p) s (suc (2 * n)) ∙ one)
 
-  module _ (s t : Series K) (v N : ℕ) (fits : v < N) (start : s 0 ≡ 1#) (one : t 0 ≡ 1#) (makes : (n : ℕ) → Short F s n t v) where
+  module _ (s t : Series K) (v N : ℕ) (fits : v < N) (start : s 0 ≡ 1#) (one : t 0 ≡ 1#) (makes : (n : ℕ) → ShortFor F s n t v) where
     abbrev Runs : ℕ → Register K → Type 0
-    Runs n r = Running F s v N n r
+    Runs n r = RegisterAfter F s v N n r
 
     -- the locator after a nonzero discrepancy d
     module _ {n : ℕ} {r : Register K} (d : K) (w : Runs n r) (is : (coef F (r .locator) ⊠ s) (suc (2 * n)) ≡ d) (some : d ≢ 0#) where
@@ -102,10 +102,10 @@ module _ {K : Type 0} {F : Ops K} (L : Laws F) where
       enough : r .high ≤ v
       enough = omega (arith, w .balance, M.massey L (w .good) start one makes (λ e. some (sym is ∙ e)))
 
-      spare-good : Short F s n (coef F (r .spare)) (r .high) × ((coef F (r .spare) ⊠ s) (suc (2 * n)) ≡ 1#)
+      spare-good : ShortFor F s n (coef F (r .spare)) (r .high) × ((coef F (r .spare) ⊠ s) (suc (2 * n)) ≡ 1#)
       spare-good = w .other (omega (arith, enough))
 
-      mended : (m : ℕ) → r .low ≤ m → r .high ≤ m → Short F s (suc n) (coef F (plusTimes F (r .locator) d (r .spare))) m
+      mended : (m : ℕ) → r .low ≤ m → r .high ≤ m → ShortFor F s (suc n) (coef F (plusTimes F (r .locator) d (r .spare))) m
       unfolding plus
       mended m a b =
           rw plusTimes-is
@@ -124,7 +124,7 @@ module _ {K : Type 0} {F : Ops K} (L : Laws F) where
       old-long : length (map (F .mul (F .inv d)) (r .locator)) ≡ N
       old-long = length-map (r .locator) (F .mul (F .inv d)) ∙ w .long
 
-      old-good : Short F s n (coef F (map (F .mul (F .inv d)) (r .locator))) (r .low) × ((coef F (map (F .mul (F .inv d)) (r .locator)) ⊠ s) (suc (2 * n)) ≡ 1#)
+      old-good : ShortFor F s n (coef F (map (F .mul (F .inv d)) (r .locator))) (r .low) × ((coef F (map (F .mul (F .inv d)) (r .locator)) ⊠ s) (suc (2 * n)) ≡ 1#)
       old-good =
           rw (P.coef-scale L (F .inv d) (r .locator))
           (M.short-scale L (F .inv d) (w .good), M.scale-times L (F .inv d) (coef F (r .locator)) s (suc (2 * n)) ∙ ap (λ x. F .inv d ⊗ x) is ∙ mul-comm (F .inv d) d ∙ mul-inv d some)
@@ -182,7 +182,7 @@ module _ {K : Type 0} {F : Ops K} (L : Laws F) where
   zeros-at (suc n) zero = refl
   zeros-at (suc n) (suc k) = zeros-at n k
 
-  start-runs : (s : Series K) (v m : ℕ) → s 0 ≡ 1# → Running F s v (suc m) 0 (register F m s 0)
+  start-runs : (s : Series K) (v m : ℕ) → s 0 ≡ 1# → RegisterAfter F s v (suc m) 0 (register F m s 0)
   unfolding register times
   start-runs s v m start =
       let one : List K = 1# ∷ replicate m 0# in
@@ -204,7 +204,7 @@ module _ {K : Type 0} {F : Ops K} (L : Laws F) where
       }
 
   -- the register stays as short as any f that makes all of s
-  pub register-runs : (s f : Series K) (v m : ℕ) → v ≤ m → s 0 ≡ 1# → f 0 ≡ 1# → ((n : ℕ) → Short F s n f v) → (n : ℕ) → Running F s v (suc m) n (register F m s n)
+  pub register-runs : (s f : Series K) (v m : ℕ) → v ≤ m → s 0 ≡ 1# → f 0 ≡ 1# → ((n : ℕ) → ShortFor F s n f v) → (n : ℕ) → RegisterAfter F s v (suc m) n (register F m s n)
   unfolding register
   register-runs s f v m h start one makes zero = start-runs s v m start
   register-runs s f v m h start one makes (suc n) = turn-runs s f v (suc m) (omega arith) start one makes (register-runs s f v m h start one makes n)

@@ -1,9 +1,9 @@
 -- The value of a word is that of its number; where a generator is zero, the remainder by it has the value of the
 -- number.
---   at-xor        the value of a sum
---   digit-turn    the value by digits from the lowest, a turn at a time;  at-join  two numbers one above the other
---   at-reduce     the remainder by a generator that is zero at x
---   value-digits  the value of a word
+--   valueOfDigits-xor     the value of a sum
+--   digit-turn            the value by digits from the lowest, a turn at a time;  valueOfDigits-join  two numbers one above the other
+--   valueOfDigits-reduce  the remainder by a generator that is zero at x
+--   value-digits          the value of a word
 -- Assumes nothing.
 use mathlib.Core.Path.{_≡_, refl, sym, ap, ap₂, _∙_, subst}
 use mathlib.Core.Logic.{⊎-elim}
@@ -21,93 +21,93 @@ use Rattle.field.specs.Field.{Field, size, horner, cut, reduce, mul, numbers}
 use Rattle.field.proofs.Digits.{bit-cases, horner-step}
 use Rattle.field.proofs.Xor.{xor-assoc, xor-half, xor-swap}
 use Rattle.field.proofs.Reduce.{reduce-step, reduce-zero}
-use Rattle.field.proofs.Ring.{Monic, RingLaws, ring}
+use Rattle.field.proofs.Ring.{FullDegree, RingLaws, ring}
 use Rattle.field.proofs.Additive.{Additive}
 use Rattle.algebra.specs.Field.{power}
-use Rattle.corrector_code.specs.Word.{bit, value}
-use Rattle.corrector_code.specs.Digits.{at, digits}
+use Rattle.corrector_code.specs.Word.{bit, wordValue}
+use Rattle.corrector_code.specs.Digits.{valueOfDigits, digits}
 
 half-lt : {x : ℕ} (n : ℕ) → x < 2 ^ suc n → x / 2 < 2 ^ n
 half-lt {x} n h = div-lt-iff-lt-mul (zero-lt-suc 1) .1 (subst (λ (t : ℕ). x < t) (pow-suc 2 n) h)
 
-module _ (F : Field) (monic : Monic F) (one-lt : 1 < size F) (x : ℕ) where
+module _ (F : Field) (monic : FullDegree F) (one-lt : 1 < size F) (x : ℕ) where
   open RingLaws (ring F monic) using (mul-comm, mul-assoc, mul-zero-r, mul-one-r, mul-xor-r, mul-lt)
 
-  at-step : (n : ℕ) → at F x n ≡ bitXor (n % 2) (mul F x (at F x (n / 2)))
-  unfolding at
+  at-step : (n : ℕ) → valueOfDigits F x n ≡ bitXor (n % 2) (mul F x (valueOfDigits F x (n / 2)))
+  unfolding valueOfDigits
   at-step = horner-step (λ r d. bitXor d (mul F x r)) (mul-zero-r x)
 
-  pub at-zero : at F x 0 ≡ 0
-  unfolding at horner
-  at-zero = refl
+  pub valueOfDigits-zero : valueOfDigits F x 0 ≡ 0
+  unfolding valueOfDigits horner
+  valueOfDigits-zero = refl
 
   bit-lt : (n : ℕ) → n % 2 < size F
   bit-lt n = omega arith
 
   -- a value is an element, unless the field has none
-  pub at-lt : (n : ℕ) → at F x n < size F
-  at-lt =
-      bin-ind (λ (n : ℕ). at F x n < size F) (subst (λ (y : ℕ). y < size F) (sym at-zero) (pow-pos (F .degree)))
-      (λ n ih. subst (λ (y : ℕ). y < size F) (sym (at-step n)) (xor-lt (F .degree) (n % 2) (mul F x (at F x (n / 2))) (bit-lt n) (mul-lt x (at F x (n / 2)))))
+  pub valueOfDigits-lt : (n : ℕ) → valueOfDigits F x n < size F
+  valueOfDigits-lt =
+      bin-ind (λ (n : ℕ). valueOfDigits F x n < size F) (subst (λ (y : ℕ). y < size F) (sym valueOfDigits-zero) (pow-pos (F .degree)))
+      (λ n ih. subst (λ (y : ℕ). y < size F) (sym (at-step n)) (xor-lt (F .degree) (n % 2) (mul F x (valueOfDigits F x (n / 2))) (bit-lt n) (mul-lt x (valueOfDigits F x (n / 2)))))
 
-  pub at-xor : Additive (at F x)
-  at-xor m =
-      bin-ind (λ (n : ℕ). (y : ℕ) → at F x (bitXor n y) ≡ bitXor (at F x n) (at F x y)) (λ y. sym (ap (λ (t : ℕ). bitXor t (at F x y)) at-zero))
+  pub valueOfDigits-xor : Additive (valueOfDigits F x)
+  valueOfDigits-xor m =
+      bin-ind (λ (n : ℕ). (y : ℕ) → valueOfDigits F x (bitXor n y) ≡ bitXor (valueOfDigits F x n) (valueOfDigits F x y)) (λ y. sym (ap (λ (t : ℕ). bitXor t (valueOfDigits F x y)) valueOfDigits-zero))
       (λ n ih y. at-step (bitXor n y)
-      ∙ ap₂ (λ (s t : ℕ). bitXor s (mul F x t)) (xor-mod n y 1) (ap (at F x) (xor-half n y) ∙ ih (y / 2))
-      ∙ ap (bitXor (bitXor (n % 2) (y % 2))) (mul-xor-r x (at F x (n / 2)) (at F x (y / 2)))
-      ∙ xor-swap (n % 2) (y % 2) (mul F x (at F x (n / 2))) (mul F x (at F x (y / 2)))
+      ∙ ap₂ (λ (s t : ℕ). bitXor s (mul F x t)) (xor-mod n y 1) (ap (valueOfDigits F x) (xor-half n y) ∙ ih (y / 2))
+      ∙ ap (bitXor (bitXor (n % 2) (y % 2))) (mul-xor-r x (valueOfDigits F x (n / 2)) (valueOfDigits F x (y / 2)))
+      ∙ xor-swap (n % 2) (y % 2) (mul F x (valueOfDigits F x (n / 2))) (mul F x (valueOfDigits F x (y / 2)))
       ∙ ap₂ bitXor (sym (at-step n)) (sym (at-step y))) m
 
   -- the value by digits from the lowest: a turn takes the lowest digit of n into the sum, y being the power of x that it stands for
-  pub digit-turn : (sum y n : ℕ) → y < size F → bitXor (bitXor sum (n % 2 * y)) (mul F (mul F x y) (at F x (n / 2))) ≡ bitXor sum (mul F y (at F x n))
+  pub digit-turn : (sum y n : ℕ) → y < size F → bitXor (bitXor sum (n % 2 * y)) (mul F (mul F x y) (valueOfDigits F x (n / 2))) ≡ bitXor sum (mul F y (valueOfDigits F x n))
   digit-turn sum y n h =
-      xor-assoc sum (n % 2 * y) (mul F (mul F x y) (at F x (n / 2)))
+      xor-assoc sum (n % 2 * y) (mul F (mul F x y) (valueOfDigits F x (n / 2)))
       ∙ ap (bitXor sum)
       (ap₂ bitXor (bit-cases (λ (d : ℕ). d * y ≡ mul F y d) (zero-mul y ∙ sym (mul-zero-r y)) (one-mul y ∙ sym (mul-one-r y h)) n)
-      (ap (λ (t : ℕ). mul F t (at F x (n / 2))) (mul-comm x y) ∙ mul-assoc y x (at F x (n / 2)))
-      ∙ sym (mul-xor-r y (n % 2) (mul F x (at F x (n / 2)))) ∙ ap (mul F y) (sym (at-step n)))
+      (ap (λ (t : ℕ). mul F t (valueOfDigits F x (n / 2))) (mul-comm x y) ∙ mul-assoc y x (valueOfDigits F x (n / 2)))
+      ∙ sym (mul-xor-r y (n % 2) (mul F x (valueOfDigits F x (n / 2)))) ∙ ap (mul F y) (sym (at-step n)))
 
   -- where the generator is zero, the remainder by it has the value of the number
-  module _ (G : Field) (root : at F x (G .poly) ≡ 0) where
-    at-cut : (y : ℕ) → at F x (cut G y) ≡ at F x y
+  module _ (G : Field) (root : valueOfDigits F x (G .poly) ≡ 0) where
+    at-cut : (y : ℕ) → valueOfDigits F x (cut G y) ≡ valueOfDigits F x y
     unfolding cut
     at-cut y =
-        at-xor (y / size G % 2 * G .poly) y
-        ∙ ap (λ (t : ℕ). bitXor t (at F x y)) (bit-cases (λ (d : ℕ). at F x (d * G .poly) ≡ 0) (ap (at F x) (zero-mul (G .poly)) ∙ at-zero) (ap (at F x) (one-mul (G .poly)) ∙ root) (y / size G))
+        valueOfDigits-xor (y / size G % 2 * G .poly) y
+        ∙ ap (λ (t : ℕ). bitXor t (valueOfDigits F x y)) (bit-cases (λ (d : ℕ). valueOfDigits F x (d * G .poly) ≡ 0) (ap (valueOfDigits F x) (zero-mul (G .poly)) ∙ valueOfDigits-zero) (ap (valueOfDigits F x) (one-mul (G .poly)) ∙ root) (y / size G))
 
-    at-digits : (r n : ℕ) → at F x (r * 2 + n % 2) ≡ bitXor (n % 2) (mul F x (at F x r))
+    at-digits : (r n : ℕ) → valueOfDigits F x (r * 2 + n % 2) ≡ bitXor (n % 2) (mul F x (valueOfDigits F x r))
     at-digits r n =
         let h : (r * 2 + n % 2) / 2 ≡ r = omega arith in
         let d : (r * 2 + n % 2) % 2 ≡ n % 2 = omega arith in
-        at-step (r * 2 + n % 2) ∙ ap₂ (λ (s t : ℕ). bitXor s (mul F x (at F x t))) d h
+        at-step (r * 2 + n % 2) ∙ ap₂ (λ (s t : ℕ). bitXor s (mul F x (valueOfDigits F x t))) d h
 
-    pub at-reduce : (y : ℕ) → at F x (reduce G y) ≡ at F x y
-    at-reduce =
-        bin-ind (λ (n : ℕ). at F x (reduce G n) ≡ at F x n) (ap (at F x) (reduce-zero G))
-        (λ n ih. ap (at F x) (reduce-step G n) ∙ at-cut (reduce G (n / 2) * 2 + n % 2) ∙ at-digits (reduce G (n / 2)) n
+    pub valueOfDigits-reduce : (y : ℕ) → valueOfDigits F x (reduce G y) ≡ valueOfDigits F x y
+    valueOfDigits-reduce =
+        bin-ind (λ (n : ℕ). valueOfDigits F x (reduce G n) ≡ valueOfDigits F x n) (ap (valueOfDigits F x) (reduce-zero G))
+        (λ n ih. ap (valueOfDigits F x) (reduce-step G n) ∙ at-cut (reduce G (n / 2) * 2 + n % 2) ∙ at-digits (reduce G (n / 2)) n
         ∙ ap (λ (t : ℕ). bitXor (n % 2) (mul F x t)) ih ∙ sym (at-step n))
 
   -- the value of a word is the value of its number
-  pub value-digits : (n W : ℕ) → W < 2 ^ n → value (numbers F) (digits n W) x ≡ at F x W
+  pub value-digits : (n W : ℕ) → W < 2 ^ n → wordValue (numbers F) (digits n W) x ≡ valueOfDigits F x W
   unfolding digits eval
-  value-digits zero W h = sym (ap (at F x) (lt-one h) ∙ at-zero)
+  value-digits zero W h = sym (ap (valueOfDigits F x) (lt-one h) ∙ valueOfDigits-zero)
   value-digits (suc n) W h =
       ap₂ (λ (s t : ℕ). bitXor s (mul F x t)) (bit-cases (λ (d : ℕ). bit (numbers F) (eqb d 1) ≡ d) refl refl W) (value-digits n (W / 2) (half-lt n h))
       ∙ sym (at-step W)
 
   -- two numbers one above the other
-  pub at-join : (k n m : ℕ) → m < 2 ^ k → at F x (n * 2 ^ k + m) ≡ bitXor (at F x m) (mul F (power (numbers F) x k) (at F x n))
+  pub valueOfDigits-join : (k n m : ℕ) → m < 2 ^ k → valueOfDigits F x (n * 2 ^ k + m) ≡ bitXor (valueOfDigits F x m) (mul F (power (numbers F) x k) (valueOfDigits F x n))
   unfolding power
-  at-join zero n m h =
+  valueOfDigits-join zero n m h =
       let z : m ≡ 0 = lt-one h in
-      ap (at F x) (let e : n * 1 + m ≡ n = omega arith in e) ∙ sym (ap₂ bitXor (ap (at F x) z ∙ at-zero) (mul-comm 1 (at F x n) ∙ mul-one-r (at F x n) (at-lt n)))
-  at-join (suc k) n m h =
+      ap (valueOfDigits F x) (let e : n * 1 + m ≡ n = omega arith in e) ∙ sym (ap₂ bitXor (ap (valueOfDigits F x) z ∙ valueOfDigits-zero) (mul-comm 1 (valueOfDigits F x n) ∙ mul-one-r (valueOfDigits F x n) (valueOfDigits-lt n)))
+  valueOfDigits-join (suc k) n m h =
       let half : (n * 2 ^ suc k + m) / 2 ≡ n * 2 ^ k + m / 2 = rw pow-suc (omega arith) in
       let low : (n * 2 ^ suc k + m) % 2 ≡ m % 2 = rw pow-suc (omega arith) in
       let p : ℕ = power (numbers F) x k in
       at-step (n * 2 ^ suc k + m)
-      ∙ ap₂ (λ (s t : ℕ). bitXor s (mul F x t)) low (ap (at F x) half ∙ at-join k n (m / 2) (half-lt k h))
-      ∙ ap (bitXor (m % 2)) (mul-xor-r x (at F x (m / 2)) (mul F p (at F x n)))
-      ∙ sym (xor-assoc (m % 2) (mul F x (at F x (m / 2))) (mul F x (mul F p (at F x n))))
-      ∙ ap₂ bitXor (sym (at-step m)) (sym (mul-assoc x p (at F x n)))
+      ∙ ap₂ (λ (s t : ℕ). bitXor s (mul F x t)) low (ap (valueOfDigits F x) half ∙ valueOfDigits-join k n (m / 2) (half-lt k h))
+      ∙ ap (bitXor (m % 2)) (mul-xor-r x (valueOfDigits F x (m / 2)) (mul F p (valueOfDigits F x n)))
+      ∙ sym (xor-assoc (m % 2) (mul F x (valueOfDigits F x (m / 2))) (mul F x (mul F p (valueOfDigits F x n))))
+      ∙ ap₂ bitXor (sym (at-step m)) (sym (mul-assoc x p (valueOfDigits F x n)))

@@ -1,8 +1,8 @@
 -- Words and their locators: the value of a word at a^i is the i-th power sum of its locators, and NO TWO CODEWORDS LIE
 -- WITHIN t OF ONE WORD.
---   nowhere              words that differ nowhere are equal;  length-both  as long as the two
+--   differ-nowhere              words that differ nowhere are equal;  length-difference  as long as the two
 --   pow-mul, pow-swap, pow-nonzero   powers of a product, of a power, of what is not 0
---   value-sum            the value of a word is a power sum of its locators;  value-both  of a sum is the sum
+--   value-sum            the value of a word is a power sum of its locators;  value-difference  of a sum is the sum
 --   locators-distinct, locators-nonzero   the locators of a word differ, and none is 0
 --   light                a codeword with bit 1 in at most 2t places is zero
 --   correction-unique    NO TWO CODEWORDS LIE WITHIN t OF ONE WORD
@@ -21,7 +21,7 @@ use Rattle.algebra.proofs.Elements as E
 use Rattle.algebra.proofs.Coefficients as P
 use Rattle.algebra.proofs.Evaluation as I
 use Rattle.algebra.specs.Trial.{All, Distinct}
-use Rattle.corrector_code.specs.Word.{differs, both, places, distance, total, bit, value, Codeword, Corrects, locators, Spread}
+use Rattle.corrector_code.specs.Word.{differs, difference, places, bitDistance, total, bit, wordValue, Codeword, CodewordWithin, locators, DistinctPowers}
 use Rattle.corrector_code.proofs.Sums as Y
 
 -- ---- distance
@@ -45,8 +45,8 @@ triangle-bit true true false = omega arith
 triangle-bit true true true = omega arith
 
 triangle : (k : ℕ) (w u v : List Bool) → length u ≡ length w → length v ≡ length w
-    → length (places k (both u v)) ≤ length (places k (both w u)) + length (places k (both w v))
-unfolding both places
+    → length (places k (difference u v)) ≤ length (places k (difference w u)) + length (places k (difference w v))
+unfolding difference places
 triangle k [] [] [] e f = omega arith
 triangle k [] [] (d ∷ v) e f = absurd (omega arith)
 triangle k [] (c ∷ u) v e f = absurd (omega arith)
@@ -55,29 +55,29 @@ triangle k (b ∷ w) (c ∷ u) [] e f = absurd (omega arith)
 triangle k (b ∷ w) (c ∷ u) (d ∷ v) e f =
     omega (
       arith,
-      count k (differs c d) (both u v),
-      count k (differs b c) (both w u),
-      count k (differs b d) (both w v),
+      count k (differs c d) (difference u v),
+      count k (differs b c) (difference w u),
+      count k (differs b d) (difference w v),
       triangle-bit b c d,
       triangle (suc k) w u v (omega arith) (omega arith),
     )
 
 -- words that differ nowhere are equal
-pub nowhere : (k : ℕ) (u v : List Bool) → length u ≡ length v → places k (both u v) ≡ [] → u ≡ v
-unfolding both places
-nowhere k [] [] e h = refl
-nowhere k [] (d ∷ v) e h = absurd (omega arith)
-nowhere k (c ∷ u) [] e h = absurd (omega arith)
-nowhere k (true ∷ u) (true ∷ v) e h = ap (λ l. true ∷ l) (nowhere (suc k) u v (omega arith) h)
-nowhere k (false ∷ u) (false ∷ v) e h = ap (λ l. false ∷ l) (nowhere (suc k) u v (omega arith) h)
-nowhere k (true ∷ u) (false ∷ v) e h = absurd (omega (arith, ap length h))
-nowhere k (false ∷ u) (true ∷ v) e h = absurd (omega (arith, ap length h))
+pub differ-nowhere : (k : ℕ) (u v : List Bool) → length u ≡ length v → places k (difference u v) ≡ [] → u ≡ v
+unfolding difference places
+differ-nowhere k [] [] e h = refl
+differ-nowhere k [] (d ∷ v) e h = absurd (omega arith)
+differ-nowhere k (c ∷ u) [] e h = absurd (omega arith)
+differ-nowhere k (true ∷ u) (true ∷ v) e h = ap (λ l. true ∷ l) (differ-nowhere (suc k) u v (omega arith) h)
+differ-nowhere k (false ∷ u) (false ∷ v) e h = ap (λ l. false ∷ l) (differ-nowhere (suc k) u v (omega arith) h)
+differ-nowhere k (true ∷ u) (false ∷ v) e h = absurd (omega (arith, ap length h))
+differ-nowhere k (false ∷ u) (true ∷ v) e h = absurd (omega (arith, ap length h))
 
-pub length-both : (w v : List Bool) → length v ≡ length w → length (both w v) ≡ length w
-unfolding both
-length-both [] v e = e
-length-both (b ∷ w) [] e = absurd (omega arith)
-length-both (b ∷ w) (c ∷ v) e = ap suc (length-both w v (omega arith))
+pub length-difference : (w v : List Bool) → length v ≡ length w → length (difference w v) ≡ length w
+unfolding difference
+length-difference [] v e = e
+length-difference (b ∷ w) [] e = absurd (omega arith)
+length-difference (b ∷ w) (c ∷ v) e = ap suc (length-difference w v (omega arith))
 
 map-none : {A B : Type 0} (f : A → B) (l : List A) → map f l ≡ [] → l ≡ []
 map-none f [] e = refl
@@ -114,20 +114,20 @@ module _ {K : Type 0} {F : Ops K} (L : Laws F) where
 
   -- ---- the value of a word at a^i is a power sum of its locators
 
-  sum-from : (a : K) (i k : ℕ) (w : List Bool) → total F (λ x. power F x i) (map (power F a) (places k w)) ≡ power F (power F a i) k ⊗ value F w (power F a i)
+  sum-from : (a : K) (i k : ℕ) (w : List Bool) → total F (λ x. power F x i) (map (power F a) (places k w)) ≡ power F (power F a i) k ⊗ wordValue F w (power F a i)
   unfolding places total eval power
   sum-from a i k [] = sym (E.mul-zero L _)
   sum-from a i k (true ∷ w) =
       let r : K = power F a i in
       let p : K = power F r k in
-      ap₂ _⊕_ (pow-swap a k i ∙ sym (Y.times-one L p)) (sum-from a i (suc k) w ∙ mul-assoc r p (value F w r) ∙ E.mul-left-comm L r p (value F w r))
-      ∙ sym (mul-add p 1# (r ⊗ value F w r))
+      ap₂ _⊕_ (pow-swap a k i ∙ sym (Y.times-one L p)) (sum-from a i (suc k) w ∙ mul-assoc r p (wordValue F w r) ∙ E.mul-left-comm L r p (wordValue F w r))
+      ∙ sym (mul-add p 1# (r ⊗ wordValue F w r))
   sum-from a i k (false ∷ w) =
       let r : K = power F a i in
       let p : K = power F r k in
-      sum-from a i (suc k) w ∙ mul-assoc r p (value F w r) ∙ E.mul-left-comm L r p (value F w r) ∙ ap (λ v. p ⊗ v) (sym (zero-add (r ⊗ value F w r)))
+      sum-from a i (suc k) w ∙ mul-assoc r p (wordValue F w r) ∙ E.mul-left-comm L r p (wordValue F w r) ∙ ap (λ v. p ⊗ v) (sym (zero-add (r ⊗ wordValue F w r)))
 
-  pub value-sum : (a : K) (i : ℕ) (w : List Bool) → value F w (power F a i) ≡ total F (λ x. power F x i) (locators F a w)
+  pub value-sum : (a : K) (i : ℕ) (w : List Bool) → wordValue F w (power F a i) ≡ total F (λ x. power F x i) (locators F a w)
   unfolding power
   value-sum a i w = sym (sum-from a i 0 w ∙ one-mul _)
 
@@ -136,18 +136,18 @@ module _ {K : Type 0} {F : Ops K} (L : Laws F) where
   bit-differs true false = sym (E.add-zero L 1#)
   bit-differs true true = sym (add-self 1#)
 
-  bits-both : (w v : List Bool) → map (bit F) (both w v) ≡ add F (map (bit F) w) (map (bit F) v)
-  unfolding both add
+  bits-both : (w v : List Bool) → map (bit F) (difference w v) ≡ add F (map (bit F) w) (map (bit F) v)
+  unfolding difference add
   bits-both [] v = refl
   bits-both (b ∷ w) [] = refl
   bits-both (b ∷ w) (c ∷ v) = ap₂ (λ x l. x ∷ l) (bit-differs b c) (bits-both w v)
 
-  pub value-both : (w v : List Bool) (x : K) → value F (both w v) x ≡ value F w x ⊕ value F v x
-  value-both w v x = ap (λ l. eval F l x) (bits-both w v) ∙ I.eval-add L (map (bit F) w) (map (bit F) v) x
+  pub value-difference : (w v : List Bool) (x : K) → wordValue F (difference w v) x ≡ wordValue F w x ⊕ wordValue F v x
+  value-difference w v x = ap (λ l. eval F l x) (bits-both w v) ∙ I.eval-add L (map (bit F) w) (map (bit F) v) x
 
   -- ---- locators are distinct and not 0
 
-  module _ (a : K) (n : ℕ) (o : Spread F a n) where
+  module _ (a : K) (n : ℕ) (o : DistinctPowers F a n) where
     later : (k j : ℕ) (w : List Bool) → k < j → j + length w ≤ n → All (λ y. power F a k ≢ y) (map (power F a) (places j w))
     unfolding places
     later k j [] h l = tt
@@ -178,10 +178,10 @@ module _ {K : Type 0} {F : Ops K} (L : Laws F) where
         (λ i p q. sym (value-sum a i w) ∙ c i p q))
 
     -- NO TWO CODEWORDS LIE WITHIN t OF ONE WORD
-    pub correction-unique : (t : ℕ) (w u v : List Bool) → length w ≤ n → Corrects F a t w u → Corrects F a t w v → u ≡ v
+    pub correction-unique : (t : ℕ) (w u v : List Bool) → length w ≤ n → CodewordWithin F a t w u → CodewordWithin F a t w v → u ≡ v
     correction-unique t w u v l x y =
         let e : length v ≡ length u = y .0 ∙ sym (x .0) in
-        nowhere 0 u v (sym e)
-        (light t (both u v) (omega (arith, length-both u v e))
-        (λ i p q. value-both u v (power F a i) ∙ ap₂ _⊕_ (x .1 i p q) (y .1 i p q) ∙ zero-add 0#)
+        differ-nowhere 0 u v (sym e)
+        (light t (difference u v) (omega (arith, length-difference u v e))
+        (λ i p q. value-difference u v (power F a i) ∙ ap₂ _⊕_ (x .1 i p q) (y .1 i p q) ∙ zero-add 0#)
         (omega (arith, triangle 0 w u v (x .0) (y .0))))

@@ -1,9 +1,9 @@
 -- The rows, each by its key's digits: the remainder of c x^(88 + k) is the sum of those of 1, 2, 4, .. over the digits
 -- of c.
---   NotBelow n c   c is none of 0 to n - 1;  none-left  then it is not below n
---   top-additive   the remainder of a sum is the sum
---   sum0 ..        the sum of the basis of row0 .. over the digits of a number
---   arm0 ..        so an arm of row0 .. is the remainder of its key
+--   NotBelow n c           c is none of 0 to n - 1;  none-left  then it is not below n
+--   backFromTop-additive   the remainder of a sum is the sum
+--   sum0 ..                the sum of the basis of row0 .. over the digits of a number
+--   arm0 ..                so an arm of row0 .. is the remainder of its key
 -- Assumes nothing.
 use mathlib.Core.Path.{_≡_, refl, sym, ap, ap₂, _∙_}
 use mathlib.Core.List.{List, [], _∷_}
@@ -14,9 +14,9 @@ use native.Mathlib.Omega.{arith}
 use lib.Bits.{bitXor, xor-block}
 use lib.Pow.{pow-pos}
 use Rattle.field.specs.Field.{reduce, horner, cut, size}
-use Rattle.field.proofs.Additive.{Additive, linear, basis, by-basis}
+use Rattle.field.proofs.Additive.{Additive, linearMap, basis, by-basis}
 use Rattle.field.proofs.Reduce.{reduce-xor}
-use Rattle.corrector_generator.specs.Rows.{generator, top}
+use Rattle.corrector_generator.specs.Rows.{generator, backFromTop}
 
 -- none of 0 to n - 1
 unfoldable pub NotBelow : ℕ → ℕ → Type 0
@@ -44,19 +44,19 @@ times k x y =
     ∙ xor-block k x y 0 0 (pow-pos k) (pow-pos k) ∙ add-zero (bitXor x y * 2 ^ k)
 
 -- the remainder of a sum is the sum
-pub top-additive : (k : ℕ) → Additive (λ c. top (c * 2 ^ k))
-unfolding top
-top-additive k x y =
+pub backFromTop-additive : (k : ℕ) → Additive (λ c. backFromTop (c * 2 ^ k))
+unfolding backFromTop
+backFromTop-additive k x y =
     ap (λ (n : ℕ). reduce generator (n * 2 ^ 88)) (sym (times k x y))
     ∙ ap (reduce generator) (sym (times 88 (x * 2 ^ k) (y * 2 ^ k)))
     ∙ reduce-xor generator (x * 2 ^ k * 2 ^ 88) (y * 2 ^ k * 2 ^ 88)
 
 -- what a basis tells of its sums
-by-sum : (k n : ℕ) (B : List ℕ) → basis (λ c. top (c * 2 ^ k)) n ≡ B → {c m v : ℕ} → c < 2 ^ n → c ≡ m → v ≡ linear B m
-    → v ≡ top (c * 2 ^ k)
+by-sum : (k n : ℕ) (B : List ℕ) → basis (λ c. backFromTop (c * 2 ^ k)) n ≡ B → {c m v : ℕ} → c < 2 ^ n → c ≡ m → v ≡ linearMap B m
+    → v ≡ backFromTop (c * 2 ^ k)
 by-sum k n B e {c} {m} {v} h key f =
-    f ∙ ap (linear B) (sym key)
-    ∙ sym (by-basis n (λ x. top (x * 2 ^ k)) (top-additive k) c h ∙ ap (λ (l : List ℕ). linear l c) e)
+    f ∙ ap (linearMap B) (sym key)
+    ∙ sym (by-basis n (λ x. backFromTop (x * 2 ^ k)) (backFromTop-additive k) c h ∙ ap (λ (l : List ℕ). linearMap l c) e)
 
 -- the remainders of x^88, x^89, ..
 basis0 : List ℕ
@@ -66,12 +66,12 @@ basis0 = 8160614335732087325027795 ∷ 16321228671464174650055590 ∷ 3264245734
 
 -- their sum over the digits of a number
 unfoldable pub sum0 : ℕ → ℕ
-unfolding linear basis0
-sum0 c = linear basis0 c
+unfolding linearMap basis0
+sum0 c = linearMap basis0 c
 
 -- an arm of row0
-pub arm0 : {c m v : ℕ} → c < 128 → c ≡ m → v ≡ sum0 m → v ≡ top (c * 1)
-unfolding sum0 basis0 basis top reduce horner cut
+pub arm0 : {c m v : ℕ} → c < 128 → c ≡ m → v ≡ sum0 m → v ≡ backFromTop (c * 1)
+unfolding sum0 basis0 basis backFromTop reduce horner cut
 arm0 h key f = by-sum 0 7 basis0 refl h key f
 
 -- the remainders of x^95, x^96, ..
@@ -82,12 +82,12 @@ basis7 = 129703656486576579590316021 ∷ 259407312973153159180632042 ∷ 2078187
 
 -- their sum over the digits of a number
 unfoldable pub sum7 : ℕ → ℕ
-unfolding linear basis7
-sum7 c = linear basis7 c
+unfolding linearMap basis7
+sum7 c = linearMap basis7 c
 
 -- an arm of row7
-pub arm7 : {c m v : ℕ} → c < 128 → c ≡ m → v ≡ sum7 m → v ≡ top (c * 128)
-unfolding sum7 basis7 basis top reduce horner cut
+pub arm7 : {c m v : ℕ} → c < 128 → c ≡ m → v ≡ sum7 m → v ≡ backFromTop (c * 128)
+unfolding sum7 basis7 basis backFromTop reduce horner cut
 arm7 h key f = by-sum 7 7 basis7 refl h key f
 
 -- the remainders of x^102, x^103, ..
@@ -97,12 +97,12 @@ basis14 = 15922607744525810283595599 ∷ 31845215489051620567191198 ∷ 63690430
 
 -- their sum over the digits of a number
 unfoldable pub sum14 : ℕ → ℕ
-unfolding linear basis14
-sum14 c = linear basis14 c
+unfolding linearMap basis14
+sum14 c = linearMap basis14 c
 
 -- an arm of row14
-pub arm14 : {c m v : ℕ} → c < 64 → c ≡ m → v ≡ sum14 m → v ≡ top (c * 16384)
-unfolding sum14 basis14 basis top reduce horner cut
+pub arm14 : {c m v : ℕ} → c < 64 → c ≡ m → v ≡ sum14 m → v ≡ backFromTop (c * 16384)
+unfolding sum14 basis14 basis backFromTop reduce horner cut
 arm14 h key f = by-sum 14 6 basis14 refl h key f
 
 -- the remainders of x^108, x^109, ..
@@ -112,12 +112,12 @@ basis20 = 79409667713778073347712437 ∷ 158819335427556146695424874 ∷ 5975467
 
 -- their sum over the digits of a number
 unfoldable pub sum20 : ℕ → ℕ
-unfolding linear basis20
-sum20 c = linear basis20 c
+unfolding linearMap basis20
+sum20 c = linearMap basis20 c
 
 -- an arm of row20
-pub arm20 : {c m v : ℕ} → c < 64 → c ≡ m → v ≡ sum20 m → v ≡ top (c * 1048576)
-unfolding sum20 basis20 basis top reduce horner cut
+pub arm20 : {c m v : ℕ} → c < 64 → c ≡ m → v ≡ sum20 m → v ≡ backFromTop (c * 1048576)
+unfolding sum20 basis20 basis backFromTop reduce horner cut
 arm20 h key f = by-sum 20 6 basis20 refl h key f
 
 -- the remainders of x^114, x^115, ..
@@ -127,10 +127,10 @@ basis26 = 9560748642264419935432816 ∷ 19121497284528839870865632 ∷ 382429945
 
 -- their sum over the digits of a number
 unfoldable pub sum26 : ℕ → ℕ
-unfolding linear basis26
-sum26 c = linear basis26 c
+unfolding linearMap basis26
+sum26 c = linearMap basis26 c
 
 -- an arm of row26
-pub arm26 : {c m v : ℕ} → c < 64 → c ≡ m → v ≡ sum26 m → v ≡ top (c * 67108864)
-unfolding sum26 basis26 basis top reduce horner cut
+pub arm26 : {c m v : ℕ} → c < 64 → c ≡ m → v ≡ sum26 m → v ≡ backFromTop (c * 67108864)
+unfolding sum26 basis26 basis backFromTop reduce horner cut
 arm26 h key f = by-sum 26 6 basis26 refl h key f

@@ -3,4 +3,4 @@
 pub mod rows; // the remainders, as constants in place
 
 // A remainder: the 64 low digits, and those above.
-pub struct Row(pub u64, pub u32);
+pub struct Remainder(pub u64, pub u32);

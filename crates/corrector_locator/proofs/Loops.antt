@@ -1,6 +1,6 @@
 -- The loops of the register's functions.
 --   plusTimes-at, plusTimes-long          p + d q, coefficient by coefficient
---   Summing, sum-start, sum-turn, sum-end   the loop of a coefficient of a product
+--   Convolving, convolve-start, convolve-turn, convolve-end   the loop of a coefficient of a product
 --   shift-from, shift-start               z^2 p
 --   conv-lt                               a coefficient of a product is an element
 --   times-only                            0 + v p
@@ -41,17 +41,17 @@ plusTimes-long p d q e = length-add F11 p (map (mul (fieldAt 11) d) q) (omega (a
 
 -- ---- product_at: d has the terms before i
 
-pub record Summing (p : List ℕ) (s : ℕ → ℕ) (k d i : ℕ) : Type 0 where
+pub record Convolving (p : List ℕ) (s : ℕ → ℕ) (k d i : ℕ) : Type 0 where
   pub within : i ≤ suc k
   pub some : i ≤ k → bitXor d (conv F11 (drop i p) s (k - i)) ≡ conv F11 p s k
   pub all : k < i → d ≡ conv F11 p s k
 
-pub sum-start : (p : List ℕ) (s : ℕ → ℕ) (k : ℕ) → Summing p s k 0 0
-sum-start p s k = record { within = omega arith; some = λ l. let e : k - 0 ≡ k = omega arith in ap (conv F11 p s) e; all = λ l. absurd (not-suc-le-zero l) }
+pub convolve-start : (p : List ℕ) (s : ℕ → ℕ) (k : ℕ) → Convolving p s k 0 0
+convolve-start p s k = record { within = omega arith; some = λ l. let e : k - 0 ≡ k = omega arith in ap (conv F11 p s) e; all = λ l. absurd (not-suc-le-zero l) }
 
-pub sum-turn : {p : List ℕ} {s : ℕ → ℕ} {k d i : ℕ} (v : ℕ) → Summing p s k d i → i < length p → i ≤ k → v ≡ mul (fieldAt 11) (getD p i 0) (s (k - i))
-    → Summing p s k (bitXor d v) (i + 1)
-sum-turn {p} {s} {k} {d} {i} v w h l e = record {
+pub convolve-turn : {p : List ℕ} {s : ℕ → ℕ} {k d i : ℕ} (v : ℕ) → Convolving p s k d i → i < length p → i ≤ k → v ≡ mul (fieldAt 11) (getD p i 0) (s (k - i))
+    → Convolving p s k (bitXor d v) (i + 1)
+convolve-turn {p} {s} {k} {d} {i} v w h l e = record {
   within = omega arith;
   some = λ m.
       let next : k - i ≡ suc (k - (i + 1)) = omega arith in
@@ -72,13 +72,13 @@ sum-turn {p} {s} {k} {d} {i} v w h l e = record {
     one = unfold conv in refl
 
 -- the loop stops at the end of p, or behind k
-sum-short : {p : List ℕ} {s : ℕ → ℕ} {k d i : ℕ} → Summing p s k d i → length p ≤ i → i ≤ k → d ≡ conv F11 p s k
+convolve-short : {p : List ℕ} {s : ℕ → ℕ} {k d i : ℕ} → Convolving p s k d i → length p ≤ i → i ≤ k → d ≡ conv F11 p s k
 unfolding conv
-sum-short {p} {s} {k} {d} {i} w h l =
+convolve-short {p} {s} {k} {d} {i} w h l =
     sym (xor-zero-r d) ∙ ap (bitXor d) (sym (ap (λ q. conv F11 q s (k - i)) (drop-of-length-le p {i = i} h))) ∙ w .some l
 
-pub sum-end : {p : List ℕ} {s : ℕ → ℕ} {k d i : ℕ} → Summing p s k d i → length p ≤ i → d ≡ conv F11 p s k
-sum-end {p} {s} {k} {d} {i} w h = elim (decLe i k) [ yes l ↦ sum-short w h l | no l ↦ w .all (omega arith) ]
+pub convolve-end : {p : List ℕ} {s : ℕ → ℕ} {k d i : ℕ} → Convolving p s k d i → length p ≤ i → d ≡ conv F11 p s k
+convolve-end {p} {s} {k} {d} {i} w h = elim (decLe i k) [ yes l ↦ convolve-short w h l | no l ↦ w .all (omega arith) ]
 
 -- ---- shifted
 

@@ -71,7 +71,7 @@ pub struct State {
 }
 
 // One turn, on the power sums 2m + 1 and 2m + 2.
-fn turned(logs: &[u16], antilogs: &[u16], s: &[u16], m: usize, r: State) -> State
+fn turn_register(logs: &[u16], antilogs: &[u16], s: &[u16], m: usize, r: State) -> State
     requires { do ⌜ Lent 11 (now logs) (now antilogs) × Under (now s) × (2 * m + 1 < (← ⟦s.len()⟧)) × Sound r ⌝ }
     ensures { λ n. ⌜ registerOf n ≡ turn F11 (λ j. getD (now (s .entry)) j 0) m (registerOf r) ⌝ }
 {
@@ -126,7 +126,7 @@ pub fn key(logs: &[u16], antilogs: &[u16], s: &[u16], t: usize) -> State
     };
     let mut m: usize = 0;
     while m < t {
-        r = turned(logs, antilogs, s, m, r);
+        r = turn_register(logs, antilogs, s, m, r);
         m += 1;
     }
     r

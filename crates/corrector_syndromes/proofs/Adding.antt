@@ -1,8 +1,8 @@
 -- The odd syndromes of a number, digit by digit: each digit's row of powers is added.
---   RowOn, row-from, row-on, row-end               the loop over a row
---   Valuing, values-from, values-on, values-end    the loop over the digits;  place-fits  a digit left has a row
---   both-parts                                     both parts of a remainder
---   zeros-at                                       eight zeros
+--   RowOn, row-from, row-on, row-end                                the loop over a row
+--   AddingDigits, add-digits-from, add-digits-on, add-digits-end    the loop over the digits;  place-fits  a digit left has a row
+--   both-parts                                                      both parts of a remainder
+--   zeros-at                                                        eight zeros
 -- Assumes nothing.
 use mathlib.Core.Path.{_≡_, refl, sym, ap, ap₂, _∙_, subst}
 use mathlib.Core.Logic.{_⊎_, inl, inr, ⊎-elim}
@@ -18,17 +18,17 @@ use lib.Seq.{getD-set-same, getD-set-other}
 use Rattle.algebra.specs.Field.{power}
 use Rattle.field.specs.Field.{fieldAt, mul}
 use Rattle.field.proofs.Ring.{ring, RingLaws, power-lt}
-use Rattle.field.proofs.Generator.{unit}
-use Rattle.corrector_code.specs.Digits.{at}
+use Rattle.field.proofs.Generator.{one-below}
+use Rattle.corrector_code.specs.Digits.{valueOfDigits}
 use Rattle.corrector_code.specs.Eleven.{F11}
 use Rattle.corrector_code.proofs.Eleven.{gen11}
-use Rattle.corrector_code.proofs.Values.{digit-turn, at-join, at-lt, at-zero}
+use Rattle.corrector_code.proofs.Values.{digit-turn, valueOfDigits-join, valueOfDigits-lt, valueOfDigits-zero}
 use Rattle.corrector_syndromes.specs.Remainder.{oddPower, RowTable, RowAdded, ValuesAdded, OddValues}
 use Rattle.corrector_syndromes.proofs.Entries.{power-next, power-none}
 open RingLaws (ring (fieldAt 11) (gen11 .monic)) using (mul-comm, mul-zero-r, mul-one-r, mul-lt)
 
-value-nought : (x : ℕ) → at (fieldAt 11) x 0 ≡ 0
-value-nought x = at-zero (fieldAt 11) (gen11 .monic) (unit (fieldAt 11) gen11) x
+value-nought : (x : ℕ) → valueOfDigits (fieldAt 11) x 0 ≡ 0
+value-nought x = valueOfDigits-zero (fieldAt 11) (gen11 .monic) (one-below (fieldAt 11) gen11) x
 
 -- ---- one row
 
@@ -61,15 +61,15 @@ row-end w h = record { long = w .long; value = λ i l. w .done i (let m = w .wit
 
 -- ---- the digits of n, from j on
 
-pub record Valuing (s : List ℕ) (n j : ℕ) (r : List ℕ) (x i : ℕ) : Type 0 where
+pub record AddingDigits (s : List ℕ) (n j : ℕ) (r : List ℕ) (x i : ℕ) : Type 0 where
   pub long : length r ≡ 8
   pub fits : x * 2 ^ i < 2 ^ 88
   pub value : (k : ℕ) → k < 8
-      → bitXor (getD r k 0) (mul (fieldAt 11) (power F11 (oddPower k) i) (at (fieldAt 11) (oddPower k) x))
-      ≡ bitXor (getD s k 0) (mul (fieldAt 11) (power F11 (oddPower k) j) (at (fieldAt 11) (oddPower k) n))
+      → bitXor (getD r k 0) (mul (fieldAt 11) (power F11 (oddPower k) i) (valueOfDigits (fieldAt 11) (oddPower k) x))
+      ≡ bitXor (getD s k 0) (mul (fieldAt 11) (power F11 (oddPower k) j) (valueOfDigits (fieldAt 11) (oddPower k) n))
 
-pub values-from : (s : List ℕ) (n j : ℕ) → length s ≡ 8 → n * 2 ^ j < 2 ^ 88 → Valuing s n j s n j
-values-from s n j l f = record { long = l; fits = f; value = λ k h. refl }
+pub add-digits-from : (s : List ℕ) (n j : ℕ) → length s ≡ 8 → n * 2 ^ j < 2 ^ 88 → AddingDigits s n j s n j
+add-digits-from s n j l f = record { long = l; fits = f; value = λ k h. refl }
 
 -- where a digit is left, there is a row for it
 pub place-fits : (x i : ℕ) → 0 < x → x * 2 ^ i < 2 ^ 88 → i < 88
@@ -100,12 +100,12 @@ half-fits x i f =
     omega arith
 
 -- a turn: the row of a digit 1 was added, or nothing for a digit 0
-pub values-on : {s r r′ : List ℕ} {n j x i : ℕ} → Valuing s n j r x i → (RowAdded r i r′ × (x % 2 ≡ 1)) ⊎ ((r′ ≡ r) × (x % 2 ≡ 0)) → Valuing s n j r′ (x / 2) (i + 1)
-values-on {s} {r} {r′} {n} {j} {x} {i} w c = record {
+pub add-digits-on : {s r r′ : List ℕ} {n j x i : ℕ} → AddingDigits s n j r x i → (RowAdded r i r′ × (x % 2 ≡ 1)) ⊎ ((r′ ≡ r) × (x % 2 ≡ 0)) → AddingDigits s n j r′ (x / 2) (i + 1)
+add-digits-on {s} {r} {r′} {n} {j} {x} {i} w c = record {
   long = ⊎-elim (λ a. a .0 .long) (λ a. ap length (a .0) ∙ w .long) c;
   fits = half-fits x i (w .fits);
-  value = λ k h. ap₂ bitXor (added k h c) (ap (λ (p : ℕ). mul (fieldAt 11) p (at (fieldAt 11) (oddPower k) (x / 2))) (next k))
-      ∙ digit-turn (fieldAt 11) (gen11 .monic) (unit (fieldAt 11) gen11) (oddPower k) (getD r k 0) (power F11 (oddPower k) i) x (power-lt (fieldAt 11) (gen11 .monic) (unit (fieldAt 11) gen11) (oddPower k) i)
+  value = λ k h. ap₂ bitXor (added k h c) (ap (λ (p : ℕ). mul (fieldAt 11) p (valueOfDigits (fieldAt 11) (oddPower k) (x / 2))) (next k))
+      ∙ digit-turn (fieldAt 11) (gen11 .monic) (one-below (fieldAt 11) gen11) (oddPower k) (getD r k 0) (power F11 (oddPower k) i) x (power-lt (fieldAt 11) (gen11 .monic) (one-below (fieldAt 11) gen11) (oddPower k) i)
       ∙ w .value k h;
 }
   where
@@ -116,10 +116,10 @@ values-on {s} {r} {r′} {n} {j} {x} {i} w c = record {
     added k h (inl a) = a .0 .value k h ∙ ap (bitXor (getD r k 0)) (let p : ℕ = power F11 (oddPower k) i in let e : 1 * p ≡ p = omega arith in sym (ap (λ (d : ℕ). d * p) (a .1) ∙ e))
     added k h (inr a) = ap (λ (l : List ℕ). getD l k 0) (a .0) ∙ sym (ap (bitXor (getD r k 0)) (let p : ℕ = power F11 (oddPower k) i in let e : 0 * p ≡ 0 = omega arith in ap (λ (d : ℕ). d * p) (a .1) ∙ e) ∙ xor-zero-r (getD r k 0))
 
-pub values-end : {s r : List ℕ} {n j x i : ℕ} → Valuing s n j r x i → x ≡ 0 → ValuesAdded s n j r
-values-end {s} {r} {n} {j} {x} {i} w e = record {
+pub add-digits-end : {s r : List ℕ} {n j x i : ℕ} → AddingDigits s n j r x i → x ≡ 0 → ValuesAdded s n j r
+add-digits-end {s} {r} {n} {j} {x} {i} w e = record {
   long = w .long;
-  value = λ k h. sym (ap (bitXor (getD r k 0)) (ap (mul (fieldAt 11) (power F11 (oddPower k) i)) (ap (at (fieldAt 11) (oddPower k)) e ∙ value-nought (oddPower k)) ∙ mul-zero-r (power F11 (oddPower k) i)) ∙ xor-zero-r (getD r k 0)) ∙ w .value k h;
+  value = λ k h. sym (ap (bitXor (getD r k 0)) (ap (mul (fieldAt 11) (power F11 (oddPower k) i)) (ap (valueOfDigits (fieldAt 11) (oddPower k)) e ∙ value-nought (oddPower k)) ∙ mul-zero-r (power F11 (oddPower k) i)) ∙ xor-zero-r (getD r k 0)) ∙ w .value k h;
 }
 
 -- both parts of a remainder
@@ -127,12 +127,12 @@ pub both-parts : {none s r : List ℕ} (lo hi : ℕ) → lo < 2 ^ 64 → ((k : �
 both-parts {none} {s} {r} lo hi b z p q = record {
   long = q .long;
   value = λ k h. q .value k h
-      ∙ ap (λ (v : ℕ). bitXor v (mul (fieldAt 11) (power F11 (oddPower k) 64) (at (fieldAt 11) (oddPower k) hi))) (p .value k h ∙ ap₂ bitXor (z k) (first k))
-      ∙ sym (at-join (fieldAt 11) (gen11 .monic) (unit (fieldAt 11) gen11) (oddPower k) 64 hi lo b);
+      ∙ ap (λ (v : ℕ). bitXor v (mul (fieldAt 11) (power F11 (oddPower k) 64) (valueOfDigits (fieldAt 11) (oddPower k) hi))) (p .value k h ∙ ap₂ bitXor (z k) (first k))
+      ∙ sym (valueOfDigits-join (fieldAt 11) (gen11 .monic) (one-below (fieldAt 11) gen11) (oddPower k) 64 hi lo b);
 }
   where
-    first : (k : ℕ) → mul (fieldAt 11) (power F11 (oddPower k) 0) (at (fieldAt 11) (oddPower k) lo) ≡ at (fieldAt 11) (oddPower k) lo
-    first k = ap (λ (p : ℕ). mul (fieldAt 11) p (at (fieldAt 11) (oddPower k) lo)) (power-none (oddPower k)) ∙ mul-comm 1 _ ∙ mul-one-r _ (at-lt (fieldAt 11) (gen11 .monic) (unit (fieldAt 11) gen11) (oddPower k) lo)
+    first : (k : ℕ) → mul (fieldAt 11) (power F11 (oddPower k) 0) (valueOfDigits (fieldAt 11) (oddPower k) lo) ≡ valueOfDigits (fieldAt 11) (oddPower k) lo
+    first k = ap (λ (p : ℕ). mul (fieldAt 11) p (valueOfDigits (fieldAt 11) (oddPower k) lo)) (power-none (oddPower k)) ∙ mul-comm 1 _ ∙ mul-one-r _ (valueOfDigits-lt (fieldAt 11) (gen11 .monic) (one-below (fieldAt 11) gen11) (oddPower k) lo)
 
 -- eight zeros
 pub zeros-at : (k : ℕ) → _≡_ {A = ℕ} (getD (replicate 8 0) k 0) 0

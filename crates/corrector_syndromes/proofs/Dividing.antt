@@ -14,9 +14,9 @@ use lib.Seq.{drop-cons, drop-length}
 use Rattle.field.specs.Field.{size, cut, reduce}
 use Rattle.field.proofs.Xor.{xor-assoc}
 use Rattle.field.proofs.Reduce.{reduce-xor, reduce-below, reduce-lt, reduce-again, reduce-double, reduce-zero}
-use Rattle.corrector_code.specs.Digits.{numberOf}
-use Rattle.corrector_generator.specs.Rows.{generator, top, rowOf}
-use Rattle.corrector_generator.specs.declared.Row.{Row}
+use Rattle.corrector_code.specs.Digits.{bytesNumber}
+use Rattle.corrector_generator.specs.Rows.{generator, backFromTop, remainderOf}
+use Rattle.corrector_generator.specs.declared.Remainder.{Remainder}
 use Rattle.corrector_syndromes.specs.Remainder.{restOf}
 use Rattle.corrector_syndromes.specs.declared.Rest.{Rest}
 
@@ -24,8 +24,8 @@ monic : generator .poly / size generator ≡ 1
 monic = refl
 
 -- a number and digits below it
-top-split : (k a b : ℕ) → b < 2 ^ k → top (a * 2 ^ k + b) ≡ bitXor (top (a * 2 ^ k)) (top b)
-unfolding top
+top-split : (k a b : ℕ) → b < 2 ^ k → backFromTop (a * 2 ^ k + b) ≡ bitXor (backFromTop (a * 2 ^ k)) (backFromTop b)
+unfolding backFromTop
 top-split k a b h =
     ap (λ (n : ℕ). reduce generator (n * 2 ^ 88)) (sym (xor-shifted a k b h)) ∙ ap (reduce generator) (sym (scaled (a * 2 ^ k) b))
     ∙ reduce-xor generator (a * 2 ^ k * 2 ^ 88) (b * 2 ^ 88)
@@ -39,10 +39,10 @@ top-split k a b h =
 
 -- four bytes in: t leaves at the top, and its remainder h 2^64 + l comes back
 bytes-on : (lo hi b l h : ℕ) → lo < 2 ^ 64 → hi < 16777216 → b < 4294967296 → l < 2 ^ 64
-    → h * 2 ^ 64 + l ≡ top (hi * 256 + lo / 72057594037927936)
+    → h * 2 ^ 64 + l ≡ backFromTop (hi * 256 + lo / 72057594037927936)
     → bitXor (lo / 4294967296 % 16777216) h * 2 ^ 64 + bitXor (lo % 4294967296 * 4294967296 + b) l
     ≡ reduce generator ((hi * 2 ^ 64 + lo) * 4294967296 + b)
-unfolding top
+unfolding backFromTop
 bytes-on lo hi b l h a c d e back =
     let t : ℕ = hi * 256 + lo / 72057594037927936 in
     let A : ℕ = lo / 4294967296 % 16777216 in
@@ -72,35 +72,35 @@ six x p q r s t =
     ∙ xor-assoc (bitXor x p) q (bitXor r (bitXor s t)) ∙ xor-assoc x p (bitXor q (bitXor r (bitXor s t)))
 
 -- the lowest digits of what is left, and those above
-part : (k t u v : ℕ) → u < 2 ^ k → v * 2 ^ k + u ≡ t → top t ≡ bitXor (top u) (top (v * 2 ^ k))
-part k t u v h e = ap top (sym e) ∙ top-split k v u h ∙ xor-comm (top (v * 2 ^ k)) (top u)
+part : (k t u v : ℕ) → u < 2 ^ k → v * 2 ^ k + u ≡ t → backFromTop t ≡ bitXor (backFromTop u) (backFromTop (v * 2 ^ k))
+part k t u v h e = ap backFromTop (sym e) ∙ top-split k v u h ∙ xor-comm (backFromTop (v * 2 ^ k)) (backFromTop u)
 
 -- 32 digits in five parts
 parts : (t : ℕ) → t < 4294967296
-    → bitXor (top (t % 128 * 1)) (bitXor (top (t / 128 % 128 * 128)) (bitXor (top (t / 16384 % 64 * 16384))
-    (bitXor (top (t / 1048576 % 64 * 1048576)) (top (t / 67108864 % 64 * 67108864))))) ≡ top t
+    → bitXor (backFromTop (t % 128 * 1)) (bitXor (backFromTop (t / 128 % 128 * 128)) (bitXor (backFromTop (t / 16384 % 64 * 16384))
+    (bitXor (backFromTop (t / 1048576 % 64 * 1048576)) (backFromTop (t / 67108864 % 64 * 67108864))))) ≡ backFromTop t
 parts t h =
     let p₀ = part 7 t (t % 128 * 1) (t / 128) (omega arith) (omega arith) in
     let p₁ = part 14 (t / 128 * 2 ^ 7) (t / 128 % 128 * 128) (t / 16384) (omega arith) (omega arith) in
     let p₂ = part 20 (t / 16384 * 2 ^ 14) (t / 16384 % 64 * 16384) (t / 1048576) (omega arith) (omega arith) in
     let p₃ = part 26 (t / 1048576 * 2 ^ 20) (t / 1048576 % 64 * 1048576) (t / 67108864 % 64) (omega arith) (omega arith) in
-    sym (p₀ ∙ ap (bitXor (top (t % 128 * 1))) (p₁ ∙ ap (bitXor (top (t / 128 % 128 * 128)))
-    (p₂ ∙ ap (bitXor (top (t / 16384 % 64 * 16384))) p₃)))
+    sym (p₀ ∙ ap (bitXor (backFromTop (t % 128 * 1))) (p₁ ∙ ap (bitXor (backFromTop (t / 128 % 128 * 128)))
+    (p₂ ∙ ap (bitXor (backFromTop (t / 16384 % 64 * 16384))) p₃)))
 
 -- the rows at the five parts of what leaves
-pub record Brought (t : ℕ) (c d e f g : Row) : Type 0 where
-  pub at0 : rowOf c ≡ top (t % 128 * 1)
-  pub at7 : rowOf d ≡ top (t / 128 % 128 * 128)
-  pub at14 : rowOf e ≡ top (t / 16384 % 64 * 16384)
-  pub at20 : rowOf f ≡ top (t / 1048576 % 64 * 1048576)
-  pub at26 : rowOf g ≡ top (t / 67108864 % 64 * 67108864)
+pub record Brought (t : ℕ) (c d e f g : Remainder) : Type 0 where
+  pub at0 : remainderOf c ≡ backFromTop (t % 128 * 1)
+  pub at7 : remainderOf d ≡ backFromTop (t / 128 % 128 * 128)
+  pub at14 : remainderOf e ≡ backFromTop (t / 16384 % 64 * 16384)
+  pub at20 : remainderOf f ≡ backFromTop (t / 1048576 % 64 * 1048576)
+  pub at26 : remainderOf g ≡ backFromTop (t / 67108864 % 64 * 67108864)
 
 -- a row's low half
-abbrev Low : Row → Type 0
+abbrev Low : Remainder → Type 0
 Low c = c .0 < 2 ^ 64
 
 -- the remainder with four bytes more
-pub rows-on : (lo hi b : ℕ) (c d e f g : Row) → lo < 2 ^ 64 → hi < 16777216 → b < 4294967296
+pub rows-on : (lo hi b : ℕ) (c d e f g : Remainder) → lo < 2 ^ 64 → hi < 16777216 → b < 4294967296
     → Brought (hi * 256 + lo / 72057594037927936) c d e f g → Low c → Low d → Low e → Low f → Low g
     → bitXor (bitXor (bitXor (bitXor (bitXor (lo / 4294967296 % 16777216) (c .1)) (d .1)) (e .1)) (f .1)) (g .1) * 2 ^ 64
     + bitXor (bitXor (bitXor (bitXor (bitXor (lo % 4294967296 * 4294967296 + b) (c .0)) (d .0)) (e .0)) (f .0)) (g .0)
@@ -141,35 +141,35 @@ bytes-before U b h =
 pub record Resting (word : List ℕ) (r : Rest) (i : ℕ) : Type 0 where
   pub within : i ≤ 256
   pub fourth : i % 4 ≡ 0
-  pub done : restOf r ≡ reduce generator (numberOf (drop i word))
+  pub done : restOf r ≡ reduce generator (bytesNumber (drop i word))
 
 -- no byte yet
 pub rest-start : (word : List ℕ) (r : Rest) → length word ≡ 256 → r .hi ≡ 0 → r .lo ≡ 0 → Resting word r 256
-unfolding numberOf
+unfolding bytesNumber
 rest-start word r n a b = record {
   within = omega arith;
   fourth = refl;
   done =
       let last : drop 256 word ≡ [] = ap (λ (k : ℕ). drop k word) (sym n) ∙ drop-length word in
-      ap₂ (λ (h l : ℕ). h * 2 ^ 64 + l) a b ∙ sym (ap (λ l. reduce generator (numberOf l)) last ∙ reduce-zero generator);
+      ap₂ (λ (h l : ℕ). h * 2 ^ 64 + l) a b ∙ sym (ap (λ l. reduce generator (bytesNumber l)) last ∙ reduce-zero generator);
 }
 
 -- the number of a word from place k on, four bytes and the others
 four-bytes : (word : List ℕ) (k i : ℕ) → suc (suc (suc (suc k))) ≡ i → i ≤ length word
-    → numberOf (drop k word)
-    ≡ numberOf (drop i word) * 4294967296 + (getD word k 0 + getD word (k + 1) 0 * 256 + getD word (k + 2) 0 * 65536 + getD word (k + 3) 0 * 16777216)
-unfolding numberOf
+    → bytesNumber (drop k word)
+    ≡ bytesNumber (drop i word) * 4294967296 + (getD word k 0 + getD word (k + 1) 0 * 256 + getD word (k + 2) 0 * 65536 + getD word (k + 3) 0 * 16777216)
+unfolding bytesNumber
 four-bytes word k i back h =
     let e₁ : suc k ≡ k + 1 = omega arith in
     let e₂ : suc (suc k) ≡ k + 2 = omega arith in
     let e₃ : suc (suc (suc k)) ≡ k + 3 = omega arith in
     let at : ℕ → ℕ = λ j. getD word j 0 in
-    ap numberOf (drop-cons word k 0 (omega arith))
-    ∙ ap (λ l. numberOf l * 256 + at k) (drop-cons word (suc k) 0 (omega arith))
-    ∙ ap (λ l. (numberOf l * 256 + at (suc k)) * 256 + at k) (drop-cons word (suc (suc k)) 0 (omega arith))
-    ∙ ap (λ l. ((numberOf l * 256 + at (suc (suc k))) * 256 + at (suc k)) * 256 + at k) (drop-cons word (suc (suc (suc k))) 0 (omega arith))
-    ∙ ap (λ (j : ℕ). (((numberOf (drop j word) * 256 + at (suc (suc (suc k)))) * 256 + at (suc (suc k))) * 256 + at (suc k)) * 256 + at k) back
-    ∙ joined (numberOf (drop i word)) (at k) (ap at e₁) (ap at e₂) (ap at e₃)
+    ap bytesNumber (drop-cons word k 0 (omega arith))
+    ∙ ap (λ l. bytesNumber l * 256 + at k) (drop-cons word (suc k) 0 (omega arith))
+    ∙ ap (λ l. (bytesNumber l * 256 + at (suc k)) * 256 + at k) (drop-cons word (suc (suc k)) 0 (omega arith))
+    ∙ ap (λ l. ((bytesNumber l * 256 + at (suc (suc k))) * 256 + at (suc k)) * 256 + at k) (drop-cons word (suc (suc (suc k))) 0 (omega arith))
+    ∙ ap (λ (j : ℕ). (((bytesNumber (drop j word) * 256 + at (suc (suc (suc k)))) * 256 + at (suc (suc k))) * 256 + at (suc k)) * 256 + at k) back
+    ∙ joined (bytesNumber (drop i word)) (at k) (ap at e₁) (ap at e₂) (ap at e₃)
   where
     joined : (n a : ℕ) {b c d b′ c′ d′ : ℕ} → b ≡ b′ → c ≡ c′ → d ≡ d′
         → (((n * 256 + d) * 256 + c) * 256 + b) * 256 + a ≡ n * 4294967296 + (a + b′ * 256 + c′ * 65536 + d′ * 16777216)
@@ -182,17 +182,17 @@ pub rest-turn : {word : List ℕ} {r : Rest} {i : ℕ} (s : Rest) → length wor
 rest-turn {word} {r} {i} s n w h {b} u e =
     let p = w .within in
     let q = w .fourth in
-    let next : numberOf (drop (i - 4) word) ≡ numberOf (drop i word) * 4294967296 + b =
-    four-bytes word (i - 4) i (omega arith) (omega arith) ∙ ap (λ (x : ℕ). numberOf (drop i word) * 4294967296 + x) (sym (u .0)) in
+    let next : bytesNumber (drop (i - 4) word) ≡ bytesNumber (drop i word) * 4294967296 + b =
+    four-bytes word (i - 4) i (omega arith) (omega arith) ∙ ap (λ (x : ℕ). bytesNumber (drop i word) * 4294967296 + x) (sym (u .0)) in
     record {
       within = omega arith;
       fourth = omega arith;
       done =
-          e ∙ ap (λ v. reduce generator (v * 4294967296 + b)) (w .done) ∙ bytes-before (numberOf (drop i word)) b (u .1)
+          e ∙ ap (λ v. reduce generator (v * 4294967296 + b)) (w .done) ∙ bytes-before (bytesNumber (drop i word)) b (u .1)
           ∙ ap (reduce generator) (sym next);
     }
 
 -- every byte
-pub rest-end : {word : List ℕ} {r : Rest} {i : ℕ} → Resting word r i → i ≤ 0 → restOf r ≡ reduce generator (numberOf word)
+pub rest-end : {word : List ℕ} {r : Rest} {i : ℕ} → Resting word r i → i ≤ 0 → restOf r ≡ reduce generator (bytesNumber word)
 rest-end {word} {r} {i} w h =
-    let z : i ≡ 0 = omega arith in w .done ∙ ap (λ k. reduce generator (numberOf (drop k word))) z
+    let z : i ≡ 0 = omega arith in w .done ∙ ap (λ k. reduce generator (bytesNumber (drop k word))) z

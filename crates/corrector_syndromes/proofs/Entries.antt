@@ -15,7 +15,7 @@ use lib.Seq.{getD-append-add}
 use lib.ListN.{List·getD-append}
 use Rattle.algebra.specs.Field.{power}
 use Rattle.field.specs.Field.{fieldAt, numbers, size, reduce, cut, horner, mul, carryFree}
-use Rattle.field.proofs.Table.{both, both-left, both-right}
+use Rattle.field.proofs.Table.{bothTrue, bothTrue-left, bothTrue-right}
 use Rattle.corrector_code.specs.Eleven.{F11}
 use Rattle.corrector_syndromes.specs.Remainder.{oddPower, RowTable}
 
@@ -42,14 +42,14 @@ sameList : List ℕ → List ℕ → Bool
 sameList [] [] = true
 sameList [] (y ∷ m) = false
 sameList (x ∷ l) [] = false
-sameList (x ∷ l) (y ∷ m) = both (eqb x y) (sameList l m)
+sameList (x ∷ l) (y ∷ m) = bothTrue (eqb x y) (sameList l m)
 
 same-is : (l m : List ℕ) → T (sameList l m) → l ≡ m
 unfolding sameList
 same-is [] [] t = refl
 same-is [] (y ∷ m) t = absurd t
 same-is (x ∷ l) [] t = absurd t
-same-is (x ∷ l) (y ∷ m) t = ap₂ (λ a r. a ∷ r) (eqb→eq x y (both-left (eqb x y) (sameList l m) t)) (same-is l m (both-right (eqb x y) (sameList l m) t))
+same-is (x ∷ l) (y ∷ m) t = ap₂ (λ a r. a ∷ r) (eqb→eq x y (bothTrue-left (eqb x y) (sameList l m) t)) (same-is l m (bothTrue-right (eqb x y) (sameList l m) t))
 
 odds : List ℕ
 odds = oddPower 0 ∷ oddPower 1 ∷ oddPower 2 ∷ oddPower 3 ∷ oddPower 4 ∷ oddPower 5 ∷ oddPower 6 ∷ oddPower 7 ∷ []

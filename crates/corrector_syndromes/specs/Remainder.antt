@@ -13,7 +13,7 @@ use lib.Bits.{bitXor}
 use lib.ListN.{getD, length}
 use Rattle.algebra.specs.Field.{power}
 use Rattle.field.specs.Field.{fieldAt, mul}
-use Rattle.corrector_code.specs.Digits.{at}
+use Rattle.corrector_code.specs.Digits.{valueOfDigits}
 use Rattle.corrector_code.specs.Eleven.{F11}
 use Rattle.corrector_syndromes.specs.declared.Rest.{Rest}
 
@@ -33,7 +33,7 @@ pub record RowTable (rows : List ℕ) : Type 0 where
 pub record ValuesAdded (s : List ℕ) (n j : ℕ) (r : List ℕ) : Type 0 where
   pub long : length r ≡ 8
   pub value : (k : ℕ) → k < 8
-      → getD r k 0 ≡ bitXor (getD s k 0) (mul (fieldAt 11) (power F11 (oddPower k) j) (at (fieldAt 11) (oddPower k) n))
+      → getD r k 0 ≡ bitXor (getD s k 0) (mul (fieldAt 11) (power F11 (oddPower k) j) (valueOfDigits (fieldAt 11) (oddPower k) n))
 
 -- r is s, with the values of x^j added
 pub record RowAdded (s : List ℕ) (j : ℕ) (r : List ℕ) : Type 0 where
@@ -43,4 +43,4 @@ pub record RowAdded (s : List ℕ) (j : ℕ) (r : List ℕ) : Type 0 where
 -- the values of the polynomial with the binary digits of n
 pub record OddValues (n : ℕ) (s : List ℕ) : Type 0 where
   pub long : length s ≡ 8
-  pub value : (k : ℕ) → k < 8 → getD s k 0 ≡ at (fieldAt 11) (oddPower k) n
+  pub value : (k : ℕ) → k < 8 → getD s k 0 ≡ valueOfDigits (fieldAt 11) (oddPower k) n

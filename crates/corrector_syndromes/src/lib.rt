@@ -5,12 +5,12 @@ ghost use Prim.Native.Nat.{_+_, _*_, _^_, _<_};
 ghost use lib.ListN.{length};
 ghost use Rattle.field.specs.Field.{reduce};
 ghost use Rattle.corrector_generator.specs.Rows.{generator};
-ghost use Rattle.corrector_code.specs.Digits.{numberOf};
+ghost use Rattle.corrector_code.specs.Digits.{bytesNumber};
 ghost use Rattle.corrector_syndromes.specs.Remainder.{restOf, RowTable, RowAdded, ValuesAdded, OddValues};
 
 mod powers; // the constant table
 
-use crate::powers::ROWS;
+use crate::powers::ODD_POWERS;
 use corrector_generator::rows::row0;
 use corrector_generator::rows::row7;
 use corrector_generator::rows::row14;
@@ -52,7 +52,7 @@ fn four(a: u8, b: u8, c: u8, d: u8) -> u64
 // The remainder of a word by the generator, its last bytes first.
 pub fn word_rest(word: &[u8]) -> Rest
     requires { ⌜ length (now word) ≡ 256 ⌝ }
-    ensures { λ s. ⌜ restOf s ≡ reduce generator (numberOf (now (word .entry))) ⌝ }
+    ensures { λ s. ⌜ restOf s ≡ reduce generator (bytesNumber (now (word .entry))) ⌝ }
 {
     let mut r = Rest { lo: 0, hi: 0 };
     let mut i: usize = 256;
@@ -65,10 +65,10 @@ pub fn word_rest(word: &[u8]) -> Rest
 }
 
 // The table of powers.
-fn rows() -> [u16; 704]
+fn odd_powers() -> [u16; 704]
     ensures { λ r. ⌜ RowTable r ⌝ }
 {
-    ROWS
+    ODD_POWERS
 }
 
 // Adds the row of x^j to the values.
@@ -109,7 +109,7 @@ pub fn odd_values(r: Rest) -> [u16; 8]
     requires { ⌜ restOf r < 2 ^ 88 ⌝ }
     ensures { λ s. ⌜ OddValues (restOf r) s ⌝ }
 {
-    let rows = rows();
+    let rows = odd_powers();
     let none: [u16; 8] = [0; 8];
     let lo = values_added(none, &rows, r.lo, 0);
     values_added(lo, &rows, r.hi as u64, 64)

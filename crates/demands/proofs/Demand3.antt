@@ -30,7 +30,7 @@ use Rattle.table_begin.specs.declared.Begun.{Begun}
 use Rattle.table_begin.specs.declared.Begun.the-variants.{Ready}
 use Rattle.table_begin.proofs.Coincide.{begun-told}
 use Rattle.table_slots.specs.Slots.{takenOf}
-use Rattle.table_step.specs.Calls.{stepTests, stepOutcome, stepMemory, paperStepped, Steps}
+use Rattle.table_step.specs.Calls.{stepTests, stepOutcome, stepMemory, toldStepped, Steps}
 use Rattle.table_step.specs.declared.Stepped.{Stepped}
 use Rattle.table_step.specs.declared.Stepped.the-variants.{Taken, Done}
 use Rattle.table_step.proofs.Coincide.{stepped-told}
@@ -167,7 +167,7 @@ module _ (m c : ℕ) (f table : List ℕ) (p : Passed (beginTests m c f table)) 
       ap (λ (t : List ℕ). finishMemory t list) at-end ∙ written _ list (finish-passes list h) ∙ ap (λ (r : List ℕ). copied r list) end-roots
 
   -- what a call of step answers where n steps were taken
-  answers-at : {n : ℕ} {t : List ℕ} (u : List ℕ) (r : Stepped) → After begun n t → Steps t r u → paperStepped r ≡ stepOutcome (afterSteps n begun)
+  answers-at : {n : ℕ} {t : List ℕ} (u : List ℕ) (r : Stepped) → After begun n t → Steps t r u → toldStepped r ≡ stepOutcome (afterSteps n begun)
   answers-at u r a h = h .0 ∙ ap stepOutcome (after-is a)
 
   -- of whatever table begin leaves

@@ -19,30 +19,30 @@ use Rattle.field.specs.Field.{fieldAt, mul, inverse, rootsAt}
 use Rattle.field.specs.Quadratics.{rootsOfQuadratic}
 use Rattle.field_elements.specs.declared.Roots.{Roots}
 use Rattle.field_elements.specs.declared.Answer.{Answer}
-use Rattle.field_elements.specs.Calls.{paper, paperRoots, pairTests, nonzeroTests, positionTests, positionUnder}
+use Rattle.field_elements.specs.Calls.{toldAnswer, toldQuadratic, pairTests, nonzeroTests, positionTests, positionUnder}
 use Rattle.field_elements.specs.Calls.{TellsProduct, TellsInverse, TellsPosition, TellsQuadratic}
 use Rattle.table_rules.specs.Cutoff.{inForce}
 use Rattle.table_rules.specs.Demand.{stepsAt}
 use Rattle.table_rules.specs.Layout.{byFactor}
 use Rattle.table_rules.specs.Limit.{slots}
 use Rattle.table_rules.specs.Splitting.{slotsDone, slotsStepped, slotsBegun, slotsRoots}
-use Rattle.table_begin.specs.Calls.{beginTests, paperBegun, Begins}
+use Rattle.table_begin.specs.Calls.{beginTests, toldBegun, Begins}
 use Rattle.table_begin.specs.declared.Begun.{Begun}
-use Rattle.table_step.specs.Calls.{stepTests, paperStepped, Steps}
+use Rattle.table_step.specs.Calls.{stepTests, toldStepped, Steps}
 use Rattle.table_step.specs.declared.Stepped.{Stepped}
-use Rattle.table_finish.specs.Calls.{finishTests, paperFinished, Finishes}
+use Rattle.table_finish.specs.Calls.{finishTests, toldFinished, Finishes}
 use Rattle.table_finish.specs.declared.Finished.{Finished}
-use Rattle.find_solve.specs.Calls.{solveTests, paperSolved, Solves}
+use Rattle.find_solve.specs.Calls.{solveTests, toldSolved, Solves}
 use Rattle.find_solve.specs.declared.Solved.{Solved}
-use Rattle.find_search.specs.Calls.{searchTests, paperSearched, Searches}
+use Rattle.find_search.specs.Calls.{searchTests, toldSearched, Searches}
 use Rattle.find_search.specs.declared.Searched.{Searched}
 use Rattle.job_records.specs.Layout.{recordLength}
 use Rattle.job_records.specs.Reading.{Outcome, startTests, recordTests, ReadsAt, HandsBack, Stands}
-use Rattle.job_records.specs.Reading.{paper as paperRead}
+use Rattle.job_records.specs.Reading.{toldRead as paperRead}
 use Rattle.job_records.specs.declared.Read.{Read}
 use Rattle.job_lines.specs.Printing.{TurnedBy}
 use Rattle.job_lines.specs.declared.Turn.{Turn}
-use Rattle.corrector.specs.Correcting.{IsBlock, IsStrength, Within, distance, Corrects, paperCorrected}
+use Rattle.corrector.specs.Correcting.{IsBlock, IsStrength, Within, distance, Corrects, toldCorrected}
 use Rattle.corrector.specs.declared.Corrected.{Corrected}
 
 pub record Decides (tests : List (ℕ × Bool)) (values : List ℕ) (outcome : ℕ × List ℕ) : Type 0 where
@@ -64,27 +64,27 @@ pub record Settles (t : ℕ) (word : List ℕ) (outcome : ℕ × List ℕ) (afte
 
 pub record Demand1 : Type 0 where
   -- element calls: 1, 4, 13;  position: 1, 21, 4, 13
-  pub product : (m a b : ℕ) (r : Answer) → TellsProduct m a b r → Decides (pairTests m a b) (mul (fieldAt m) a b ∷ []) (paper r)
-  pub quadratic : (m a b : ℕ) (r : Roots) → TellsQuadratic m a b r → Decides (pairTests m a b) (rootsOfQuadratic (fieldAt m) a b) (paperRoots r)
-  pub inverse : (m a : ℕ) (r : Answer) → TellsInverse m a r → Decides (nonzeroTests m a) (inverse (fieldAt m) a ∷ []) (paper r)
+  pub product : (m a b : ℕ) (r : Answer) → TellsProduct m a b r → Decides (pairTests m a b) (mul (fieldAt m) a b ∷ []) (toldAnswer r)
+  pub quadratic : (m a b : ℕ) (r : Roots) → TellsQuadratic m a b r → Decides (pairTests m a b) (rootsOfQuadratic (fieldAt m) a b) (toldQuadratic r)
+  pub inverse : (m a : ℕ) (r : Answer) → TellsInverse m a r → Decides (nonzeroTests m a) (inverse (fieldAt m) a ∷ []) (toldAnswer r)
   pub position : (m x convention : ℕ) (r : Answer) → TellsPosition m x convention r
-      → Decides (positionTests m x convention) (positionUnder convention (fieldAt m) x ∷ []) (paper r)
+      → Decides (positionTests m x convention) (positionUnder convention (fieldAt m) x ∷ []) (toldAnswer r)
   -- begin: 1 to 7;  step: 7, 8, 9;  finish: 7, 8, 10
   pub begin : (m c : ℕ) (cs table : List ℕ) (r : Begun) (after : List ℕ) → Begins m c cs table r after
-      → Decides (beginTests m c cs table) [] (paperBegun r)
+      → Decides (beginTests m c cs table) [] (toldBegun r)
       × Spares (beginTests m c cs table) (slotsBegun byFactor slots m (inForce c) cs) table after
   pub step : (table : List ℕ) (r : Stepped) (after : List ℕ) → Steps table r after
-      → Decides (stepTests table) (cond (slotsDone byFactor table) 1 0 ∷ []) (paperStepped r)
+      → Decides (stepTests table) (cond (slotsDone byFactor table) 1 0 ∷ []) (toldStepped r)
       × Spares (stepTests table) (cond (slotsDone byFactor table) table (slotsStepped byFactor table)) table after
   pub finish : (table list : List ℕ) (r : Finished) (after : List ℕ) → Finishes table list r after
-      → Decides (finishTests table list) (length (slotsRoots byFactor table) ∷ []) (paperFinished r)
+      → Decides (finishTests table list) (length (slotsRoots byFactor table) ∷ []) (toldFinished r)
       × Spares (finishTests table list) (copied (slotsRoots byFactor table) list) list after
   -- whole call: 1 to 7;  plain search: likewise without 6
   pub solve : (m c : ℕ) (cs list : List ℕ) (r : Solved) (after : List ℕ) → Solves m c cs list r after
-      → Decides (solveTests m c cs list) (length (rootsAt m cs) ∷ stepsAt m c cs ∷ []) (paperSolved r)
+      → Decides (solveTests m c cs list) (length (rootsAt m cs) ∷ stepsAt m c cs ∷ []) (toldSolved r)
       × Spares (solveTests m c cs list) (copied (rootsAt m cs) list) list after
   pub search : (m : ℕ) (cs list : List ℕ) (r : Searched) (after : List ℕ) → Searches m cs list r after
-      → Decides (searchTests m cs list) (length (rootsAt m cs) ∷ []) (paperSearched r)
+      → Decides (searchTests m cs list) (length (rootsAt m cs) ∷ []) (toldSearched r)
       × Spares (searchTests m cs list) (copied (rootsAt m cs) list) list after
   -- correct: 22, 23, 24
   pub correct : (t : ℕ) (word : List ℕ) (outcome : ℕ × List ℕ) (after : List ℕ)
@@ -114,7 +114,7 @@ pub record Demand1 : Type 0 where
   pub search-one : (m : ℕ) (cs list : List ℕ) (r s : Searched) (x y : List ℕ)
       → Searches m cs list r x → Searches m cs list s y → (r ≡ s) × (x ≡ y)
   pub correct-one : (t : ℕ) (word : List ℕ) (r s : Corrected) (x y : List ℕ)
-      → Corrects t word (paperCorrected r) x → Corrects t word (paperCorrected s) y → (r ≡ s) × (x ≡ y)
+      → Corrects t word (toldCorrected r) x → Corrects t word (toldCorrected s) y → (r ≡ s) × (x ≡ y)
   pub read-one : (file : List ℕ) (at : ℕ) (r s : Read) → ReadsAt file at r → ReadsAt file at s → r ≡ s
   -- a record's line and where reading goes on (take_turn), of what some file gives: one text, one place
   pub turn-one : (read : Read) (bytes : List ℕ) (k : ℕ) (old : List ℕ) (r s : Turn) (x y : List ℕ) → Stands read bytes

@@ -1,8 +1,8 @@
 -- Division without carries, as far as the inverse's routine needs it: which number divides which, and that the remainder by a field's polynomial
 -- differs from a number by a multiple of the polynomial.
---   Divides d x       d times some number is x, without carries
---   unit-divisor      what divides 1 is 1
---   reduce-quotient   reduce F x is x plus a multiple of the polynomial
+--   CarryFreeDivides d x   d times some number is x, without carries
+--   unit-divisor           what divides 1 is 1
+--   reduce-quotient        reduce F x is x plus a multiple of the polynomial
 -- Assumes nothing.
 use mathlib.Core.Path.{_≡_, sym, ap, ap₂, _∙_, subst}
 use Prim.Native.Nat.{ℕ, zero, suc, _+_, _*_, _/_, _%_, _^_, _≤_, _<_}
@@ -18,25 +18,25 @@ use Rattle.field.proofs.Xor.{xor-assoc, xor-double, xor-digits}
 use Rattle.field.proofs.CarryFree.{carryFree-step, carryFree-zero-l, carryFree-zero-r, carryFree-comm, carryFree-one-l, carryFree-digit, carryFree-double-r, carryFree-xor-r, carryFree-assoc}
 use Rattle.field.proofs.Reduce.{reduce-zero, reduce-step}
 
-pub record Divides (d x : ℕ) : Type 0 where
+pub record CarryFreeDivides (d x : ℕ) : Type 0 where
   pub quotient : ℕ
   pub exact : carryFree d quotient ≡ x
 
-pub divides-zero : (d : ℕ) → Divides d 0
-divides-zero d = record { quotient = 0; exact = carryFree-zero-r d }
+pub carryFreeDivides-zero : (d : ℕ) → CarryFreeDivides d 0
+carryFreeDivides-zero d = record { quotient = 0; exact = carryFree-zero-r d }
 
-pub divides-self : (d : ℕ) → Divides d d
-divides-self d = record { quotient = 1; exact = carryFree-comm d 1 ∙ carryFree-one-l d }
+pub carryFreeDivides-self : (d : ℕ) → CarryFreeDivides d d
+carryFreeDivides-self d = record { quotient = 1; exact = carryFree-comm d 1 ∙ carryFree-one-l d }
 
-pub divides-xor : {d x y : ℕ} → Divides d x → Divides d y → Divides d (bitXor x y)
-divides-xor {d} h k =
+pub carryFreeDivides-xor : {d x y : ℕ} → CarryFreeDivides d x → CarryFreeDivides d y → CarryFreeDivides d (bitXor x y)
+carryFreeDivides-xor {d} h k =
     record { quotient = bitXor (h .quotient) (k .quotient); exact = carryFree-xor-r d (h .quotient) (k .quotient) ∙ ap₂ bitXor (h .exact) (k .exact) }
 
-pub divides-double : {d x : ℕ} → Divides d x → Divides d (x * 2)
-divides-double {d} h = record { quotient = h .quotient * 2; exact = carryFree-double-r d (h .quotient) ∙ ap (λ (t : ℕ). t * 2) (h .exact) }
+pub carryFreeDivides-double : {d x : ℕ} → CarryFreeDivides d x → CarryFreeDivides d (x * 2)
+carryFreeDivides-double {d} h = record { quotient = h .quotient * 2; exact = carryFree-double-r d (h .quotient) ∙ ap (λ (t : ℕ). t * 2) (h .exact) }
 
-pub divides-times : {d x : ℕ} (y : ℕ) → Divides d x → Divides d (carryFree x y)
-divides-times {d} y h =
+pub carryFreeDivides-times : {d x : ℕ} (y : ℕ) → CarryFreeDivides d x → CarryFreeDivides d (carryFree x y)
+carryFreeDivides-times {d} y h =
     record { quotient = carryFree (h .quotient) y; exact = sym (carryFree-assoc d (h .quotient) y) ∙ ap (λ (t : ℕ). carryFree t y) (h .exact) }
 
 -- ---- the highest digit of a product
@@ -81,7 +81,7 @@ top-product (suc i) j a b s t =
         let m : 2 ^ suc j ≤ 2 ^ suc (i + j) = pow-mono (let k : suc j ≤ suc (i + j) = omega arith in k) in omega arith
 
 -- ---- what divides 1 is 1
-pub unit-divisor : {d : ℕ} → Divides d 1 → d ≡ 1
+pub unit-divisor : {d : ℕ} → CarryFreeDivides d 1 → d ≡ 1
 unit-divisor {d} h = at (top d positive) (top (h .quotient) quotient-positive)
   where
     positive : 0 < d

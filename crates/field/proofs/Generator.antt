@@ -8,7 +8,7 @@
 --   mul-inverse     x times its inverse is 1;  inverse-only  no other element does that;  inverse-lt  it is an element
 --   position-is     the position of r is a j below the order with a^j = r;  position-only  it is the only one
 --   generated       each known field is Generated
---   Small, small    the numbers of a known field fit into 16 bits;  known  what the shared product asks of them
+--   Small, small    the numbers of a known field fit into 16 bits;  product-asks  what the shared product asks of them
 -- Assumes nothing.
 use mathlib.Core.Path.{_≡_, refl, sym, ap, _∙_, subst}
 use mathlib.Core.Logic.{_⊎_, inl, inr, _≢_}
@@ -22,30 +22,30 @@ use lib.Pow.{pow-pos}
 use Rattle.algebra.specs.Field.{power}
 use Rattle.algebra.specs.Trial.{firstFrom}
 use Rattle.algebra.proofs.Trial.{first-only}
-use Rattle.field.specs.Rows.{Listed}
+use Rattle.field.specs.Rows.{ListedRow}
 use Rattle.field.proofs.Known.{by-row}
 use Rattle.field.specs.Field.{cut, Field, size, order, mul, numbers, inverse, position, fieldOf}
-use Rattle.field.proofs.Table.{both, both-left, both-right}
+use Rattle.field.proofs.Table.{bothTrue, bothTrue-left, bothTrue-right}
 use Rattle.field.proofs.Pigeonhole.{onto}
-use Rattle.field.proofs.Ring.{RingLaws, ring, Monic, power-lt, power-add, power-mul}
+use Rattle.field.proofs.Ring.{RingLaws, ring, FullDegree, power-lt, power-add, power-of-power}
 
 -- x, 2x, 4x, .. are not 1 for n steps, and 1 at the next
 unfoldable pub firstOne : Field → ℕ → ℕ → Bool
 unfolding cut
 firstOne F zero x = eqb x 1
-firstOne F (suc n) x = both (not (eqb x 1)) (firstOne F n (cut F (x * 2)))
+firstOne F (suc n) x = bothTrue (not (eqb x 1)) (firstOne F n (cut F (x * 2)))
 
 -- what antt computes of a field: its polynomial has its degree, and 2, 4, 8, .. come to 1 first at the power 2^m - 1
 pub record Generated (F : Field) : Type 0 where
-  pub monic : Monic F
+  pub monic : FullDegree F
   pub two : 2 < size F
   pub cycle : T (firstOne F (size F - 2) 2)
 
 module _ (F : Field) (gen : Generated F) where
   open RingLaws (ring F (gen .monic)) using (mul-comm, mul-assoc, mul-zero-l, mul-zero-r, mul-one-l, mul-one-r, mul-two)
 
-  pub unit : 1 < size F
-  unit = let h = gen .two in omega arith
+  pub one-below : 1 < size F
+  one-below = let h = gen .two in omega arith
 
   -- ---- the test says what it is meant to say
   -- the powers from i on are not 1 for n steps, and 1 at the next
@@ -65,10 +65,10 @@ module _ (F : Field) (gen : Generated F) where
   walk zero i t = (λ k h. absurd (not-suc-le-zero h), ap (power (numbers F) 2) (add-zero i) ∙ eqb→eq (power (numbers F) 2 i) 1 t)
   walk (suc n) i t =
       step n i
-      (λ e. T-not (eqb (power (numbers F) 2 i) 1) (both-left (not (eqb (power (numbers F) 2 i) 1)) (firstOne F n next) t) (subst (λ (x : ℕ). T (eqb x 1)) (sym e) tt))
+      (λ e. T-not (eqb (power (numbers F) 2 i) 1) (bothTrue-left (not (eqb (power (numbers F) 2 i) 1)) (firstOne F n next) t) (subst (λ (x : ℕ). T (eqb x 1)) (sym e) tt))
       (walk n (suc i)
-      (subst (λ (x : ℕ). T (firstOne F n x)) (sym (mul-two (power (numbers F) 2 i) (power-lt F (gen .monic) unit 2 i)))
-      (both-right (not (eqb (power (numbers F) 2 i) 1)) (firstOne F n next) t)))
+      (subst (λ (x : ℕ). T (firstOne F n x)) (sym (mul-two (power (numbers F) 2 i) (power-lt F (gen .monic) one-below 2 i)))
+      (bothTrue-right (not (eqb (power (numbers F) 2 i) 1)) (firstOne F n next) t)))
     where
       next : ℕ
       next = cut F (power (numbers F) 2 i * 2)
@@ -89,7 +89,7 @@ module _ (F : Field) (gen : Generated F) where
   -- ---- each power has an inverse among the powers, so no two are equal and none is 0
   power-back : (i : ℕ) → i ≤ (order F) → mul F (power (numbers F) 2 i) (power (numbers F) 2 ((order F) - i)) ≡ 1
   power-back i h =
-      sym (power-add F (gen .monic) unit 2 i ((order F) - i)) ∙ ap (power (numbers F) 2) (let g : i + ((order F) - i) ≡ (order F) = omega arith in g) ∙ power-order
+      sym (power-add F (gen .monic) one-below 2 i ((order F) - i)) ∙ ap (power (numbers F) 2) (let g : i + ((order F) - i) ≡ (order F) = omega arith in g) ∙ power-order
 
   power-nonzero : (i : ℕ) → i ≤ (order F) → power (numbers F) 2 i ≢ 0
   power-nonzero i h e =
@@ -104,11 +104,11 @@ module _ (F : Field) (gen : Generated F) where
       back = mul-comm (power (numbers F) 2 ((order F) - i)) (power (numbers F) 2 i) ∙ power-back i (omega arith)
 
       go-on : mul F (power (numbers F) 2 i) (power (numbers F) 2 (j - i)) ≡ power (numbers F) 2 j
-      go-on = sym (power-add F (gen .monic) unit 2 i (j - i)) ∙ ap (power (numbers F) 2) (let g : i + (j - i) ≡ j = omega arith in g)
+      go-on = sym (power-add F (gen .monic) one-below 2 i (j - i)) ∙ ap (power (numbers F) 2) (let g : i + (j - i) ≡ j = omega arith in g)
 
       come-back : power (numbers F) 2 (j - i) ≡ 1
       come-back =
-          sym (mul-one-l (power (numbers F) 2 (j - i)) (power-lt F (gen .monic) unit 2 (j - i)))
+          sym (mul-one-l (power (numbers F) 2 (j - i)) (power-lt F (gen .monic) one-below 2 (j - i)))
           ∙ ap (λ (x : ℕ). mul F x (power (numbers F) 2 (j - i))) (sym back)
           ∙ mul-assoc (power (numbers F) 2 ((order F) - i)) (power (numbers F) 2 i) (power (numbers F) 2 (j - i))
           ∙ ap (mul F (power (numbers F) 2 ((order F) - i))) (go-on ∙ sym e) ∙ back
@@ -132,7 +132,7 @@ module _ (F : Field) (gen : Generated F) where
       at : (j : ℕ) × (j < (order F)) × (power (numbers F) 2 j - 1 ≡ r - 1)
       at =
           onto (order F) (λ i. power (numbers F) 2 i - 1)
-          (λ i h. let k = positive i h in let l = power-lt F (gen .monic) unit 2 i in omega arith)
+          (λ i h. let k = positive i h in let l = power-lt F (gen .monic) one-below 2 i in omega arith)
           (λ i j hi hj e. position-unique i j hi hj (let k = positive i hi in let l = positive j hj in omega arith))
           (r - 1) (omega arith)
 
@@ -140,14 +140,14 @@ module _ (F : Field) (gen : Generated F) where
   power-one : (n : ℕ) → power (numbers F) 1 n ≡ 1
   unfolding power
   power-one zero = refl
-  power-one (suc n) = mul-one-l (power (numbers F) 1 n) (power-lt F (gen .monic) unit 1 n) ∙ power-one n
+  power-one (suc n) = mul-one-l (power (numbers F) 1 n) (power-lt F (gen .monic) one-below 1 n) ∙ power-one n
 
   -- x^(2^m - 1) is 1 for each x but 0
   pub power-full : (x : ℕ) → 0 < x → x < size F → power (numbers F) x (order F) ≡ 1
   power-full x hx hs =
       let at = generates x hx hs in
-      ap (λ (y : ℕ). power (numbers F) y (order F)) (sym (at .2)) ∙ sym (power-mul F (gen .monic) unit 2 (at .0) (order F))
-      ∙ ap (power (numbers F) 2) (times-comm (at .0) (order F)) ∙ power-mul F (gen .monic) unit 2 (order F) (at .0)
+      ap (λ (y : ℕ). power (numbers F) y (order F)) (sym (at .2)) ∙ sym (power-of-power F (gen .monic) one-below 2 (at .0) (order F))
+      ∙ ap (power (numbers F) 2) (times-comm (at .0) (order F)) ∙ power-of-power F (gen .monic) one-below 2 (order F) (at .0)
       ∙ ap (λ (y : ℕ). power (numbers F) y (at .0)) power-order ∙ power-one (at .0)
 
   -- the rest of that power is an inverse
@@ -181,7 +181,7 @@ module _ (F : Field) (gen : Generated F) where
 
   pub mul-inverse : (x : ℕ) → 0 < x → x < size F → mul F x (inverse F x) ≡ 1
   mul-inverse x hx hs =
-      ap (mul F x) (inverse-only x (power (numbers F) x (size F - 2)) hx hs (power-lt F (gen .monic) unit x (size F - 2)) (undone x hx hs))
+      ap (mul F x) (inverse-only x (power (numbers F) x (size F - 2)) hx hs (power-lt F (gen .monic) one-below x (size F - 2)) (undone x hx hs))
       ∙ undone x hx hs
 
   -- the position of a nonzero element is the one j below the order with a^j = r
@@ -229,7 +229,7 @@ generated11 : Generated (fieldOf 11 2053)
 unfolding firstOne
 generated11 = record { monic = refl; two = lit< tt; cycle = tt }
 
-pub generated : {m p : ℕ} → Listed m p → Generated (fieldOf m p)
+pub generated : {m p : ℕ} → ListedRow m p → Generated (fieldOf m p)
 generated = by-row (λ m p. Generated (fieldOf m p)) generated4 generated8 generated11
 
 -- the numbers of a known field are small
@@ -249,9 +249,9 @@ small8 = record { degree-pos = lit< tt; degree-lt = lit< tt; poly-lt = lit< tt; 
 small11 : Small 11 2053
 small11 = record { degree-pos = lit< tt; degree-lt = lit< tt; poly-lt = lit< tt; poly-odd = refl; size-le = lit≤ tt }
 
-pub small : {m p : ℕ} → Listed m p → Small m p
+pub small : {m p : ℕ} → ListedRow m p → Small m p
 small = by-row Small small4 small8 small11
 
 -- what the shared product asks
-pub known : {m p b : ℕ} → Listed m p → b < 2 ^ m → (m < 16) × (p / 2 ^ m ≡ 1) × (b < 2 ^ m)
-known l h = (small l .degree-lt, generated l .monic, h)
+pub product-asks : {m p b : ℕ} → ListedRow m p → b < 2 ^ m → (m < 16) × (p / 2 ^ m ≡ 1) × (b < 2 ^ m)
+product-asks l h = (small l .degree-lt, generated l .monic, h)

@@ -16,9 +16,9 @@ use lib.ListN.{length, getD}
 use Rattle.algebra.specs.Field.{trace}
 use Rattle.field.specs.Field.{Field, size, mul, Tr}
 use Rattle.field.specs.Tables.{HalfRoot, Halves}
-use Rattle.field.proofs.Table.{both, both-left, both-right, every, at}
+use Rattle.field.proofs.Table.{bothTrue, bothTrue-left, bothTrue-right, everyFrom, everyFrom-at}
 use Rattle.field.proofs.Xor.{xor-swap}
-use Rattle.field.proofs.Additive.{Additive, linear, basis, by-basis}
+use Rattle.field.proofs.Additive.{Additive, linearMap, basis, by-basis}
 use Rattle.field.proofs.Ring.{square-xor}
 use Rattle.field.proofs.Generator.{Generated}
 use Rattle.field.proofs.Trace.{trace-xor}
@@ -30,9 +30,9 @@ quad F j = bitXor (mul F j j) j
 
 -- whether j may stand at i, by the values `qs` of j^2 + j and `ts` of the trace at 1, 2, 4, .. ; the first argument says whether j is 65535
 unfoldable pub entryIf : Bool → ℕ → List ℕ → List ℕ → ℕ → ℕ → Bool
-unfolding linear
-entryIf true n qs ts i j = eqb (linear ts i) 1
-entryIf false n qs ts i j = both (ltb j n) (both (eqb (j % 2) 0) (eqb (linear qs j) i))
+unfolding linearMap
+entryIf true n qs ts i j = eqb (linearMap ts i) 1
+entryIf false n qs ts i j = bothTrue (ltb j n) (bothTrue (eqb (j % 2) 0) (eqb (linearMap qs j) i))
 
 unfoldable pub entry : ℕ → List ℕ → List ℕ → ℕ → ℕ → Bool
 unfolding entryIf
@@ -41,7 +41,7 @@ entry n qs ts i j = entryIf (eqb j 65535) n qs ts i j
 -- the test of a whole table: as many entries as elements, and each is right
 unfoldable pub halfRoots : Field → List ℕ → Bool
 unfolding entry basis quad trace
-halfRoots F xs = both (eqb (length xs) (size F)) (every (entry (size F) (basis (quad F) (F .degree)) (basis (Tr F) (F .degree))) 0 xs)
+halfRoots F xs = bothTrue (eqb (length xs) (size F)) (everyFrom (entry (size F) (basis (quad F) (F .degree)) (basis (Tr F) (F .degree))) 0 xs)
 
 module _ (F : Field) (gen : Generated F) where
   pub quad-xor : Additive (quad F)
@@ -60,34 +60,34 @@ module _ (F : Field) (gen : Generated F) where
     where
       go : (b : Bool) → eqb j 65535 ≡ b → T (entryIf b (size F) qs ts i j) → HalfRoot F i j
       go true e t =
-          inl (by-basis (F .degree) (Tr F) (trace-xor F gen) i hi ∙ eqb→eq (linear ts i) 1 t, eqb→eq j 65535 (subst T (sym e) tt))
+          inl (by-basis (F .degree) (Tr F) (trace-xor F gen) i hi ∙ eqb→eq (linearMap ts i) 1 t, eqb→eq j 65535 (subst T (sym e) tt))
       go false e t = inr (below, even, root)
         where
           below : j < size F
-          below = ltb→lt j (size F) (both-left (ltb j (size F)) (both (eqb (j % 2) 0) (eqb (linear qs j) i)) t)
+          below = ltb→lt j (size F) (bothTrue-left (ltb j (size F)) (bothTrue (eqb (j % 2) 0) (eqb (linearMap qs j) i)) t)
 
-          rest : T (both (eqb (j % 2) 0) (eqb (linear qs j) i))
-          rest = both-right (ltb j (size F)) (both (eqb (j % 2) 0) (eqb (linear qs j) i)) t
+          rest : T (bothTrue (eqb (j % 2) 0) (eqb (linearMap qs j) i))
+          rest = bothTrue-right (ltb j (size F)) (bothTrue (eqb (j % 2) 0) (eqb (linearMap qs j) i)) t
 
           even : j % 2 ≡ 0
-          even = eqb→eq (j % 2) 0 (both-left (eqb (j % 2) 0) (eqb (linear qs j) i) rest)
+          even = eqb→eq (j % 2) 0 (bothTrue-left (eqb (j % 2) 0) (eqb (linearMap qs j) i) rest)
 
           root : bitXor (mul F j j) j ≡ i
           root =
               by-basis (F .degree) (quad F) quad-xor j below
-              ∙ eqb→eq (linear qs j) i (both-right (eqb (j % 2) 0) (eqb (linear qs j) i) rest)
+              ∙ eqb→eq (linearMap qs j) i (bothTrue-right (eqb (j % 2) 0) (eqb (linearMap qs j) i) rest)
 
   -- the rule at each entry
   pub half-root-at : (xs : List ℕ) → T (halfRoots F xs) → (i : ℕ) → i < size F → HalfRoot F i (getD xs i 0)
   unfolding halfRoots qs ts
   half-root-at xs t i hi =
-      entry-right i (getD xs i 0) hi (at (entry (size F) qs ts) xs (both-right (eqb (length xs) (size F)) (every (entry (size F) qs ts) 0 xs) t) i
-      (subst (λ (n : ℕ). i < n) (sym (eqb→eq (length xs) (size F) (both-left (eqb (length xs) (size F)) (every (entry (size F) qs ts) 0 xs) t))) hi))
+      entry-right i (getD xs i 0) hi (everyFrom-at (entry (size F) qs ts) xs (bothTrue-right (eqb (length xs) (size F)) (everyFrom (entry (size F) qs ts) 0 xs) t) i
+      (subst (λ (n : ℕ). i < n) (sym (eqb→eq (length xs) (size F) (bothTrue-left (eqb (length xs) (size F)) (everyFrom (entry (size F) qs ts) 0 xs) t))) hi))
 
   pub halves-hold : (xs : List ℕ) → T (halfRoots F xs) → Halves F xs
   unfolding halfRoots qs ts
   halves-hold xs t =
       record {
-        entries = eqb→eq (length xs) (size F) (both-left (eqb (length xs) (size F)) (every (entry (size F) qs ts) 0 xs) t);
+        entries = eqb→eq (length xs) (size F) (bothTrue-left (eqb (length xs) (size F)) (everyFrom (entry (size F) qs ts) 0 xs) t);
         entry = λ i l. half-root-at xs t i l;
       }

@@ -10,11 +10,11 @@ use lib.Bits.{xor-comm, xor-self, xor-lt}
 use lib.Dec.{T, eqb, eqb→eq}
 use lib.Pow.{pow-pos}
 use Rattle.algebra.specs.Field.{OnNumbers, squared}
-use Rattle.field.specs.Rows.{Listed}
+use Rattle.field.specs.Rows.{ListedRow}
 use Rattle.field.specs.Field.{Field, size, numbers, fieldOf}
 use Rattle.field.proofs.Xor.{xor-assoc}
 use Rattle.field.proofs.Ring.{RingLaws, ring}
-use Rattle.field.proofs.Generator.{Generated, generated, unit, inverse-lt, mul-inverse, power-size}
+use Rattle.field.proofs.Generator.{Generated, generated, one-below, inverse-lt, mul-inverse, power-size}
 use Rattle.field.proofs.Trace.{squared-power}
 
 module _ (F : Field) (gen : Generated F) where
@@ -24,7 +24,7 @@ module _ (F : Field) (gen : Generated F) where
   on-numbers =
       record {
         zero-below = pow-pos (F .degree);
-        one-below = unit F gen;
+        one-below = one-below F gen;
         add-below = λ x y h k. xor-lt (F .degree) x y h k;
         mul-below = λ x y h k. mul-lt x y;
         inv-below = λ x h. inverse-lt F gen x;
@@ -44,5 +44,5 @@ module _ (F : Field) (gen : Generated F) where
   pub squared-size : (x : ℕ) → x < size F → squared (numbers F) (F .degree) x ≡ x
   squared-size x h = squared-power F gen (F .degree) x h ∙ power-size F gen x h
 
-pub known-numbers : {m p : ℕ} → Listed m p → OnNumbers (numbers (fieldOf m p)) (2 ^ m)
+pub known-numbers : {m p : ℕ} → ListedRow m p → OnNumbers (numbers (fieldOf m p)) (2 ^ m)
 known-numbers {m} {p} l = on-numbers (fieldOf m p) (generated l)

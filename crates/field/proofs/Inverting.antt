@@ -20,12 +20,12 @@ use Rattle.field.specs.declared.division.Euclid.{Euclid}
 use Rattle.field.proofs.Digits.{bit-cases, digit-mul-le}
 use Rattle.field.proofs.Xor.{xor-cancel, xor-digit, xor-equal}
 use Rattle.field.proofs.Reduce.{reduce-xor, reduce-double, reduce-below, reduce-step, reduce-lt}
-use Rattle.field.proofs.Ring.{RingLaws, ring, Monic}
-use Rattle.field.proofs.Generator.{Generated, unit, cancel, mul-inverse, inverse-only}
-use Rattle.field.proofs.Divides.{Divides, divides-self, divides-xor, divides-double, divides-times, unit-divisor, reduce-quotient}
+use Rattle.field.proofs.Ring.{RingLaws, ring, FullDegree}
+use Rattle.field.proofs.Generator.{Generated, one-below, cancel, mul-inverse, inverse-only}
+use Rattle.field.proofs.Divides.{CarryFreeDivides, carryFreeDivides-self, carryFreeDivides-xor, carryFreeDivides-double, carryFreeDivides-times, unit-divisor, reduce-quotient}
 
 abbrev pub Coprime : ℕ → ℕ → Type 0
-Coprime r s = (d : ℕ) → Divides d r → Divides d s → d ≡ 1
+Coprime r s = (d : ℕ) → CarryFreeDivides d r → CarryFreeDivides d s → d ≡ 1
 
 pub record Euclidean (F : Field) (a : ℕ) (e : Euclid) : Type 0 where
   pub r-pos : 0 < e .r
@@ -39,7 +39,7 @@ pub record Euclidean (F : Field) (a : ℕ) (e : Euclid) : Type 0 where
   pub coprime : Coprime (e .r) (e .s)
 
 -- the polynomial has the field's degree and a constant term
-poly-lt : (F : Field) → Monic F → F .poly < size F * 2
+poly-lt : (F : Field) → FullDegree F → F .poly < size F * 2
 poly-lt F monic = subst (λ (t : ℕ). F .poly < t) (times-comm 2 (size F)) (div-lt-iff-lt-mul (pow-pos (F .degree)) .0 (let h : F .poly / size F < 2 = omega arith in h))
 
 module _ (F : Field) (gen : Generated F) (constant : F .poly % 2 ≡ 1) where
@@ -94,8 +94,8 @@ module _ (F : Field) (gen : Generated F) (constant : F .poly % 2 ≡ 1) where
   start-coprime a pos lt d h k =
       let q = reduce-quotient F (carryFree a (inverse F a)) in
       unit-divisor
-      (subst (Divides d) (sym (q .1) ∙ mul-inverse F gen a pos lt)
-      (divides-xor (divides-times (q .0) k) (divides-times (inverse F a) h)))
+      (subst (CarryFreeDivides d) (sym (q .1) ∙ mul-inverse F gen a pos lt)
+      (carryFreeDivides-xor (carryFreeDivides-times (q .0) k) (carryFreeDivides-times (inverse F a) h)))
 
   pub euclid-from : (a : ℕ) → 0 < a → a < size F → Euclidean F a (record { r = a; s = F .poly; u = 1; v = 0 })
   euclid-from a pos lt =
@@ -103,7 +103,7 @@ module _ (F : Field) (gen : Generated F) (constant : F .poly % 2 ≡ 1) where
         r-pos = pos;
         r-lt = omega arith;
         s-lt = poly-lt F (gen .monic);
-        u-lt = unit F gen;
+        u-lt = one-below F gen;
         v-lt = pow-pos (F .degree);
         odd = constant;
         first = mul-one-l a lt ∙ sym (reduce-below F a lt);
@@ -127,7 +127,7 @@ module _ (F : Field) (gen : Generated F) (constant : F .poly % 2 ≡ 1) where
             (sym (mul-assoc 2 (halfOf p (e .u)) a) ∙ ap (λ (t : ℕ). mul F t a) (half-two (e .u) (k .u-lt)) ∙ k .first ∙ ap (reduce F) (sym twice)
             ∙ reduce-double F (e .r / 2) ∙ sym (mul-two (reduce F (e .r / 2)) (reduce-lt F (gen .monic) (e .r / 2))));
         second = k .second;
-        coprime = λ d h l. k .coprime d (subst (Divides d) twice (divides-double h)) l;
+        coprime = λ d h l. k .coprime d (subst (CarryFreeDivides d) twice (carryFreeDivides-double h)) l;
       }
     where
       twice : e .r / 2 * 2 ≡ e .r
@@ -145,7 +145,7 @@ module _ (F : Field) (gen : Generated F) (constant : F .poly % 2 ≡ 1) where
         go (yes h) = h
         go (no h) =
             let same : e .r ≡ e .s = xor-equal (let z : bitXor (e .r) (e .s) ≡ 0 = omega arith in z) in
-            let one : e .r ≡ 1 = k .coprime (e .r) (divides-self (e .r)) (subst (Divides (e .r)) same (divides-self (e .r))) in
+            let one : e .r ≡ 1 = k .coprime (e .r) (carryFreeDivides-self (e .r)) (subst (CarryFreeDivides (e .r)) same (carryFreeDivides-self (e .r))) in
             omega arith
 
     sum-lt : bitXor (e .r) (e .s) < size F * 2
@@ -171,7 +171,7 @@ module _ (F : Field) (gen : Generated F) (constant : F .poly % 2 ≡ 1) where
               odd = odd-r;
               first = sum-first;
               second = k .first;
-              coprime = λ d h l. k .coprime d l (subst (Divides d) (xor-cancel (e .r) (e .s)) (divides-xor l h));
+              coprime = λ d h l. k .coprime d l (subst (CarryFreeDivides d) (xor-cancel (e .r) (e .s)) (carryFreeDivides-xor l h));
             }
         go false =
             record {
@@ -184,7 +184,7 @@ module _ (F : Field) (gen : Generated F) (constant : F .poly % 2 ≡ 1) where
               first = sum-first;
               second = k .second;
               coprime =
-                  λ d h l. k .coprime d (subst (Divides d) (ap (bitXor (e .s)) (xor-comm (e .r) (e .s)) ∙ xor-cancel (e .s) (e .r)) (divides-xor l h)) l;
+                  λ d h l. k .coprime d (subst (CarryFreeDivides d) (ap (bitXor (e .s)) (xor-comm (e .r) (e .s)) ∙ xor-cancel (e .s) (e .r)) (carryFreeDivides-xor l h)) l;
             }
 
     pub joined-even : joinedOf e .r % 2 ≡ 0
@@ -225,4 +225,4 @@ module _ (F : Field) (gen : Generated F) (constant : F .poly % 2 ≡ 1) where
   pub euclid-end : {a : ℕ} {e : Euclid} → Euclidean F a e → 0 < a → a < size F → e .r ≤ 1 → e .u ≡ inverse F a
   euclid-end {a} {e} k pos lt h =
       sym (inverse-only F gen a (e .u) pos lt (k .u-lt)
-      (mul-comm a (e .u) ∙ k .first ∙ ap (reduce F) (let g = k .r-pos in let z : e .r ≡ 1 = omega arith in z) ∙ reduce-below F 1 (unit F gen)))
+      (mul-comm a (e .u) ∙ k .first ∙ ap (reduce F) (let g = k .r-pos in let z : e .r ≡ 1 = omega arith in z) ∙ reduce-below F 1 (one-below F gen)))

@@ -15,10 +15,10 @@ use native.Mathlib.Omega.{arith}
 use borrow.Author.Tests.{eq-eqb, ne-eqb, eqb-false}
 use lib.Dec.{T, eqb, eqb→eq}
 use lib.ListN.{getD, drop}
-use Rattle.field.specs.Rows.{rows, known, polyOf, knownIn, polyIn, rowIn, Listed, rowAt, IsRow}
+use Rattle.field.specs.Rows.{rows, known, polyOf, knownIn, polyIn, rowIn, ListedRow, rowAt, IsRow}
 use Rattle.field.specs.declared.rows.Row.{Row}
-use Rattle.field.specs.declared.rows.Found.{Found}
-use Rattle.field.specs.declared.rows.Found.the-variants.{At, Unknown}
+use Rattle.field.specs.declared.rows.FoundRow.{FoundRow}
+use Rattle.field.specs.declared.rows.FoundRow.the-variants.{At, Unknown}
 
 module _ (P : ℕ → ℕ → Type 0) (p4 : P 4 19) (p8 : P 8 285) (p11 : P 11 2053) where
   by-test : (m : ℕ) (b c d : Bool) → (T b → m ≡ 4) → (T c → m ≡ 8) → (T d → m ≡ 11)
@@ -28,27 +28,27 @@ module _ (P : ℕ → ℕ → Type 0) (p4 : P 4 19) (p8 : P 8 285) (p11 : P 11 2
   by-test m false false true e4 e8 e11 k = subst (λ n. P n 2053) (sym (e11 tt)) p11
   by-test m false false false e4 e8 e11 k = absurd (let z : T true = tt in subst T (sym k) z)
 
-  pub by-row : {m p : ℕ} → Listed m p → P m p
+  pub by-row : {m p : ℕ} → ListedRow m p → P m p
   unfolding knownIn polyIn
   by-row {m} l =
       subst (P m) (l .poly)
       (by-test m (eqb 4 m) (eqb 8 m) (eqb 11 m) (λ t. sym (eqb→eq 4 m t)) (λ t. sym (eqb→eq 8 m t)) (λ t. sym (eqb→eq 11 m t)) (l .degree))
 
 -- each row
-pub row4 : Listed 4 19
+pub row4 : ListedRow 4 19
 unfolding knownIn polyIn
 row4 = record { degree = refl; poly = refl }
 
-pub row8 : Listed 8 285
+pub row8 : ListedRow 8 285
 unfolding knownIn polyIn
 row8 = record { degree = refl; poly = refl }
 
-pub row11 : Listed 11 2053
+pub row11 : ListedRow 11 2053
 unfolding knownIn polyIn
 row11 = record { degree = refl; poly = refl }
 
 -- a known degree has its row
-pub listed : (m : ℕ) → known m ≡ true → Listed m (polyOf m)
+pub listed : (m : ℕ) → known m ≡ true → ListedRow m (polyOf m)
 listed m e = record { degree = e; poly = refl }
 
 -- a known degree that is not one of the others is the last
@@ -138,10 +138,10 @@ looking-end {m} {i} l e =
 
 -- ---- what the first test of an entry is told
 
-pub unlisted : (m : ℕ) {f : Found} → f ≡ rowAt m → f ≡ Unknown → not (known m) ≡ true
+pub unlisted : (m : ℕ) {f : FoundRow} → f ≡ rowAt m → f ≡ Unknown → not (known m) ≡ true
 unlisted m e u = ap not (row-unknown m (sym e ∙ u))
 
-pub is-listed : (m : ℕ) {f : Found} {row : Row} → f ≡ rowAt m → f ≡ At row → IsRow m row
+pub is-listed : (m : ℕ) {f : FoundRow} {row : Row} → f ≡ rowAt m → f ≡ At row → IsRow m row
 is-listed m e u = row-known m (sym e ∙ u)
 
 pub listed-on : {m : ℕ} {row : Row} → IsRow m row → not (known m) ≡ false

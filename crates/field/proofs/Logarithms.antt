@@ -18,41 +18,41 @@ use lib.ListN.{length, getD}
 use Rattle.algebra.specs.Field.{power}
 use Rattle.field.specs.Field.{cut, Field, size, order, mul, numbers, position}
 use Rattle.field.specs.Tables.{logOf, antilogOf, Logs, Antilogs, Powers}
-use Rattle.field.proofs.Table.{both, both-left, both-right}
+use Rattle.field.proofs.Table.{bothTrue, bothTrue-left, bothTrue-right}
 use Rattle.field.proofs.Tree.{Tree, grow, look, look-is}
 use Rattle.field.proofs.Ring.{RingLaws, ring, power-lt, power-add}
-use Rattle.field.proofs.Generator.{Generated, unit, position-is}
+use Rattle.field.proofs.Generator.{Generated, one-below, position-is}
 
 -- the tree holds j, j + 1, .. at y, 2y, .. : n places
 unfoldable pub logsFrom : Field → Tree → ℕ → ℕ → ℕ → Bool
 unfolding look cut
 logsFrom F t zero j y = true
-logsFrom F t (suc n) j y = both (eqb (look t y) j) (logsFrom F t n (suc j) (cut F (y * 2)))
+logsFrom F t (suc n) j y = bothTrue (eqb (look t y) j) (logsFrom F t n (suc j) (cut F (y * 2)))
 
 unfoldable pub logTest : Field → List ℕ → Bool
 unfolding logsFrom grow
-logTest F xs = both (eqb (length xs) (size F)) (both (eqb (getD xs 0 0) (2 * order F)) (logsFrom F (grow (F .degree) xs) (order F) 0 1))
+logTest F xs = bothTrue (eqb (length xs) (size F)) (bothTrue (eqb (getD xs 0 0) (2 * order F)) (logsFrom F (grow (F .degree) xs) (order F) 0 1))
 
 -- y, 2y, .. to the end
 unfoldable pub powersFrom : Field → ℕ → List ℕ → Bool
 unfolding cut
 powersFrom F y [] = true
-powersFrom F y (x ∷ xs) = both (eqb x y) (powersFrom F (cut F (y * 2)) xs)
+powersFrom F y (x ∷ xs) = bothTrue (eqb x y) (powersFrom F (cut F (y * 2)) xs)
 
 unfoldable pub powerTest : Field → List ℕ → Bool
 unfolding powersFrom
-powerTest F xs = both (eqb (length xs) (order F)) (powersFrom F 1 xs)
+powerTest F xs = bothTrue (eqb (length xs) (order F)) (powersFrom F 1 xs)
 
 -- y, 2y, .. : n entries, and zeros to the end
 unfoldable pub antilogsFrom : Field → ℕ → ℕ → List ℕ → Bool
 unfolding cut
 antilogsFrom F n y [] = true
-antilogsFrom F zero y (x ∷ xs) = both (eqb x 0) (antilogsFrom F zero y xs)
-antilogsFrom F (suc n) y (x ∷ xs) = both (eqb x y) (antilogsFrom F n (cut F (y * 2)) xs)
+antilogsFrom F zero y (x ∷ xs) = bothTrue (eqb x 0) (antilogsFrom F zero y xs)
+antilogsFrom F (suc n) y (x ∷ xs) = bothTrue (eqb x y) (antilogsFrom F n (cut F (y * 2)) xs)
 
 unfoldable pub antilogTest : Field → List ℕ → Bool
 unfolding antilogsFrom
-antilogTest F xs = both (eqb (length xs) (3 * order F)) (antilogsFrom F (2 * order F) 1 xs)
+antilogTest F xs = bothTrue (eqb (length xs) (3 * order F)) (antilogsFrom F (2 * order F) 1 xs)
 
 -- the log of a nonzero element is its position
 pub log-position : (F : Field) (x : ℕ) → 0 < x → logOf F x ≡ position F x
@@ -65,7 +65,7 @@ module _ (F : Field) (gen : Generated F) where
   -- twice a power is the next
   power-next : (j : ℕ) → cut F (power (numbers F) 2 j * 2) ≡ power (numbers F) 2 (suc j)
   unfolding power
-  power-next j = sym (mul-two (power (numbers F) 2 j) (power-lt F (gen .monic) (unit F gen) 2 j))
+  power-next j = sym (mul-two (power (numbers F) 2 j) (power-lt F (gen .monic) (one-below F gen) 2 j))
 
   -- ---- logs
   logs-at : (t : Tree) (n j : ℕ) → T (logsFrom F t n j (power (numbers F) 2 j)) → (k : ℕ) → k < n → look t (power (numbers F) 2 (j + k)) ≡ j + k
@@ -73,30 +73,30 @@ module _ (F : Field) (gen : Generated F) where
   logs-at t zero j h k l = absurd (not-suc-le-zero l)
   logs-at t (suc n) j h zero l =
       ap (λ (i : ℕ). look t (power (numbers F) 2 i)) (add-zero j)
-      ∙ eqb→eq (look t (power (numbers F) 2 j)) j (both-left (eqb (look t (power (numbers F) 2 j)) j) _ h) ∙ sym (add-zero j)
+      ∙ eqb→eq (look t (power (numbers F) 2 j)) j (bothTrue-left (eqb (look t (power (numbers F) 2 j)) j) _ h) ∙ sym (add-zero j)
   logs-at t (suc n) j h (suc k) l =
       let shift : j + suc k ≡ suc j + k = add-suc j k ∙ sym (suc-add j k) in
       ap (λ (i : ℕ). look t (power (numbers F) 2 i)) shift
       ∙ logs-at t n (suc j)
-      (subst (λ (y : ℕ). T (logsFrom F t n (suc j) y)) (power-next j) (both-right (eqb (look t (power (numbers F) 2 j)) j) _ h)) k (omega arith)
+      (subst (λ (y : ℕ). T (logsFrom F t n (suc j) y)) (power-next j) (bothTrue-right (eqb (look t (power (numbers F) 2 j)) j) _ h)) k (omega arith)
       ∙ sym shift
 
   pub logs-hold : (xs : List ℕ) → T (logTest F xs) → Logs F xs
   unfolding logTest logOf power
   logs-hold xs h =
-      record { entries = eqb→eq (length xs) (size F) (both-left (eqb (length xs) (size F)) _ h); entry = λ x l. at x l (decLt 0 x) }
+      record { entries = eqb→eq (length xs) (size F) (bothTrue-left (eqb (length xs) (size F)) _ h); entry = λ x l. at x l (decLt 0 x) }
     where
-      rest : T (both (eqb (getD xs 0 0) (2 * order F)) (logsFrom F (grow (F .degree) xs) (order F) 0 1))
-      rest = both-right (eqb (length xs) (size F)) _ h
+      rest : T (bothTrue (eqb (getD xs 0 0) (2 * order F)) (logsFrom F (grow (F .degree) xs) (order F) 0 1))
+      rest = bothTrue-right (eqb (length xs) (size F)) _ h
 
       at : (x : ℕ) → x < size F → Dec (0 < x) → getD xs x 0 ≡ cond (eqb x 0) (2 * order F) (position F x)
       at x l (no z) =
           let e : x ≡ 0 = omega arith in
-          ap (λ (i : ℕ). getD xs i 0) e ∙ eqb→eq (getD xs 0 0) (2 * order F) (both-left (eqb (getD xs 0 0) (2 * order F)) _ rest) ∙ rw (eq-eqb x 0 e)
+          ap (λ (i : ℕ). getD xs i 0) e ∙ eqb→eq (getD xs 0 0) (2 * order F) (bothTrue-left (eqb (getD xs 0 0) (2 * order F)) _ rest) ∙ rw (eq-eqb x 0 e)
       at x l (yes p) =
           let j = position-is F gen x p l in
           sym (look-is (F .degree) xs x l) ∙ ap (look (grow (F .degree) xs)) (sym (j .1) ∙ ap (power (numbers F) 2) (sym (zero-add (position F x))))
-          ∙ logs-at (grow (F .degree) xs) (order F) 0 (both-right (eqb (getD xs 0 0) (2 * order F)) _ rest) (position F x) (j .0)
+          ∙ logs-at (grow (F .degree) xs) (order F) 0 (bothTrue-right (eqb (getD xs 0 0) (2 * order F)) _ rest) (position F x) (j .0)
           ∙ zero-add (position F x) ∙ rw (ne-eqb x 0 (λ e. let b : ⊥ = omega arith in b))
 
   -- ---- antilogs
@@ -105,36 +105,36 @@ module _ (F : Field) (gen : Generated F) where
   unfolding powersFrom
   powers-at j [] h k l = absurd (not-suc-le-zero l)
   powers-at j (x ∷ xs) h zero l =
-      eqb→eq x (power (numbers F) 2 j) (both-left (eqb x (power (numbers F) 2 j)) _ h) ∙ ap (power (numbers F) 2) (sym (add-zero j))
+      eqb→eq x (power (numbers F) 2 j) (bothTrue-left (eqb x (power (numbers F) 2 j)) _ h) ∙ ap (power (numbers F) 2) (sym (add-zero j))
   powers-at j (x ∷ xs) h (suc k) l =
-      powers-at (suc j) xs (subst (λ (y : ℕ). T (powersFrom F y xs)) (power-next j) (both-right (eqb x (power (numbers F) 2 j)) _ h)) k (omega arith)
+      powers-at (suc j) xs (subst (λ (y : ℕ). T (powersFrom F y xs)) (power-next j) (bothTrue-right (eqb x (power (numbers F) 2 j)) _ h)) k (omega arith)
       ∙ ap (power (numbers F) 2) (suc-add j k ∙ sym (add-suc j k))
 
   pub powers-hold : (xs : List ℕ) → T (powerTest F xs) → Powers F xs
   unfolding powerTest power
   powers-hold xs h = record {
     entries = entries;
-    entry = λ j l. powers-at 0 xs (both-right (eqb (length xs) (order F)) _ h) j (omega (arith, entries)) ∙ ap (power (numbers F) 2) (zero-add j);
+    entry = λ j l. powers-at 0 xs (bothTrue-right (eqb (length xs) (order F)) _ h) j (omega (arith, entries)) ∙ ap (power (numbers F) 2) (zero-add j);
   }
     where
       entries : length xs ≡ order F
-      entries = eqb→eq (length xs) (order F) (both-left (eqb (length xs) (order F)) _ h)
+      entries = eqb→eq (length xs) (order F) (bothTrue-left (eqb (length xs) (order F)) _ h)
 
   -- an entry among the n powers from a^j on, and an entry among the zeros behind them
   antilogs-at : (n j : ℕ) (xs : List ℕ) → T (antilogsFrom F n (power (numbers F) 2 j) xs) → (k : ℕ) → k < length xs
       → (k < n → getD xs k 0 ≡ power (numbers F) 2 (j + k)) × (n ≤ k → getD xs k 0 ≡ 0)
   unfolding antilogsFrom
   antilogs-at n j [] h k l = absurd (not-suc-le-zero l)
-  antilogs-at zero j (x ∷ xs) h zero l = (λ a. absurd (not-suc-le-zero a), λ _. eqb→eq x 0 (both-left (eqb x 0) _ h))
+  antilogs-at zero j (x ∷ xs) h zero l = (λ a. absurd (not-suc-le-zero a), λ _. eqb→eq x 0 (bothTrue-left (eqb x 0) _ h))
   antilogs-at zero j (x ∷ xs) h (suc k) l =
-      (λ a. absurd (not-suc-le-zero a), λ _. antilogs-at zero j xs (both-right (eqb x 0) _ h) k (omega arith) .1 (omega arith))
+      (λ a. absurd (not-suc-le-zero a), λ _. antilogs-at zero j xs (bothTrue-right (eqb x 0) _ h) k (omega arith) .1 (omega arith))
   antilogs-at (suc n) j (x ∷ xs) h zero l = (
-    λ _. eqb→eq x (power (numbers F) 2 j) (both-left (eqb x (power (numbers F) 2 j)) _ h) ∙ ap (power (numbers F) 2) (sym (add-zero j)),
+    λ _. eqb→eq x (power (numbers F) 2 j) (bothTrue-left (eqb x (power (numbers F) 2 j)) _ h) ∙ ap (power (numbers F) 2) (sym (add-zero j)),
     λ a. absurd (not-suc-le-zero a),
   )
   antilogs-at (suc n) j (x ∷ xs) h (suc k) l =
       let t = antilogs-at n (suc j) xs
-      (subst (λ (y : ℕ). T (antilogsFrom F n y xs)) (power-next j) (both-right (eqb x (power (numbers F) 2 j)) _ h)) k (omega arith) in
+      (subst (λ (y : ℕ). T (antilogsFrom F n y xs)) (power-next j) (bothTrue-right (eqb x (power (numbers F) 2 j)) _ h)) k (omega arith) in
       (λ a. t .0 (omega arith) ∙ ap (power (numbers F) 2) (suc-add j k ∙ sym (add-suc j k)), λ a. t .1 (omega arith))
 
   pub antilogs-hold : (xs : List ℕ) → T (antilogTest F xs) → Antilogs F xs
@@ -142,10 +142,10 @@ module _ (F : Field) (gen : Generated F) where
   antilogs-hold xs h = record { entries = entries; entry = λ j l. at j (antilogs-at (2 * order F) 0 xs rest j (omega (arith, entries))) (decLt j (2 * order F)) }
     where
       entries : length xs ≡ 3 * order F
-      entries = eqb→eq (length xs) (3 * order F) (both-left (eqb (length xs) (3 * order F)) _ h)
+      entries = eqb→eq (length xs) (3 * order F) (bothTrue-left (eqb (length xs) (3 * order F)) _ h)
 
       rest : T (antilogsFrom F (2 * order F) 1 xs)
-      rest = both-right (eqb (length xs) (3 * order F)) _ h
+      rest = bothTrue-right (eqb (length xs) (3 * order F)) _ h
 
       at : (j : ℕ) → (j < 2 * order F → getD xs j 0 ≡ power (numbers F) 2 (0 + j)) × (2 * order F ≤ j → getD xs j 0 ≡ 0) → Dec (j < 2 * order F)
           → getD xs j 0 ≡ cond (ltb j (2 * order F)) (power (numbers F) 2 j) 0
@@ -175,7 +175,7 @@ module _ (F : Field) (gen : Generated F) where
       go (yes q) =
           let hx = log-lt x p l in let hy = log-lt y q m in
           rw (lt-ltb (logOf F x + logOf F y) (2 * order F) (omega arith))
-          (power-add F (gen .monic) (unit F gen) 2 (logOf F x) (logOf F y)
+          (power-add F (gen .monic) (one-below F gen) 2 (logOf F x) (logOf F y)
           ∙ ap₂ (mul F) (ap (power (numbers F) 2) (log-position F x p) ∙ position-is F gen x p l .1) (ap (power (numbers F) 2) (log-position F y q) ∙ position-is F gen y q m .1))
       go (no z) =
           let e : y ≡ 0 = omega arith in

@@ -1,6 +1,6 @@
 -- What the loops of the product and of the square root keep: each a record, one turn of the loop, and what follows at its end.
---   Halfway    product: the sum so far, and x times y, make v
---   Squaring   square root: y is b^(2^i)
+--   Halfway        product: the sum so far, and x times y, make v
+--   SquaringRoot   square root: y is b^(2^i)
 -- Assumes nothing.
 use mathlib.Core.Path.{_≡_, refl, sym, ap, ap₂, _∙_, subst}
 use Prim.Native.Nat.{ℕ, zero, suc, _+_, _-_, _*_, _/_, _%_, _<_}
@@ -11,7 +11,7 @@ use Rattle.algebra.specs.Field.{squared}
 use Rattle.field.specs.Field.{cut, Field, size, mul, numbers}
 use Rattle.field.proofs.Digits.{digit-mul-le}
 use Rattle.field.proofs.Xor.{xor-assoc}
-use Rattle.field.proofs.Ring.{Monic, RingLaws, ring}
+use Rattle.field.proofs.Ring.{FullDegree, RingLaws, ring}
 use Rattle.field.proofs.Generator.{Generated, power-size}
 use Rattle.field.proofs.Trace.{squared-power}
 
@@ -21,12 +21,12 @@ pub record Halfway (F : Field) (v x y sum : ℕ) : Type 0 where
   pub sum-lt : sum < size F
   pub total : bitXor sum (mul F x y) ≡ v
 
-module _ (F : Field) (monic : Monic F) where
+module _ (F : Field) (monic : FullDegree F) where
   open RingLaws (ring F monic) using (mul-zero-l, mul-lt, mul-two, mul-peel)
 
   -- one digit more
-  pub turn : {v x y sum : ℕ} → Halfway F v x y sum → Halfway F v (x / 2) (cut F (y * 2)) (bitXor (x % 2 * y) sum)
-  turn {v} {x} {y} {sum} h =
+  pub product-turn : {v x y sum : ℕ} → Halfway F v x y sum → Halfway F v (x / 2) (cut F (y * 2)) (bitXor (x % 2 * y) sum)
+  product-turn {v} {x} {y} {sum} h =
       record {
         y-lt = subst (λ (t : ℕ). t < size F) (mul-two y (h .y-lt)) (mul-lt 2 y);
         sum-lt = xor-lt (F .degree) (x % 2 * y) sum (let l = digit-mul-le x y in let k = h .y-lt in omega arith) (h .sum-lt);
@@ -37,12 +37,12 @@ module _ (F : Field) (monic : Monic F) where
       }
 
   -- no digit left
-  pub whole : {v x y sum : ℕ} → x ≡ 0 → Halfway F v x y sum → sum ≡ v
-  whole {v} {x} {y} {sum} e h =
+  pub product-whole : {v x y sum : ℕ} → x ≡ 0 → Halfway F v x y sum → sum ≡ v
+  product-whole {v} {x} {y} {sum} e h =
       sym (xor-zero-r sum) ∙ ap (bitXor sum) (sym (mul-zero-l y) ∙ ap (λ (t : ℕ). mul F t y) (sym e)) ∙ h .total
 
 -- ---- square root: y is b^(2^i)
-pub record Squaring (F : Field) (b y i : ℕ) : Type 0 where
+pub record SquaringRoot (F : Field) (b y i : ℕ) : Type 0 where
   pub y-lt : y < size F
   pub y-is : y ≡ squared (numbers F) i b
 
@@ -54,17 +54,17 @@ module _ (F : Field) (gen : Generated F) where
   squared-suc zero x = refl
   squared-suc (suc n) x = squared-suc n (mul F x x)
 
-  pub square-from : {b : ℕ} → b < size F → Squaring F b b 0
+  pub square-from : {b : ℕ} → b < size F → SquaringRoot F b b 0
   unfolding squared
   square-from h = record { y-lt = h; y-is = refl }
 
-  pub square-on : {b y i : ℕ} → Squaring F b y i → Squaring F b (mul F y y) (i + 1)
+  pub square-on : {b y i : ℕ} → SquaringRoot F b y i → SquaringRoot F b (mul F y y) (i + 1)
   square-on {b} {y} {i} s =
       record {
         y-lt = mul-lt y y;
         y-is = ap₂ (mul F) (s .y-is) (s .y-is) ∙ sym (ap (λ (n : ℕ). squared (numbers F) n b) (add-one i) ∙ squared-suc i b);
       }
 
-  pub square-root : {b y i : ℕ} → b < size F → i + 1 ≡ F .degree → Squaring F b y i → mul F y y ≡ b
+  pub square-root : {b y i : ℕ} → b < size F → i + 1 ≡ F .degree → SquaringRoot F b y i → mul F y y ≡ b
   square-root {b} {y} {i} h e s =
       square-on s .y-is ∙ ap (λ (n : ℕ). squared (numbers F) n b) e ∙ squared-power F gen (F .degree) b h ∙ power-size F gen b h

@@ -1,11 +1,11 @@
 -- The product of a field is commutative and associative and distributes over the sum, with no bound on its arguments; 1 is its unit below 2^m.
 -- All that is asked is that the polynomial has the field's degree.
---   Monic           the polynomial has the field's degree
+--   FullDegree           the polynomial has the field's degree
 --   mul-comm, mul-assoc, mul-xor-l, mul-xor-r   the product is commutative, associative, and distributes over the sum
 --   mul-zero-l ..   the product with 0 and with 1;  mul-lt  it is an element;  mul-reduced  a factor may be reduced first
 --   mul-two         twice an element;  mul-peel  the product by its first factor's last digit and the rest
 --   mul-swap        the inner factors of four change places;  square-xor  the square of a sum is the sum of the squares
---   power-lt, power-add, power-mul   powers are elements; x^(i+j) and x^(ij)
+--   power-lt, power-add, power-of-power   powers are elements; x^(i+j) and x^(ij)
 --   RingLaws, ring  the laws of the product as one value, for a section to open
 -- Assumes nothing.
 use mathlib.Core.Path.{_≡_, sym, ap, ap₂, _∙_}
@@ -20,10 +20,10 @@ use Rattle.field.proofs.CarryFree.{carryFree-zero-l, carryFree-comm, ca
 use Rattle.field.proofs.Reduce.{reduce-zero, reduce-xor, reduce-double, reduce-below, reduce-lt, reduce-left, reduce-right}
 
 -- the polynomial has the field's degree
-abbrev pub Monic : Field → Type 0
-Monic F = F .poly / size F ≡ 1
+abbrev pub FullDegree : Field → Type 0
+FullDegree F = F .poly / size F ≡ 1
 
-module _ (F : Field) (monic : Monic F) where
+module _ (F : Field) (monic : FullDegree F) where
   pub mul-comm : (a b : ℕ) → mul F a b ≡ mul F b a
   unfolding mul
   mul-comm a b = ap (reduce F) (carryFree-comm a b)
@@ -116,11 +116,11 @@ module _ (F : Field) (monic : Monic F) where
     power-add x (suc i) j =
         ap (power (numbers F) x) (suc-add i j) ∙ ap (mul F x) (power-add x i j) ∙ sym (mul-assoc x (power (numbers F) x i) (power (numbers F) x j))
 
-    pub power-mul : (x i j : ℕ) → power (numbers F) x (i * j) ≡ power (numbers F) (power (numbers F) x i) j
+    pub power-of-power : (x i j : ℕ) → power (numbers F) x (i * j) ≡ power (numbers F) (power (numbers F) x i) j
     unfolding power
-    power-mul x i zero = ap (power (numbers F) x) (mul-zero i)
-    power-mul x i (suc j) = ap (power (numbers F) x) (mul-suc i j) ∙ power-add x (i * j) i ∙ mul-comm (power (numbers F) x (i * j)) (power (numbers F) x i)
-        ∙ ap (mul F (power (numbers F) x i)) (power-mul x i j)
+    power-of-power x i zero = ap (power (numbers F) x) (mul-zero i)
+    power-of-power x i (suc j) = ap (power (numbers F) x) (mul-suc i j) ∙ power-add x (i * j) i ∙ mul-comm (power (numbers F) x (i * j)) (power (numbers F) x i)
+        ∙ ap (mul F (power (numbers F) x i)) (power-of-power x i j)
 
 -- the laws of the product as one value, for a section to open: `open RingLaws (ring F monic) using (mul-comm, ..)`
 pub record RingLaws (F : Field) : Type 0 where
@@ -138,7 +138,7 @@ pub record RingLaws (F : Field) : Type 0 where
   pub mul-swap : (a b c d : ℕ) → mul F (mul F a b) (mul F c d) ≡ mul F (mul F a c) (mul F b d)
   pub square-xor : (a b : ℕ) → mul F (bitXor a b) (bitXor a b) ≡ bitXor (mul F a a) (mul F b b)
 
-pub ring : (F : Field) → Monic F → RingLaws F
+pub ring : (F : Field) → FullDegree F → RingLaws F
 ring F monic =
     record {
       mul-comm = mul-comm F monic;

@@ -19,7 +19,7 @@ use Rattle.field.specs.Field.{numbers}
 use Rattle.field.specs.Quadratics.{rootsOfQuadratic}
 use Rattle.field.proofs.Xor.{xor-cancel, xor-equal, xor-digit}
 use Rattle.field.proofs.Ring.{RingLaws, ring}
-use Rattle.field.proofs.Generator.{Generated, unit, zero-product}
+use Rattle.field.proofs.Generator.{Generated, one-below, zero-product}
 use Rattle.field.proofs.Trace.{trace-xor, trace-of-square}
 use Rattle.field.proofs.HalfRoots.{quad, quad-xor}
 
@@ -38,7 +38,7 @@ module _ (F : Field) (gen : Generated F) where
   quad-zero : (x : ℕ) → x < size F → quad F x ≡ 0 → (x ≡ 0) ⊎ (x ≡ 1)
   quad-zero x h e =
       ⊎-elim inl (λ k. inr (xor-equal k))
-      (zero-product F gen x (bitXor x 1) h (xor-lt (F .degree) x 1 h (unit F gen)) (sym (quad-product x h) ∙ e))
+      (zero-product F gen x (bitXor x 1) h (xor-lt (F .degree) x 1 h (one-below F gen)) (sym (quad-product x h) ∙ e))
 
   -- a second solution differs from the first by 1
   pub second : (x j : ℕ) → x < size F → j < size F → quad F x ≡ quad F j → (x ≡ j) ⊎ (x ≡ bitXor j 1)
@@ -119,9 +119,9 @@ module _ (F : Field) (gen : Generated F) where
       ))
 
   -- ---- z^2 + az + b at z = ax is a^2 (x^2 + x) + b
-  pub scaled : (a x : ℕ) → bitXor (mul F (mul F a x) (mul F a x)) (mul F a (mul F a x)) ≡ mul F (mul F a a) (quad F x)
+  pub scaled-quadratic : (a x : ℕ) → bitXor (mul F (mul F a x) (mul F a x)) (mul F a (mul F a x)) ≡ mul F (mul F a a) (quad F x)
   unfolding quad
-  scaled a x =
+  scaled-quadratic a x =
       ap₂ bitXor (mul-swap a x a x) (sym (mul-assoc a a x)) ∙ sym (mul-xor-r (mul F a a) (mul F x x) x)
 
   quad-lt : (x : ℕ) → x < size F → quad F x < size F
@@ -129,7 +129,7 @@ module _ (F : Field) (gen : Generated F) where
   quad-lt x h = xor-lt (F .degree) (mul F x x) x (mul-lt x x) h
 
   quad-one : quad F 1 ≡ 0
-  quad-one = quad-product 1 (unit F gen) ∙ mul-zero-r 1
+  quad-one = quad-product 1 (one-below F gen) ∙ mul-zero-r 1
 
   -- a table entry that is no mark is a solution, and a mark says that there is none
   pub solution : {i j : ℕ} → HalfRoot F i j → j ≢ 65535 → (j < size F) × (quad F j ≡ i)
@@ -153,7 +153,7 @@ module _ (F : Field) (gen : Generated F) where
     squares : mul F (mul F a a) (mul F v v) ≡ 1
     squares =
         mul-swap a a v v
-        ∙ ap₂ (mul F) (mul-comm a v ∙ inv) (mul-comm a v ∙ inv) ∙ mul-one-l 1 (unit F gen)
+        ∙ ap₂ (mul F) (mul-comm a v ∙ inv) (mul-comm a v ∙ inv) ∙ mul-one-l 1 (one-below F gen)
 
     -- a^2 part = b, and nothing else is so
     back : mul F (mul F a a) part ≡ b
@@ -170,11 +170,11 @@ module _ (F : Field) (gen : Generated F) where
     pub root-to : (z : ℕ) → Root F a b z → quad F (mul F v z) ≡ part
     root-to z h =
         forth (quad F (mul F v z)) (quad-lt (mul F v z) (mul-lt v z))
-        (sym (scaled a (mul F v z)) ∙ ap (λ (t : ℕ). bitXor (mul F t t) (mul F a t)) (undo z (h .0)) ∙ xor-equal (h .1))
+        (sym (scaled-quadratic a (mul F v z)) ∙ ap (λ (t : ℕ). bitXor (mul F t t) (mul F a t)) (undo z (h .0)) ∙ xor-equal (h .1))
 
     pub root-from : (x : ℕ) → quad F x ≡ part → Root F a b (mul F a x)
     root-from x e =
-        (mul-lt a x, ap (λ (t : ℕ). bitXor t b) (scaled a x ∙ ap (mul F (mul F a a)) e ∙ back) ∙ xor-self b)
+        (mul-lt a x, ap (λ (t : ℕ). bitXor t b) (scaled-quadratic a x ∙ ap (mul F (mul F a a)) e ∙ back) ∙ xor-self b)
 
     -- no x: no root
     pub no-roots : Tr F part ≡ 1 → rootsOfQuadratic F a b ≡ []
@@ -231,7 +231,7 @@ module _ (F : Field) (gen : Generated F) where
 
   -- a = 0: the square root is the only root
   pub one-root : {a b s : ℕ} → a ≡ 0 → b < size F → s < size F → mul F s s ≡ b → rootsOfQuadratic F a b ≡ s ∷ []
-  one-root {a} {b} {s} z0 hb hs e = one-is a b (let u = unit F gen in omega arith) hb (hs, sum s ∙ ap (λ (t : ℕ). bitXor t b) e ∙ xor-self b) only
+  one-root {a} {b} {s} z0 hb hs e = one-is a b (let u = one-below F gen in omega arith) hb (hs, sum s ∙ ap (λ (t : ℕ). bitXor t b) e ∙ xor-self b) only
     where
       sum : (z : ℕ) → bitXor (bitXor (mul F z z) (mul F a z)) b ≡ bitXor (mul F z z) b
       sum z = ap (λ (t : ℕ). bitXor (bitXor (mul F z z) t) b) (ap (λ (c : ℕ). mul F c z) z0 ∙ mul-zero-l z) ∙ ap (λ (t : ℕ). bitXor t b) (xor-zero-r (mul F z z))

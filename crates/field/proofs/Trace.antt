@@ -16,14 +16,14 @@ use lib.Bits.{bitXor, xor-comm, xor-self, xor-zero-r, xor-lt}
 use lib.Dec.{lit<}
 use lib.Pow.{pow-lt}
 use Rattle.algebra.specs.Field.{power, squared, trace}
-use Rattle.field.specs.Rows.{Listed}
+use Rattle.field.specs.Rows.{ListedRow}
 use Rattle.field.proofs.Known.{by-row}
 use Rattle.field.specs.Field.{cut, Field, size, mul, numbers, inverse, Tr, fieldOf}
 use Rattle.field.proofs.Xor.{xor-assoc, xor-cancel, xor-swap, xor-equal}
 use Rattle.field.proofs.Reduce.{cut-below}
-use Rattle.field.proofs.Additive.{Additive, agree}
-use Rattle.field.proofs.Ring.{RingLaws, ring, power-lt, power-mul}
-use Rattle.field.proofs.Generator.{Generated, generated, unit, power-size, mul-inverse, zero-product}
+use Rattle.field.proofs.Additive.{Additive, additive-agree}
+use Rattle.field.proofs.Ring.{RingLaws, ring, power-lt, power-of-power}
+use Rattle.field.proofs.Generator.{Generated, generated, one-below, power-size, mul-inverse, zero-product}
 
 module _ (F : Field) (gen : Generated F) where
   open RingLaws (ring F (gen .monic)) using (mul-comm, mul-assoc, mul-xor-l, mul-xor-r, mul-zero-l, mul-one-r, mul-lt, mul-two, square-xor)
@@ -44,7 +44,7 @@ module _ (F : Field) (gen : Generated F) where
   trace-lt = go (F .degree)
     where
       go : (n x : ℕ) → x < size F → trace (numbers F) n x < size F
-      go zero x h = let u = unit F gen in omega arith
+      go zero x h = let u = one-below F gen in omega arith
       go (suc n) x h = xor-lt (F .degree) x (trace (numbers F) n (mul F x x)) h (go n (mul F x x) (mul-lt x x))
 
   -- the square of the sum is the sum of the squares
@@ -67,7 +67,7 @@ module _ (F : Field) (gen : Generated F) where
   squared-power (suc n) x h =
       squared-power n (mul F x x) (mul-lt x x)
       ∙ ap (λ (y : ℕ). power (numbers F) (mul F x y) (2 ^ n)) (sym (mul-one-r x h))
-      ∙ sym (power-mul F (gen .monic) (unit F gen) x 2 (2 ^ n))
+      ∙ sym (power-of-power F (gen .monic) (one-below F gen) x 2 (2 ^ n))
       ∙ ap (power (numbers F) x) (times-comm 2 (2 ^ n) ∙ sym (pow-suc 2 n))
 
   -- the sum's terms are x^(2^i), as the trace is told
@@ -90,7 +90,7 @@ module _ (F : Field) (gen : Generated F) where
   trace-of-square x h = sym (sum-square (F .degree) x) ∙ trace-square x h
 
   pub trace-bit : (x : ℕ) → x < size F → (Tr F x ≡ 0) ⊎ (Tr F x ≡ 1)
-  trace-bit x h = ⊎-elim inl (λ e. inr (xor-equal e)) (zero-product F gen t (bitXor t 1) (trace-lt x h) (xor-lt (F .degree) t 1 (trace-lt x h) (unit F gen)) zero-by)
+  trace-bit x h = ⊎-elim inl (λ e. inr (xor-equal e)) (zero-product F gen t (bitXor t 1) (trace-lt x h) (xor-lt (F .degree) t 1 (trace-lt x h) (one-below F gen)) zero-by)
     where
       t : ℕ
       t = Tr F x
@@ -104,7 +104,7 @@ module _ (F : Field) (gen : Generated F) where
   unfolding power
   power-low zero h = refl
   power-low (suc i) h =
-      mul-two (power (numbers F) 2 i) (power-lt F (gen .monic) (unit F gen) 2 i)
+      mul-two (power (numbers F) 2 i) (power-lt F (gen .monic) (one-below F gen) 2 i)
       ∙ ap (λ (y : ℕ). cut F (y * 2)) (power-low i (omega arith)) ∙ ap (cut F) (sym (pow-suc 2 i))
       ∙ cut-below F (2 ^ suc i) (pow-lt h)
 
@@ -143,7 +143,7 @@ module _ (F : Field) (gen : Generated F) where
       where
         same : (z : ℕ) → z < size F → Tr F (mul F z x) ≡ Tr F (mul F z y)
         same =
-            agree (F .degree) (by x) (by y) (by-xor x) (by-xor y)
+            additive-agree (F .degree) (by x) (by y) (by-xor x) (by-xor y)
             (λ i hi. subst (λ (t : ℕ). Tr F (mul F t x) ≡ Tr F (mul F t y)) (power-low i hi) (e i hi))
 
 -- an element of each known field whose trace is 1
@@ -162,11 +162,11 @@ witness11 : Witness 11 2053
 unfolding trace mul
 witness11 = (1, lit< tt, refl)
 
-witness : {m p : ℕ} → Listed m p → Witness m p
+witness : {m p : ℕ} → ListedRow m p → Witness m p
 witness = by-row Witness witness4 witness8 witness11
 
 -- no two elements of a known field have the same trace bits Tr(x), Tr(ax), .., Tr(a^(m-1) x)
-pub trace-bits : {m p : ℕ} → Listed m p → (x y : ℕ) → x < 2 ^ m → y < 2 ^ m
+pub trace-bits : {m p : ℕ} → ListedRow m p → (x y : ℕ) → x < 2 ^ m → y < 2 ^ m
     → ((i : ℕ) → i < m → Tr (fieldOf m p) (mul (fieldOf m p) (power (numbers (fieldOf m p)) 2 i) x) ≡ Tr (fieldOf m p) (mul (fieldOf m p) (power (numbers (fieldOf m p)) 2 i) y))
     → x ≡ y
 trace-bits {m} {p} l = let w = witness l in bits-apart (fieldOf m p) (generated l) (w .0) (w .1) (w .2)

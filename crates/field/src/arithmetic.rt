@@ -1,7 +1,7 @@
 // What the fields share: the reduction, the product, the square root, the position.
 ghost use mathlib.Core.Path.{_≡_};
 ghost use Prim.Native.Nat.{_<_, _/_, _^_};
-ghost use Rattle.field.specs.Rows.{Listed};
+ghost use Rattle.field.specs.Rows.{ListedRow};
 ghost use Rattle.field.specs.Field.{cut, mul, position, fieldOf};
 ghost use Rattle.field.specs.Tables.{Logs};
 
@@ -31,7 +31,7 @@ pub fn product_of(degree: u16, poly: u16, a: u16, b: u16) -> u16
 
 // The shared square root, b^(2^(m-1)).
 pub fn root_of(degree: u16, poly: u16, b: u16) -> u16
-    requires { ⌜ Listed degree poly × (b < 2 ^ degree) ⌝ }
+    requires { ⌜ ListedRow degree poly × (b < 2 ^ degree) ⌝ }
     ensures { λ r. ⌜ (r < 2 ^ degree) × (mul (fieldOf degree poly) r r ≡ b) ⌝ }
 {
     let mut y = b;

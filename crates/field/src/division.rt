@@ -2,7 +2,7 @@
 // modulo the field's polynomial; r and s shrink, with no common divisor but 1, until r is 1, and then u is 1/a.
 ghost use mathlib.Core.Path.{_≡_};
 ghost use Prim.Native.Nat.{_<_, _^_};
-ghost use Rattle.field.specs.Rows.{Listed};
+ghost use Rattle.field.specs.Rows.{ListedRow};
 ghost use Rattle.field.specs.Field.{inverse, fieldOf};
 ghost use Rattle.field.specs.Division.{joinedOf, halvedOf};
 
@@ -52,7 +52,7 @@ fn halved(poly: u16, e: Euclid) -> Euclid
 
 // The shared inverse of a nonzero element.
 pub fn inverse_of(degree: u16, poly: u16, a: u16) -> u16
-    requires { ⌜ Listed degree poly × (0 < a) × (a < 2 ^ degree) ⌝ }
+    requires { ⌜ ListedRow degree poly × (0 < a) × (a < 2 ^ degree) ⌝ }
     ensures { λ r. ⌜ r ≡ inverse (fieldOf degree poly) a ⌝ }
 {
     let mut e = Euclid {

@@ -30,24 +30,24 @@ pub const ROWS: [Row; 3] = [
     },
 ];
 
-pub enum Found {
+pub enum FoundRow {
     At(Row),
     Unknown,
 }
 
 // The row of the field of degree m.
-pub fn row_of(m: u16) -> Found
+pub fn row_of(m: u16) -> FoundRow
     ensures { λ r. ⌜ r ≡ rowAt m ⌝ }
 {
     let mut i = 0;
     while i < 3 {
         let row = ROWS[i];
         if row.degree == m {
-            return Found::At(row);
+            return FoundRow::At(row);
         }
         i += 1;
     }
-    Found::Unknown
+    FoundRow::Unknown
 }
 
 // The row of a degree that is known.

@@ -1,7 +1,7 @@
 // The quadratic solver over a lent table of half-solutions.
 ghost use mathlib.Core.Path.{_≡_};
 ghost use Prim.Native.Nat.{_<_, _^_};
-ghost use Rattle.field.specs.Rows.{Listed};
+ghost use Rattle.field.specs.Rows.{ListedRow};
 ghost use Rattle.field.specs.Field.{fieldOf};
 ghost use Rattle.field.specs.Tables.{Halves};
 ghost use Rattle.field.specs.Quadratics.{rootsIn, rootsOfQuadratic};
@@ -18,7 +18,7 @@ pub enum Quadratic {
 
 // The roots of z^2 + az + b: where a is 0 the square root of b, else z = ax with x^2 + x = b / a^2.
 pub fn quadratic_of(degree: u16, poly: u16, halves: &[u16], a: u16, b: u16) -> Quadratic
-    requires { ⌜ Listed degree poly
+    requires { ⌜ ListedRow degree poly
         × Halves (fieldOf degree poly) (now halves)
         × (a < 2 ^ degree)
         × (b < 2 ^ degree) ⌝ }

@@ -14,7 +14,7 @@ use lib.Dec.{eqb, leb, ltb}
 use Rattle.refusals.specs.Order.{Given, Passed}
 use Rattle.refusals.specs.Order.Passed.{none}
 use Rattle.field.specs.Rows.{known, IsRow}
-use Rattle.refusals.specs.Admitting.{Admits, behind}
+use Rattle.refusals.specs.Admitting.{Admits, withTest}
 use Rattle.field.specs.declared.rows.Row.{Row}
 use Rattle.refusals.specs.declared.Refusal.the-variants.{Element, OfZero, Convention}
 use Rattle.refusals.specs.declared.Admission.{Admission}
@@ -87,15 +87,15 @@ one-told {m} {a} p =
 -- ---- a position
 -- the tests behind that of the field, as the code makes them
 pub place-tests : {m : ℕ} (r v : ℕ) {row : Row} {told within all : Admission} → IsRow m row
-    → told ≡ behind In (ltb 1 v) Convention
-    → within ≡ behind told (leb (row .size) r) Element
-    → all ≡ behind within (eqb r 0) OfZero
+    → told ≡ withTest In (ltb 1 v) Convention
+    → within ≡ withTest told (leb (row .size) r) Element
+    → all ≡ withTest within (eqb r 0) OfZero
     → Admits (positionTests m r v) all
 place-tests {m} r v {row} {told} {within} i f g h =
     let one : List (ℕ × Bool) = (1, not (known m)) ∷ [] in
     let two : List (ℕ × Bool) = (1, not (known m)) ∷ (21, ltb 1 v) ∷ [] in
     let three : List (ℕ × Bool) = (1, not (known m)) ∷ (21, ltb 1 v) ∷ (4, outside m r) ∷ [] in
-    let size = ap (λ (n : ℕ). behind told (leb n r) Element) (i .size) in
+    let size = ap (λ (n : ℕ). withTest told (leb n r) Element) (i .size) in
     let first : Admits one In = passes (listed-on i) none in
     let second = admits-also one In (ltb 1 v) Convention f first in
     let third = admits-also two told (outside m r) Element (g ∙ size) second in

@@ -7,8 +7,8 @@ use mathlib.Core.List.{List, [], _∷_}
 use Prim.Native.Nat.{ℕ}
 use lib.ListN.{getD}
 use Rattle.refusals.proofs.Numbers.{by-number, refused-back, accepted-back}
-use Rattle.refusals.proofs.Told.{told}
-use Rattle.field_elements.specs.Calls.{paper, paperRoots, TellsProduct, TellsInverse, TellsPosition, TellsQuadratic}
+use Rattle.refusals.proofs.Told.{way-back}
+use Rattle.field_elements.specs.Calls.{toldAnswer, toldQuadratic, TellsProduct, TellsInverse, TellsPosition, TellsQuadratic}
 use Rattle.field_elements.specs.declared.Answer.{Answer}
 use Rattle.field_elements.specs.declared.Answer.the-variants.{Value, Refused}
 use Rattle.field.specs.declared.solver.Quadratic.{Quadratic}
@@ -20,13 +20,13 @@ use Rattle.field_elements.specs.declared.Roots.the-variants.{Found, Refu
 answerOf : ℕ × List ℕ → Answer
 answerOf o = by-number Refused (Value (getD (o .1) 0 0)) (o .0)
 
-answer-back : (r : Answer) → answerOf (paper r) ≡ r
+answer-back : (r : Answer) → answerOf (toldAnswer r) ≡ r
 unfolding answerOf
 answer-back (Value v) = accepted-back Refused (Value v)
 answer-back (Refused k) = refused-back Refused (Value 0) k
 
-pub answer-told : (r s : Answer) → paper r ≡ paper s → r ≡ s
-answer-told = told paper answerOf answer-back
+pub answer-told : (r s : Answer) → toldAnswer r ≡ toldAnswer s → r ≡ s
+answer-told = way-back toldAnswer answerOf answer-back
 
 rootsFrom : List ℕ → Quadratic
 rootsFrom [] = NoRoot
@@ -36,15 +36,15 @@ rootsFrom (x ∷ y ∷ l) = Two x y
 rootsAnswer : ℕ × List ℕ → Roots
 rootsAnswer o = by-number Turned (Found (rootsFrom (o .1))) (o .0)
 
-roots-back : (r : Roots) → rootsAnswer (paperRoots r) ≡ r
+roots-back : (r : Roots) → rootsAnswer (toldQuadratic r) ≡ r
 unfolding rootsAnswer rootsFrom
 roots-back (Turned k) = refused-back Turned (Found NoRoot) k
 roots-back (Found NoRoot) = accepted-back Turned (Found NoRoot)
 roots-back (Found (One x)) = accepted-back Turned (Found (One x))
 roots-back (Found (Two x y)) = accepted-back Turned (Found (Two x y))
 
-pub roots-told : (r s : Roots) → paperRoots r ≡ paperRoots s → r ≡ s
-roots-told = told paperRoots rootsAnswer roots-back
+pub roots-told : (r s : Roots) → toldQuadratic r ≡ toldQuadratic s → r ≡ s
+roots-told = way-back toldQuadratic rootsAnswer roots-back
 
 pub product-coincide : (m a b : ℕ) (r s : Answer) → TellsProduct m a b r → TellsProduct m a b s → r ≡ s
 product-coincide m a b r s h k = answer-told r s (h ∙ sym k)

@@ -16,7 +16,7 @@ use borrow.Author.Tests.{eq-eqb, ne-eqb}
 use Rattle.algebra.specs.Field.{power}
 use Rattle.field.specs.Field.{Field, size, order, mul, inverse, position, numbers}
 use Rattle.field.proofs.Ring.{power-add, power-lt}
-use Rattle.field.proofs.Generator.{Generated, unit, power-order, position-is, position-only, inverse-only}
+use Rattle.field.proofs.Generator.{Generated, one-below, power-order, position-is, position-only, inverse-only}
 use Rattle.field_elements.specs.Calls.{positionUnder}
 
 -- the exponent itself under 0
@@ -62,7 +62,7 @@ module _ (F : Field) (gen : Generated F) where
       x = power (numbers F) 2
 
       x-lt : (n : ℕ) → x n < size F
-      x-lt = power-lt F (gen .monic) (unit F gen) 2
+      x-lt = power-lt F (gen .monic) (one-below F gen) 2
 
       j : ℕ
       j = position F r
@@ -82,7 +82,7 @@ module _ (F : Field) (gen : Generated F) where
 
       one : mul F r (x i) ≡ 1
       one =
-          ap (λ (y : ℕ). mul F y (x i)) (sym (k .1)) ∙ sym (power-add F (gen .monic) (unit F gen) 2 j i)
+          ap (λ (y : ℕ). mul F y (x i)) (sym (k .1)) ∙ sym (power-add F (gen .monic) (one-below F gen) 2 j i)
           ∙ total (mirrored-sum (order F) j (k .0))
 
   -- with X = 2^j: the root of z + X is X
@@ -94,5 +94,5 @@ module _ (F : Field) (gen : Generated F) where
   pub recorder-place : (r j : ℕ) → 0 < r → r < size F → j < order F → mul F r (power (numbers F) 2 j) ≡ 1
       → positionUnder 1 F r ≡ j
   recorder-place r j h s l e =
-      let i = inverse-only F gen r (power (numbers F) 2 j) h s (power-lt F (gen .monic) (unit F gen) 2 j) e in
+      let i = inverse-only F gen r (power (numbers F) 2 j) h s (power-lt F (gen .monic) (one-below F gen) 2 j) e in
       of-inverse r h s ∙ goppa-place (inverse F r) j l (sym i)

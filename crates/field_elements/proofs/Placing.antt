@@ -1,5 +1,5 @@
 -- What the position call knows where it is let in, and that what it answers is the outcome.
---   Placed, placed                    the exponent that it computes with
+--   ExponentKnown, exponent-known     the exponent that it computes with
 --   goppa-outcome, recorder-outcome   what it answers under each convention
 -- Assumes nothing.
 use mathlib.Core.Path.{_≡_, sym, ap, ap₂, _∙_}
@@ -16,23 +16,23 @@ use Rattle.field_elements.proofs.Admitting.{place-told}
 use Rattle.field_elements.proofs.Mirror.{goppa, recorder}
 
 -- what the call knows where it is let in: j is the exponent of r, below the order
-pub record Placed (m r v j : ℕ) : Type 0 where
+pub record ExponentKnown (m r v j : ℕ) : Type 0 where
   pub passed : Passed (positionTests m r v)
   pub exponent : j ≡ position (fieldAt m) r
   pub within : j < 2 ^ m - 1
 
-pub placed : (m r v : ℕ) {j : ℕ} → Passed (positionTests m r v) → j ≡ position (fieldAt m) r → Placed m r v j
-placed m r v {j} passed e =
+pub exponent-known : (m r v : ℕ) {j : ℕ} → Passed (positionTests m r v) → j ≡ position (fieldAt m) r → ExponentKnown m r v j
+exponent-known m r v {j} passed e =
     let o = place-told v passed in
     let p = position-is (fieldAt m) (generated (listed m (o .field))) r (o .positive) (o .below) .0 in
     record { passed = passed; exponent = e; within = omega arith }
 
 -- what it answers under each convention is the outcome
-pub goppa-outcome : {m r v j : ℕ} → Placed m r v j → v ≡ 0 → (0, j ∷ []) ≡ positionOutcome m r v
+pub goppa-outcome : {m r v j : ℕ} → ExponentKnown m r v j → v ≡ 0 → (0, j ∷ []) ≡ positionOutcome m r v
 goppa-outcome {m} {r} {v} p h =
     ap (λ (n : ℕ). (0, n ∷ [])) (p .exponent ∙ sym (goppa (fieldAt m) r v h)) ∙ sym (accepted _ (p .passed))
 
-pub recorder-outcome : {m r v j n : ℕ} → Placed m r v j → n ≡ 2 ^ m → (v ≡ 0 → ⊥) → (0, (n - 1 - j) % (n - 1) ∷ []) ≡ positionOutcome m r v
+pub recorder-outcome : {m r v j n : ℕ} → ExponentKnown m r v j → n ≡ 2 ^ m → (v ≡ 0 → ⊥) → (0, (n - 1 - j) % (n - 1) ∷ []) ≡ positionOutcome m r v
 recorder-outcome {m} {r} {v} p e h =
     let mirrored = ap₂ (λ (n k : ℕ). (n - 1 - k) % (n - 1)) e (p .exponent) in
     ap (λ (n : ℕ). (0, n ∷ [])) (mirrored ∙ sym (recorder (fieldAt m) r v h)) ∙ sym (accepted _ (p .passed))

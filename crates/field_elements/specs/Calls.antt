@@ -1,5 +1,5 @@
 -- What the public element calls answer, for every input (docs/RULES.md section 2; the order of refusals is RULES 8.2).
---   paper, paperRoots   the number and the values of an answer: a refusal's number, or 0 and the values
+--   toldAnswer, toldQuadratic   the number and the values of an answer: a refusal's number, or 0 and the values
 --   pairTests, nonzeroTests, positionTests   the tests in their order, each behind its number
 --   positionUnder       the position of a root under a convention
 --   productOutcome ..   the outcome of each call: its tests and its value
@@ -20,13 +20,13 @@ use Rattle.field_elements.specs.declared.Answer.the-variants.{Value, Ref
 use Rattle.field_elements.specs.declared.Roots.{Roots}
 use Rattle.field_elements.specs.declared.Roots.the-variants.{Found, Refused as Turned}
 
-abbrev pub paper : Answer → ℕ × List ℕ
-paper (Value v) = (0, v ∷ [])
-paper (Refused k) = (numberOf k, [])
+abbrev pub toldAnswer : Answer → ℕ × List ℕ
+toldAnswer (Value v) = (0, v ∷ [])
+toldAnswer (Refused k) = (numberOf k, [])
 
-abbrev pub paperRoots : Roots → ℕ × List ℕ
-paperRoots (Found q) = (0, rootsIn q)
-paperRoots (Turned k) = (numberOf k, [])
+abbrev pub toldQuadratic : Roots → ℕ × List ℕ
+toldQuadratic (Found q) = (0, rootsIn q)
+toldQuadratic (Turned k) = (numberOf k, [])
 
 -- is a no element?
 abbrev pub outside : ℕ → ℕ → Bool
@@ -63,13 +63,13 @@ quadraticOutcome m a b = outcome (pairTests m a b) (rootsOfQuadratic (fieldAt m)
 
 -- the contract of each call: the answers that it admits
 abbrev pub TellsProduct : ℕ → ℕ → ℕ → Answer → Type 0
-TellsProduct m a b r = paper r ≡ productOutcome m a b
+TellsProduct m a b r = toldAnswer r ≡ productOutcome m a b
 
 abbrev pub TellsInverse : ℕ → ℕ → Answer → Type 0
-TellsInverse m a r = paper r ≡ inverseOutcome m a
+TellsInverse m a r = toldAnswer r ≡ inverseOutcome m a
 
 abbrev pub TellsPosition : ℕ → ℕ → ℕ → Answer → Type 0
-TellsPosition m x convention r = paper r ≡ positionOutcome m x convention
+TellsPosition m x convention r = toldAnswer r ≡ positionOutcome m x convention
 
 abbrev pub TellsQuadratic : ℕ → ℕ → ℕ → Roots → Type 0
-TellsQuadratic m a b r = paperRoots r ≡ quadraticOutcome m a b
+TellsQuadratic m a b r = toldQuadratic r ≡ quadraticOutcome m a b

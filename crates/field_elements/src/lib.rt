@@ -2,7 +2,7 @@
 ghost use Rattle.field_elements.specs.Calls.{TellsProduct, TellsInverse, TellsPosition, TellsQuadratic};
 ghost use Rattle.field_elements.specs.Calls.{pairTests, nonzeroTests, positionTests};
 ghost use Rattle.refusals.specs.Admitting.{Admits};
-use field::rows::Found;
+use field::rows::FoundRow;
 use field::rows::row_of;
 use field::rows::size_of;
 use field::solver::Quadratic;
@@ -22,7 +22,7 @@ pub enum Answer {
 
 // What the quadratic call answers: the roots, or what is turned away.
 pub enum Roots {
-    Found(Quadratic),
+    FoundRow(Quadratic),
     Refused(Refusal),
 }
 
@@ -31,7 +31,7 @@ fn admit_pair(m: u16, a: u16, b: u16) -> Admission
     ensures { λ r. ⌜ Admits (pairTests m a b) r ⌝ }
 {
     let found = row_of(m);
-    let Found::At(row) = found else {
+    let FoundRow::At(row) = found else {
         return Admission::Out(Refusal::Field);
     };
     if row.size <= a {
@@ -48,7 +48,7 @@ fn admit_nonzero(m: u16, a: u16) -> Admission
     ensures { λ r. ⌜ Admits (nonzeroTests m a) r ⌝ }
 {
     let found = row_of(m);
-    let Found::At(row) = found else {
+    let FoundRow::At(row) = found else {
         return Admission::Out(Refusal::Field);
     };
     if row.size <= a {
@@ -85,7 +85,7 @@ fn admit_position(m: u16, r: u16, convention: u16) -> Admission
     ensures { λ a. ⌜ Admits (positionTests m r convention) a ⌝ }
 {
     let found = row_of(m);
-    let Found::At(row) = found else {
+    let FoundRow::At(row) = found else {
         return Admission::Out(Refusal::Field);
     };
     let size = row.size;
@@ -120,6 +120,6 @@ pub fn quadratic(m: u16, a: u16, b: u16) -> Roots
 {
     match admit_pair(m, a, b) {
         Admission::Out(k) => Roots::Refused(k),
-        Admission::In => Roots::Found(roots_in(m, a, b)),
+        Admission::In => Roots::FoundRow(roots_in(m, a, b)),
     }
 }

@@ -8,7 +8,7 @@ ghost use Rattle.refusals.specs.Admitting.{Admits};
 ghost use Rattle.table_rules.specs.Cutoff.{highestCutoff, inForce};
 ghost use Rattle.table_rules.specs.Polynomials.{polynomialTests};
 ghost use Rattle.find_admit.specs.Values.{Measured, valueTests};
-use field::rows::Found;
+use field::rows::FoundRow;
 use field::rows::row_of;
 use refusals::Admission;
 use refusals::Refusal;
@@ -32,7 +32,7 @@ fn admit_values(m: u16, n: usize, top: u16) -> Admission
     ensures { λ r. ⌜ Admits (valueTests m n top []) r ⌝ }
 {
     let found = row_of(m);
-    let Found::At(row) = found else {
+    let FoundRow::At(row) = found else {
         return Admission::Out(Refusal::Field);
     };
     if n == 0 {

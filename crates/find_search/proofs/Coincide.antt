@@ -7,9 +7,9 @@ use mathlib.Core.List.{List}
 use Prim.Native.Nat.{ℕ}
 use lib.ListN.{getD}
 use Rattle.refusals.proofs.Numbers.{by-number, refused-back, accepted-back}
-use Rattle.refusals.proofs.Told.{told, coincide}
+use Rattle.refusals.proofs.Told.{way-back, coincide}
 use Rattle.table_rules.specs.RootMemory.{rootMemory}
-use Rattle.find_search.specs.Calls.{paperSearched, searchOutcome, searchTests, Searches}
+use Rattle.find_search.specs.Calls.{toldSearched, searchOutcome, searchTests, Searches}
 use Rattle.find_search.specs.declared.Searched.{Searched}
 use Rattle.find_search.specs.declared.Searched.the-variants.{Seen, NotSearched}
 
@@ -18,16 +18,16 @@ searchedOf : ℕ × List ℕ → Searched
 searchedOf o = by-number NotSearched (Seen (getD (o .1) 0 0)) (o .0)
 
 -- it takes number and value back
-searched-back : (r : Searched) → searchedOf (paperSearched r) ≡ r
+searched-back : (r : Searched) → searchedOf (toldSearched r) ≡ r
 unfolding searchedOf
 searched-back (Seen s) = accepted-back NotSearched (Seen s)
 searched-back (NotSearched k) = refused-back NotSearched (Seen 0) k
 
 -- two answers with one number and value are one
-pub searched-told : (r s : Searched) → paperSearched r ≡ paperSearched s → r ≡ s
-searched-told = told paperSearched searchedOf searched-back
+pub searched-told : (r s : Searched) → toldSearched r ≡ toldSearched s → r ≡ s
+searched-told = way-back toldSearched searchedOf searched-back
 
 -- the answer and the lent list
 pub search-coincide : (m : ℕ) (cs list : List ℕ) (r s : Searched) (x y : List ℕ)
     → Searches m cs list r x → Searches m cs list s y → (r ≡ s) × (x ≡ y)
-search-coincide m cs list = coincide paperSearched searched-told (searchOutcome m cs list) (rootMemory (searchTests m cs list) m cs list)
+search-coincide m cs list = coincide toldSearched searched-told (searchOutcome m cs list) (rootMemory (searchTests m cs list) m cs list)

@@ -19,7 +19,7 @@ use Rattle.field.proofs.Known.{by-row, listed}
 use Rattle.field.specs.Field.{rootsAt, G}
 use Rattle.slices.specs.Lists.{copied}
 use Rattle.poly.specs.Lent.{Lent}
-use Rattle.find_search.specs.Searching.{SearchedOut, test, below, Tried, Noted}
+use Rattle.find_search.specs.Searching.{SearchedOut, isRootAt, below, Tried, Noted}
 
 -- one number more at the end
 upFrom-last : (k n : ℕ) → upFrom k (suc n) ≡ upFrom k n ++ (k + n) ∷ []
@@ -97,16 +97,16 @@ pub tried-room : {m : ℕ} {f roots roots′ : List ℕ} {x k : ℕ} → Tried m
 unfolding rootsOf
 tried-room {m} {f} {roots} {x = x} {k = k} h l z r =
     let d : ℕ = 2 ^ m - suc x in
-    let hit : length (below m f (suc x)) ≡ suc k = ap length (kept-hit (test m f) x (eq-eqb (eval (G m) f x) 0 z)) ∙ length-append (below m f x) (x ∷ []) ∙ (let c = h .count in omega arith) in
-    let more = kept-grows (test m f) (suc x) d in
+    let hit : length (below m f (suc x)) ≡ suc k = ap length (kept-hit (isRootAt m f) x (eq-eqb (eval (G m) f x) 0 z)) ∙ length-append (below m f x) (x ∷ []) ∙ (let c = h .count in omega arith) in
+    let more = kept-grows (isRootAt m f) (suc x) d in
     let all : suc x + d ≡ 2 ^ m = omega arith in
-    let most : length (below m f (suc x)) ≤ length (keep (test m f) (upFrom 0 (2 ^ m))) = subst (λ (n : ℕ). length (below m f (suc x)) ≤ length (keep (test m f) (upFrom 0 n))) all more in
+    let most : length (below m f (suc x)) ≤ length (keep (isRootAt m f) (upFrom 0 (2 ^ m))) = subst (λ (n : ℕ). length (below m f (suc x)) ≤ length (keep (isRootAt m f) (upFrom 0 n))) all more in
     omega arith
 
 pub tried-hit : {m : ℕ} {f roots roots′ : List ℕ} {x k : ℕ} → Tried m f roots x k roots′ → x < 2 ^ m → eval (G m) f x ≡ 0 → k < length roots
     → Tried m f roots (x + 1) (k + 1) (set roots′ k x)
 tried-hit {m} {f} {roots} {roots′} {x} {k} h l z r =
-    let hit = kept-hit (test m f) x (eq-eqb (eval (G m) f x) 0 z) in
+    let hit = kept-hit (isRootAt m f) x (eq-eqb (eval (G m) f x) 0 z) in
     record {
       within = omega arith;
       count = ap (λ (n : ℕ). n + 1) (h .count) ∙ sym (ap (λ (n : ℕ). length (below m f n)) (add-one x) ∙ ap length hit ∙ length-append (below m f x) (x ∷ []));
@@ -121,7 +121,7 @@ tried-hit {m} {f} {roots} {roots′} {x} {k} h l z r =
 pub tried-miss : {m : ℕ} {f roots roots′ : List ℕ} {x k : ℕ} → Tried m f roots x k roots′ → x < 2 ^ m → (eval (G m) f x ≡ 0 → ⊥)
     → Tried m f roots (x + 1) k roots′
 tried-miss {m} {f} {roots} {roots′} {x} {k} h l z =
-    let miss = kept-miss (test m f) x (ne-eqb (eval (G m) f x) 0 z) in
+    let miss = kept-miss (isRootAt m f) x (ne-eqb (eval (G m) f x) 0 z) in
     record {
       within = omega arith;
       count = h .count ∙ sym (ap (λ (n : ℕ). length (below m f n)) (add-one x) ∙ ap length miss);
@@ -174,7 +174,7 @@ pub tried-over : {m : ℕ} {f roots r r′ : List ℕ} {x y k j : ℕ} → Tried
 tried-over {m} {f} {roots} {x = x} {y = y} h s l =
     let d : ℕ = y - x in
     let all : x + d ≡ y = omega arith in
-    let more : length (below m f x) ≤ length (below m f y) = subst (λ (n : ℕ). length (below m f x) ≤ length (below m f n)) all (kept-grows (test m f) x d) in
+    let more : length (below m f x) ≤ length (below m f y) = subst (λ (n : ℕ). length (below m f x) ≤ length (below m f n)) all (kept-grows (isRootAt m f) x d) in
     record {
       within = s .within;
       count = s .count;
@@ -189,7 +189,7 @@ searched-over {m} {f} {roots} {x = x} h s =
     let w = h .within in
     let d : ℕ = 2 ^ m - x in
     let all : x + d ≡ 2 ^ m = omega arith in
-    let more : length (below m f x) ≤ length (rootsAt m f) = subst (λ (n : ℕ). length (below m f x) ≤ length (below m f n)) all (kept-grows (test m f) x d) in
+    let more : length (below m f x) ≤ length (rootsAt m f) = subst (λ (n : ℕ). length (below m f x) ≤ length (below m f n)) all (kept-grows (isRootAt m f) x d) in
     record { count = s .count; slots = s .slots ∙ ap (copied (rootsAt m f)) (h .slots) ∙ copied-over (below m f x) (rootsAt m f) roots more }
 
 -- ---- how many elements there are

@@ -21,7 +21,7 @@ use Rattle.field.proofs.Digits.{bit-cases}
 use Rattle.poly_values.specs.Planes.{occupied, wordsAt, taps11}
 use Rattle.poly_values.specs.Tables.{Values}
 use Rattle.poly_values.proofs.Finishing.{free-hit, free-miss}
-use Rattle.find_search.specs.Searching.{Tried, Free, Wordable}
+use Rattle.find_search.specs.Searching.{Tried, RootDigits, Wordable}
 use Rattle.find_search.proofs.Trying.{tried-hit, tried-miss, tried-room, tried-next}
 
 -- ---- the digits at the low end
@@ -104,8 +104,8 @@ module _ {f roots : List ℕ} {free x k : ℕ} (w : Wordable f free x k roots) w
             let z : rest / 2 ^ t ≡ 0 = ap (λ (r : ℕ). r / 2 ^ t) (i .left) ∙ digit-left (i .read) t ∙ div-eq-of-lt (omega (arith, w .digits .small)) in
             let o = odd in absurd (omega arith)
 
-    pub skipped : Tried 11 f roots (at + trailingZeros 64 rest) n roots′
-    skipped =
+    pub zeros-skipped : Tried 11 f roots (at + trailingZeros 64 rest) n roots′
+    zeros-skipped =
         tried-skip (trailingZeros 64 rest) (i .tried) (omega (arith, found, i .place, w .within))
         (λ j h e. w .digits .miss (i .read + j) (omega (arith, found))
         (ap (λ (r : ℕ). r % 2) (sym (digit-left (i .read) j)) ∙ ap (λ (r : ℕ). r / 2 ^ j % 2) (sym (i .left)) ∙ tz-below 64 rest j h)
@@ -118,12 +118,12 @@ module _ {f roots : List ℕ} {free x k : ℕ} (w : Wordable f free x k roots) w
         ∙ w .digits .hit (i .read + t) found (ap (λ (r : ℕ). r % 2) (sym (digit-left (i .read) t)) ∙ ap (λ (r : ℕ). r / 2 ^ t % 2) (sym (i .left)) ∙ odd)
 
     pub room-here : n < length roots′
-    room-here = let r = tried-room skipped (omega (arith, found, i .place, w .within)) root (w .room) in omega (arith, i .tried .long)
+    room-here = let r = tried-room zeros-skipped (omega (arith, found, i .place, w .within)) root (w .room) in omega (arith, i .tried .long)
 
     pub reading-on : Reading f roots free x (rest / 2 ^ trailingZeros 64 rest / 2) (at + trailingZeros 64 rest + 1) (n + 1) (set roots′ n (at + trailingZeros 64 rest))
     unfolding t
     reading-on = record {
-      tried = tried-hit skipped (omega (arith, found, i .place, w .within)) root (tried-room skipped (omega (arith, found, i .place, w .within)) root (w .room));
+      tried = tried-hit zeros-skipped (omega (arith, found, i .place, w .within)) root (tried-room zeros-skipped (omega (arith, found, i .place, w .within)) root (w .room));
       read = i .read + t + 1;
       place = omega (arith, i .place);
       within = omega (arith, found);
@@ -144,7 +144,7 @@ module _ {f roots : List ℕ} {free x k : ℕ} (w : Wordable f free x k roots) w
 
 -- ---- the word of the lanes that are 0
 
-pub free-from : {f p : List ℕ} → Values taps11 f p 32 → (w : ℕ) → w < 32 → {z : ℕ} → z ≡ occupied (wordsAt 11 p (w * 11)) → z < 2 ^ 64 → Free f (w * 64) (bitXor z 18446744073709551615)
+pub free-from : {f p : List ℕ} → Values taps11 f p 32 → (w : ℕ) → w < 32 → {z : ℕ} → z ≡ occupied (wordsAt 11 p (w * 11)) → z < 2 ^ 64 → RootDigits f (w * 64) (bitXor z 18446744073709551615)
 free-from v w h {z} e b = record {
   small = xor-lt 64 z 18446744073709551615 b (omega arith);
   hit = λ l k d. free-hit v w h e l k d;

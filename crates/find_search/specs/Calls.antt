@@ -2,7 +2,7 @@
 -- roots, ascending.
 --   searchTests     its tests in their order, each behind its number
 --   searchOutcome   its outcome: the number of roots
---   paperSearched   the number and the value of its answer
+--   toldSearched    the number and the value of its answer
 --   Searches        THE CONTRACT: the answers and lists that the search admits
 -- Assumes nothing.
 use mathlib.Core.Bool.{Bool}
@@ -25,11 +25,11 @@ searchTests m cs list = polynomialTests m cs ((7, ltb (length list) limit) ∷ [
 abbrev pub searchOutcome : ℕ → List ℕ → List ℕ → ℕ × List ℕ
 searchOutcome m cs list = outcome (searchTests m cs list) (length (rootsAt m cs) ∷ [])
 
-abbrev pub paperSearched : Searched → ℕ × List ℕ
-paperSearched (Seen s) = (0, s ∷ [])
-paperSearched (NotSearched k) = (numberOf k, [])
+abbrev pub toldSearched : Searched → ℕ × List ℕ
+toldSearched (Seen s) = (0, s ∷ [])
+toldSearched (NotSearched k) = (numberOf k, [])
 
 -- the contract: an answer, and the lent list afterwards
 abbrev pub Searches : ℕ → List ℕ → List ℕ → Searched → List ℕ → Type 0
 Searches m cs list r after =
-    Answers (searchTests m cs list) (length (rootsAt m cs) ∷ []) (copied (rootsAt m cs) list) list (paperSearched r) after
+    Answers (searchTests m cs list) (length (rootsAt m cs) ∷ []) (copied (rootsAt m cs) list) list (toldSearched r) after

@@ -4,7 +4,7 @@
 --   below        the roots below x
 --   Tried        the elements below x were tried: their roots stand at the front of the list, and k is their number
 --   Noted        an element x with the value v was noted: a root goes behind the k that stand there
---   Free         the set digits of a word are the roots among the 64 elements from x on
+--   RootDigits   the set digits of a word are the roots among the 64 elements from x on
 --   Wordable     what noting a word may take for granted
 -- Assumes nothing.
 use mathlib.Core.Path.{_≡_}
@@ -30,11 +30,11 @@ pub record SearchedOut (m : ℕ) (f roots : List ℕ) (k : ℕ) (roots′ : List
   pub slots : roots′ ≡ copied (rootsAt m f) roots
 
 -- is f 0 at x?
-abbrev pub test : ℕ → List ℕ → ℕ → Bool
-test m f = isRoot (G m) f
+abbrev pub isRootAt : ℕ → List ℕ → ℕ → Bool
+isRootAt m f = isRoot (G m) f
 
 abbrev pub below : ℕ → List ℕ → ℕ → List ℕ
-below m f x = keep (test m f) (upFrom 0 x)
+below m f x = keep (isRootAt m f) (upFrom 0 x)
 
 pub record Tried (m : ℕ) (f roots : List ℕ) (x k : ℕ) (roots′ : List ℕ) : Type 0 where
   pub within : x ≤ 2 ^ m
@@ -47,13 +47,13 @@ pub record Noted (v x k : ℕ) (roots : List ℕ) (k′ : ℕ) (roots′ : List 
   pub hit : v ≡ 0 → (k′ ≡ k + 1) × (roots′ ≡ set roots k x)
   pub miss : (v ≡ 0 → ⊥) → (k′ ≡ k) × (roots′ ≡ roots)
 
-pub record Free (f : List ℕ) (x free : ℕ) : Type 0 where
+pub record RootDigits (f : List ℕ) (x free : ℕ) : Type 0 where
   pub small : free < 2 ^ 64
   pub hit : (l : ℕ) → l < 64 → free / 2 ^ l % 2 ≡ 1 → eval (G 11) f (x + l) ≡ 0
   pub miss : (l : ℕ) → l < 64 → free / 2 ^ l % 2 ≡ 0 → eval (G 11) f (x + l) ≡ 0 → ⊥
 
 pub record Wordable (f : List ℕ) (free x k : ℕ) (roots : List ℕ) : Type 0 where
   pub tried : Tried 11 f roots x k roots
-  pub digits : Free f x free
+  pub digits : RootDigits f x free
   pub room : length (rootsAt 11 f) ≤ length roots
   pub within : x + 64 ≤ 2048

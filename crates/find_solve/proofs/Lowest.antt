@@ -26,10 +26,10 @@ use Rattle.slices.proofs.Bounded.{allBelow-exactly}
 use Rattle.field.specs.Field.{fieldAt, mul, inverse, G, rootsAt}
 use Rattle.poly.proofs.Monics.{norm-skip, norm-lead}
 use Rattle.table_rules.specs.Demand.{stepCount}
-use Rattle.table_rules.specs.Splitting.{bitAt}
+use Rattle.table_rules.specs.Splitting.{traceBitAt}
 use Rattle.table_rules.proofs.Counting.{count-left, left-none}
 use Rattle.table_rules.proofs.Fields.{known-field}
-use Rattle.find_solve.specs.Solving.{Lowly, SolvedOut}
+use Rattle.find_solve.specs.Solving.{AtMostLinear, SolvedOut}
 use Rattle.find_solve.specs.declared.Counts.{Counts}
 
 -- ---- lists
@@ -47,9 +47,9 @@ set-first (y ∷ s) x h = refl
 
 -- no part of them has more
 pub few-steps : (m c : ℕ) (roots : List ℕ) → length roots ≤ c → stepCount m c roots ≡ 0
-few-steps m c roots h = count-left (bitAt m) c m roots ∙ left-none (bitAt m) c m 0 roots h
+few-steps m c roots h = count-left (traceBitAt m) c m roots ∙ left-none (traceBitAt m) c m 0 roots h
 
-module _ {m n : ℕ} {f : List ℕ} (g : Lowly m f n) where
+module _ {m n : ℕ} {f : List ℕ} (g : AtMostLinear m f n) where
   N : OnNumbers (G m) (2 ^ m)
   N = known-field m (g .polynomial .field) .numbers
 

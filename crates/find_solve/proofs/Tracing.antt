@@ -38,20 +38,20 @@ use Rattle.table_rules.specs.Groups.{group}
 use Rattle.table_rules.specs.Entries.{entryAt, firstAbove}
 use Rattle.table_rules.specs.Layout.{byFactor}
 use Rattle.table_rules.specs.Table.{Table, decode}
-use Rattle.table_rules.specs.Splitting.{bitAt, firstFactor, halvingAt}
+use Rattle.table_rules.specs.Splitting.{traceBitAt, firstFactor, halvingAt}
 use Rattle.table_rules.specs.Demand.{groupsAfter}
 use Rattle.table_rules.proofs.Layouts.{byFactor-lawful}
 use Rattle.table_rules.proofs.Soundness.{decode-encode}
 use Rattle.table_rules.proofs.Demand.{demand-3}
 use Rattle.field.specs.Field.{G, rootsAt}
-use Rattle.poly.specs.Lent.{Lent, Row, held}
+use Rattle.poly.specs.Lent.{Lent, LogRow, held}
 use Rattle.poly_powers.specs.Powers.{Summable, traceSum}
 use Rattle.poly.proofs.Logs.{field-of, numbers-of, held-long}
 use Rattle.poly_powers.proofs.TraceLoops.{rows-fit, next-place, part-front, part-long}
 use Rattle.poly_powers.proofs.TraceValues.{traceSum-below, powerRows-long, powerRows-row, trace-value}
 use Rattle.table_rules.specs.Limit.{limit, slots, widest}
 use Rattle.table_check.specs.Verdicts.{Chosen}
-use Rattle.table_step.specs.Parting.{Ready}
+use Rattle.table_step.specs.Parting.{StepReady}
 use Rattle.table_slots.specs.Slots.{takenOf, levelAt, factorAt}
 use Rattle.table_begin.specs.SplitPart.{Powered}
 use Rattle.table_rules.specs.Polynomials.{PolynomialIn}
@@ -288,11 +288,11 @@ module _ {m n : ℕ} {f ls ts rows : List ℕ} (l : Lent m ls ts) (hf : Below (2
       (λ r h. (h .0, N .zero-test (eval (G m) F r) (eval-below N F r small (h .0)) .0 (h .1))) both)
 
   -- so the sum parts the product over a group as Tr(a^i z) does
-  group-same : (i : ℕ) (w : List Bool) → let p : List ℕ = monicRoots (G m) (group (bitAt m) w (rootsAt m f)) in
+  group-same : (i : ℕ) (w : List Bool) → let p : List ℕ = monicRoots (G m) (group (traceBitAt m) w (rootsAt m f)) in
       gcd (G m) p (levelSum m n rows i) ≡ gcd (G m) p (traceOf (G m) m (power (G m) 2 i))
   group-same i w =
       let b : ℕ = power (G m) 2 i in
-      split-same N (group (bitAt m) w (rootsAt m f)) (levelSum m n rows i) (traceOf (G m) m b)
+      split-same N (group (traceBitAt m) w (rootsAt m f)) (levelSum m n rows i) (traceOf (G m) m b)
       (keep-below (2 ^ m) _ (rootsAt m f) (rootsOf-below (G m) (2 ^ m) f)) (level-below l n rows i) (traceOf-below N m b (small-power i))
       (distinct-keep _ (rootsAt m f) (rootsOf-distinct (G m) (2 ^ m) f))
       (all-keep (λ r. eval (G m) (levelSum m n rows i) r ≡ eval (G m) (traceOf (G m) m b) r) _ (rootsAt m f)
@@ -300,8 +300,8 @@ module _ {m n : ℕ} {f ls ts rows : List ℕ} (l : Lent m ls ts) (hf : Below (2
       (λ r h. level-value i r (h .0) (h .1)) all-roots))
 
   -- what holds of the empty list and of the product over each group holds of each factor
-  each-entry : (Q : List ℕ → Type 0) → Q [] → ((w : List Bool) → Q (monicRoots (G m) (group (bitAt m) w (rootsAt m f)))) → (ws : List (List Bool)) (k : ℕ)
-      → Q (entryAt (map (λ w. (length w, monicRoots (G m) (group (bitAt m) w (rootsAt m f)))) ws) k .1)
+  each-entry : (Q : List ℕ → Type 0) → Q [] → ((w : List Bool) → Q (monicRoots (G m) (group (traceBitAt m) w (rootsAt m f)))) → (ws : List (List Bool)) (k : ℕ)
+      → Q (entryAt (map (λ w. (length w, monicRoots (G m) (group (traceBitAt m) w (rootsAt m f)))) ws) k .1)
   each-entry Q empty whole [] k = empty
   each-entry Q empty whole (w ∷ ws) zero = whole w
   each-entry Q empty whole (w ∷ ws) (suc k) = each-entry Q empty whole ws k
@@ -334,13 +334,13 @@ module _ {m : ℕ} {ls ts : List ℕ} {n : ℕ} {rows traces : List ℕ} {k : �
 
     -- and what stands there can be lent to the step
     pub advance-ready : {j : ℕ} {traces₁ : List ℕ} → TracedTo m n rows i j traces₁ → length traces₁ ≡ length traces
-        → Ready table ls ts o (take (i * n + n - i * n) (drop (i * n) traces₁))
+        → StepReady table ls ts o (take (i * n + n - i * n) (drop (i * n) traces₁))
     advance-ready {j} {traces₁} t e =
         let d : i * n + n - i * n ≡ n = omega arith in
         let r : j * n ≤ length traces₁ = subst (λ x. j * n ≤ x) (sym e) (le-trans (mul-le-mul-right n (t .within)) (g .traceable .room)) in
         let is : levelSum m n rows i ≡ take (i * n + n - i * n) (drop (i * n) traces₁) = sym (ap (λ x. take x (drop (i * n) traces₁)) d ∙ traced-at m n rows (t .above) r (t .traced)) in
         let few : length (levelSum m n rows i) ≤ limit = omega (arith, level-long m n rows i, g .few) in
-        subst (Ready table ls ts o) is (record {
+        subst (StepReady table ls ts o) is (record {
           chosen = g .chosen;
           tables = subst (λ w. Lent w ls ts) (sym (g .width)) (g .traceable .tables);
           small = subst (λ w. Below (2 ^ w) (levelSum m n rows i)) (sym (g .width)) (level-below (g .traceable .tables) n rows i);
@@ -403,7 +403,7 @@ module _ {m c : ℕ} {f ls ts : List ℕ} {n : ℕ} {rows traces₀ table₀ : L
           few = few;
           traceable = record {
             tables = g .tables;
-            logs = subst (Row m) (sym (q .rows-are)) (powerRows-row (g .tables) (q .low) small m z1 hz);
+            logs = subst (LogRow m) (sym (q .rows-are)) (powerRows-row (g .tables) (q .low) small m z1 hz);
             rows-long = omega arith;
             room = omega (arith, w .long-traces, ap length (g .zeros), length-replicate {A = ℕ} (widest * limit) 0);
             within = w .within;

@@ -2,7 +2,7 @@
 -- roots, ascending.
 --   solveTests     its tests in their order, each behind its number
 --   solveOutcome   its outcome: the numbers of roots and of steps
---   paperSolved    the number and the values of its answer
+--   toldSolved     the number and the values of its answer
 --   Solves         THE CONTRACT: the answers and lists that the whole call admits
 -- Assumes nothing.
 use mathlib.Core.Bool.{Bool}
@@ -27,11 +27,11 @@ solveTests m c cs list = polynomialTests m cs ((6, ltb highestCutoff c) ∷ (7, 
 abbrev pub solveOutcome : ℕ → ℕ → List ℕ → List ℕ → ℕ × List ℕ
 solveOutcome m c cs list = outcome (solveTests m c cs list) (length (rootsAt m cs) ∷ stepsAt m c cs ∷ [])
 
-abbrev pub paperSolved : Solved → ℕ × List ℕ
-paperSolved (Found s steps) = (0, s ∷ steps ∷ [])
-paperSolved (NotSolved k) = (numberOf k, [])
+abbrev pub toldSolved : Solved → ℕ × List ℕ
+toldSolved (Found s steps) = (0, s ∷ steps ∷ [])
+toldSolved (NotSolved k) = (numberOf k, [])
 
 -- the contract: an answer, and the lent list afterwards
 abbrev pub Solves : ℕ → ℕ → List ℕ → List ℕ → Solved → List ℕ → Type 0
 Solves m c cs list r after =
-    Answers (solveTests m c cs list) (length (rootsAt m cs) ∷ stepsAt m c cs ∷ []) (copied (rootsAt m cs) list) list (paperSolved r) after
+    Answers (solveTests m c cs list) (length (rootsAt m cs) ∷ stepsAt m c cs ∷ []) (copied (rootsAt m cs) list) list (toldSolved r) after

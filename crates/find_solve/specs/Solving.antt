@@ -6,7 +6,7 @@
 --   Running      what the engine may take for granted;  RunOut  what it leaves: the table after as many steps as groups outnumber c
 --   Solvable, SolvedOut   the same from a polynomial that passed its tests to the list: the roots at its front, their number and that of the steps
 --   SolvedAtAny  the list is the same at every cutoff from 1 on
---   Lowly        a polynomial that was let in has n coefficients up to its leading one, at most 2
+--   AtMostLinear        a polynomial that was let in has n coefficients up to its leading one, at most 2
 -- Assumes nothing.
 use mathlib.Core.Path.{_≡_}
 use mathlib.Core.Bool.{true}
@@ -21,7 +21,7 @@ use Rattle.table_rules.specs.Cutoff.{highestCutoff}
 use Rattle.table_rules.specs.Layout.{byFactor}
 use Rattle.table_rules.specs.Splitting.{halvingAt, slotsStepped}
 use Rattle.table_rules.specs.Demand.{stepCount, groupsSlots}
-use Rattle.poly.specs.Lent.{Lent, Row}
+use Rattle.poly.specs.Lent.{Lent, LogRow}
 use Rattle.poly.specs.Monic.{TopIs}
 use Rattle.poly_powers.specs.Powers.{traceSum}
 use Rattle.slices.specs.Lists.{copied}
@@ -57,7 +57,7 @@ pub record Traced (m n : ℕ) (rows : List ℕ) (k : ℕ) (traces : List ℕ) : 
 -- with rows and room for all levels
 pub record Traceable (m : ℕ) (ls ts : List ℕ) (n : ℕ) (rows traces : List ℕ) (k i : ℕ) : Type 0 where
   pub tables : Lent m ls ts
-  pub logs : Row m rows
+  pub logs : LogRow m rows
   pub rows-long : m * n ≤ length rows
   pub room : m * n ≤ length traces
   pub within : k ≤ m
@@ -108,7 +108,7 @@ pub record SolvedOut (m c : ℕ) (f roots : List ℕ) (r : Counts) (roots′ : L
 abbrev pub SolvedAtAny : ℕ → List ℕ → List ℕ → Counts → List ℕ → Type 0
 SolvedAtAny m f roots r roots′ = (c : ℕ) → 1 ≤ c → SolvedOut m c f roots r roots′
 
-pub record Lowly (m : ℕ) (f : List ℕ) (n : ℕ) : Type 0 where
+pub record AtMostLinear (m : ℕ) (f : List ℕ) (n : ℕ) : Type 0 where
   pub polynomial : PolynomialIn m f
   pub top : TopIs f n
   pub low : n ≤ 2

@@ -16,7 +16,7 @@ ghost use Rattle.table_rules.specs.Limit.{limit};
 ghost use Rattle.table_rules.specs.Polynomials.{PolynomialIn};
 ghost use Rattle.find_solve.specs.Calls.{Solves};
 ghost use Rattle.find_solve.specs.Solving.{Traceable, TracedTo, Advancing, Advanced};
-ghost use Rattle.find_solve.specs.Solving.{Running, RunOut, Solvable, SolvedOut, SolvedAtAny, Lowly};
+ghost use Rattle.find_solve.specs.Solving.{Running, RunOut, Solvable, SolvedOut, SolvedAtAny, AtMostLinear};
 use field_tables::constants::antilogs4;
 use field_tables::constants::antilogs8;
 use field_tables::constants::antilogs11;
@@ -102,7 +102,7 @@ fn advance(
 }
 
 // Steps a begun table until it is done. It is sound, so that the place of the next step is all that is looked for. The coefficients only say which table it is.
-pub fn run(
+pub fn run_table(
     m: u16,
     c: u16,
     coeffs: &[u16],
@@ -153,7 +153,7 @@ pub fn solve_lent(
     let mut traces = [0u16; POWER_ROWS];
     let n = begin_lent(m, c, coeffs, logs, antilogs, &mut table, &mut rows);
     let e = (m as usize) * n;
-    run(
+    run_table(
         m,
         c,
         coeffs,
@@ -175,7 +175,7 @@ pub fn solve_lent(
 // The roots of an accepted polynomial with n coefficients up to its leading one, at most 2: degree 1 has one, a quotient,
 // and degree 0 has none. It takes no table and no step.
 fn solve_low(m: u16, n: usize, coeffs: &[u16], roots: &mut [u16]) -> Counts
-    requires { ⌜ Lowly m (now coeffs) n × (1 ≤ length (now roots)) ⌝ }
+    requires { ⌜ AtMostLinear m (now coeffs) n × (1 ≤ length (now roots)) ⌝ }
     ensures { λ r. ⌜ SolvedAtAny m (now (coeffs .entry)) (now (roots .entry)) r (now (roots .exit)) ⌝ }
 {
     if n < 2 {

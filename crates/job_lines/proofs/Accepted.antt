@@ -35,7 +35,7 @@ use Rattle.job_records.specs.Reading.{Outcome, callTests, readAt, Spelled}
 use Rattle.job_text.specs.Lines.{lineOf, Wrote}
 use Rattle.job_records.proofs.Forward.{accepts}
 use Rattle.job_records.proofs.Cutoffs.{asked-stated}
-use Rattle.job_lines.specs.Printing.{turnedLine, solvedLine, Solvable}
+use Rattle.job_lines.specs.Printing.{turnedLine, solvedLine, Printable}
 
 -- the reader's tests, and that of the list's room behind them
 pub same-tests : (m c : ℕ) (cs list : List ℕ) → callTests m c cs ++ ((7, ltb (length list) limit) ∷ []) ≡ solveTests m c cs list
@@ -58,7 +58,7 @@ pub record SolvedIs (m c : ℕ) (cs : List ℕ) (s steps : ℕ) (list : List ℕ
   pub roots : take s list ≡ rootsAt m cs
   pub few : s ≤ limit
 
-module _ {m c : ℕ} {cs out : List ℕ} (p : Solvable m c cs out) where
+module _ {m c : ℕ} {cs out : List ℕ} (p : Printable m c cs out) where
   -- the polynomial is let in
   pub lets-in : PolynomialIn m cs
   lets-in = polynomial-told m cs (p .passed)
@@ -72,7 +72,7 @@ module _ {m c : ℕ} {cs out : List ℕ} (p : Solvable m c cs out) where
 spelled-front : {bytes room after : List ℕ} {n : ℕ} → Spelled bytes room n after → take n after ≡ words bytes
 spelled-front {bytes} {room} {n = n} s = ap (take n) (s .slots) ∙ copied-front (words bytes) room (sym (s .count))
 
-module _ {m c n : ℕ} {bytes room after out : List ℕ} (h : Spelled bytes room n after) (p : Solvable m c (words bytes) out) (list : List ℕ) where
+module _ {m c n : ℕ} {bytes room after out : List ℕ} (h : Spelled bytes room n after) (p : Printable m c (words bytes) out) (list : List ℕ) where
   -- what the engine asks
   pub solve-asks : {k : ℕ} → limit ≤ length list → k ≡ inForce c
       → PolynomialIn m (take n after) × (1 ≤ k) × (k ≤ highestCutoff) × (limit ≤ length list)

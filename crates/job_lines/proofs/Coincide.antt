@@ -5,7 +5,7 @@
 use mathlib.Core.Path.{_≡_, refl, sym, ap, ap₂, _∙_}
 use mathlib.Core.List.{List, [], _∷_}
 use Prim.Native.Nat.{ℕ}
-use Rattle.job_lines.specs.Printing.{told, Turned}
+use Rattle.job_lines.specs.Printing.{toldNext, Turned}
 use Rattle.job_lines.specs.declared.Next.{Next}
 use Rattle.job_lines.specs.declared.Next.the-variants.{Over, On}
 use Rattle.job_lines.specs.declared.Turn.{Turn}
@@ -16,12 +16,12 @@ nextOf [] = Over
 nextOf (at ∷ []) = Over
 nextOf (at ∷ k ∷ l) = On (record { at = at; k = k })
 
-next-back : (n : Next) → nextOf (told n) ≡ n
+next-back : (n : Next) → nextOf (toldNext n) ≡ n
 unfolding nextOf
 next-back Over = refl
 next-back (On p) = refl
 
-pub next-told : (n o : Next) → told n ≡ told o → n ≡ o
+pub next-told : (n o : Next) → toldNext n ≡ toldNext o → n ≡ o
 next-told n o e = sym (next-back n) ∙ ap nextOf e ∙ next-back o
 
 pub turned-once : {file old s t : List ℕ} {at k : ℕ} {q r : Turn} → Turned file at k old q s → Turned file at k old r t → (q ≡ r) × (s ≡ t)

@@ -12,7 +12,7 @@ use Rattle.field.specs.Rows.{knownIn, polyIn}
 use Rattle.field.specs.Field.{mul}
 use Rattle.table_rules.specs.Cutoff.{inForceBy}
 use Rattle.table_rules.specs.Groups.{groupsAt, groupCount, sumBelow, agrees}
-use Rattle.table_rules.specs.Groups.{words as bitWords}
+use Rattle.table_rules.specs.Groups.{bitWords as bitWords}
 use Rattle.job_records.specs.Layout.{words}
 use Rattle.job_text.specs.Lines.{decimalIn, decimal, spaced}
 use Rattle.job_records.proofs.Example.{sample, sample-reads}

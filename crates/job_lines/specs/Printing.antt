@@ -3,11 +3,11 @@
 --   lineBy      the line of a number with the values that reading gave;  lineFor  of what reading gave
 --   linesFrom   the lines of what reading gave, one after the other; the first has the number k
 --   LinesOf     a text is the lines of a file
---   onFrom      the place to go on with the number of the record there, or nothing, of what reading gave;  told  of the code's answer
+--   onFrom      the place to go on with the number of the record there, or nothing, of what reading gave;  toldNext  of the code's answer
 --   Turned      what a turn leaves: the line at the front of the lent text, and all else there as it was
 --   TurnedBy    the same of what was read, wherever it stands: at every place of a file that gives it with these bytes
 --   Ahead       a number lies behind what was read, wherever that stands in a file of at most 65,536 bytes
---   Solvable    what was accepted, and room for its line
+--   Printable   what was accepted, and room for its line
 --   Prints      from a place on these lines are printed, turn by turn
 -- Assumes nothing.
 use mathlib.Core.Path.{_≡_}
@@ -20,7 +20,7 @@ use Rattle.field.specs.Field.{rootsAt}
 use Rattle.table_rules.specs.Demand.{stepsAt}
 use Rattle.job_records.specs.Layout.{headLength, words, part}
 use Rattle.job_records.specs.Cutoffs.{asked}
-use Rattle.job_records.specs.Reading.{Outcome, callTests, paper, readAt, bytesOf}
+use Rattle.job_records.specs.Reading.{Outcome, callTests, toldRead, readAt, bytesOf}
 use Rattle.job_records.specs.Files.{Reads}
 use Rattle.job_records.specs.declared.Read.{Read}
 use Rattle.job_text.specs.Lines.{lineOf, longestLine}
@@ -64,24 +64,24 @@ onFrom k Outcome.ends = []
 onFrom k (Outcome.gives number []) = []
 onFrom k (Outcome.gives number (next ∷ values)) = next ∷ (k + 1) ∷ []
 
-abbrev pub told : Next → List ℕ
-told Over = []
-told (On p) = p .at ∷ p .k ∷ []
+abbrev pub toldNext : Next → List ℕ
+toldNext Over = []
+toldNext (On p) = p .at ∷ p .k ∷ []
 
 pub record Turned (file : List ℕ) (at k : ℕ) (old : List ℕ) (r : Turn) (new : List ℕ) : Type 0 where
   pub ended : r .len ≡ length (lineFor file k (readAt file at))
   pub bytes : new ≡ pasted 0 (lineFor file k (readAt file at)) old
-  pub goes : told (r .next) ≡ onFrom k (readAt file at)
+  pub goes : toldNext (r .next) ≡ onFrom k (readAt file at)
 
 abbrev pub TurnedBy : Read → List ℕ → ℕ → List ℕ → Turn → List ℕ → Type 0
-TurnedBy read bytes k old r new = (file : List ℕ) (at : ℕ) → paper read ≡ readAt file at → bytes ≡ bytesOf file read
+TurnedBy read bytes k old r new = (file : List ℕ) (at : ℕ) → toldRead read ≡ readAt file at → bytes ≡ bytesOf file read
     → Turned file at k old r new
 
 abbrev pub Ahead : Read → List ℕ → ℕ → Type 0
-Ahead read bytes n = (file : List ℕ) (at : ℕ) → paper read ≡ readAt file at → bytes ≡ bytesOf file read
+Ahead read bytes n = (file : List ℕ) (at : ℕ) → toldRead read ≡ readAt file at → bytes ≡ bytesOf file read
     → length file ≤ 65536 → at ≤ length file → at + headLength ≤ n
 
-pub record Solvable (m c : ℕ) (cs out : List ℕ) : Type 0 where
+pub record Printable (m c : ℕ) (cs out : List ℕ) : Type 0 where
   pub passed : Passed (callTests m c cs)
   pub room : longestLine ≤ length out
 

@@ -6,7 +6,7 @@ ghost use Rattle.refusals.specs.Numbers.{numberOf};
 ghost use Rattle.job_records.specs.Layout.{words};
 ghost use Rattle.job_records.specs.Reading.{Stands};
 ghost use Rattle.job_text.specs.Lines.{Wrote, longestLine};
-ghost use Rattle.job_lines.specs.Printing.{turnedLine, solvedLine, TurnedBy, Solvable};
+ghost use Rattle.job_lines.specs.Printing.{turnedLine, solvedLine, TurnedBy, Printable};
 use find_admit::in_force;
 use find_solve::solve_in;
 use job_records::Read;
@@ -16,7 +16,7 @@ use table_rules::COEFFICIENTS;
 use table_rules::LIMIT;
 
 // Where reading goes on, and the number of the record there.
-pub struct Place {
+pub struct NextRecord {
     pub at: usize,
     pub k: u32,
 }
@@ -24,7 +24,7 @@ pub struct Place {
 // Reading is over, or it goes on.
 pub enum Next {
     Over,
-    On(Place),
+    On(NextRecord),
 }
 
 // The length of a record's line, 0 where there is none, and what follows.
@@ -44,7 +44,7 @@ fn turned_line(k: u32, refusal: Refusal, out: &mut [u8]) -> usize
 
 // The line of an accepted record, to the front of out; its length.
 fn solved_line(k: u32, m: u16, cutoff: u16, bytes: &[u8], out: &mut [u8]) -> usize
-    requires { ⌜ Solvable m cutoff (words (now bytes)) (now out) ⌝ }
+    requires { ⌜ Printable m cutoff (words (now bytes)) (now out) ⌝ }
     ensures { λ n. ⌜ Wrote (solvedLine k m cutoff (words (now (bytes .entry))))
         0 (now (out .entry)) n (now (out .exit)) ⌝ }
 {
@@ -72,13 +72,13 @@ pub fn take_turn(read: Read, bytes: &[u8], k: u32, out: &mut [u8]) -> Turn
         },
         Read::Refused { refusal, next } => Turn {
             len: turned_line(k, refusal, out),
-            next: Next::On(Place { at: next, k: after }), // after 1 to 6
+            next: Next::On(NextRecord { at: next, k: after }), // after 1 to 6
         },
         Read::Record(job) => {
             let cutoff = job.cutoff;
             Turn {
                 len: solved_line(k, job.m as u16, job_records::asked(cutoff), bytes, out),
-                next: Next::On(Place {
+                next: Next::On(NextRecord {
                     at: job.next,
                     k: after,
                 }),

@@ -8,8 +8,8 @@ use mathlib.Core.Path.{_≡_, refl, sym, ap, _∙_}
 use mathlib.Core.List.{List, [], _∷_}
 use Prim.Native.Nat.{ℕ}
 use Rattle.refusals.proofs.Numbers.{by-number, refused-back}
-use Rattle.refusals.proofs.Told.{told}
-use Rattle.job_records.specs.Reading.{Outcome, paper, ReadsAt, Spelled}
+use Rattle.refusals.proofs.Told.{way-back}
+use Rattle.job_records.specs.Reading.{Outcome, toldRead, ReadsAt, Spelled}
 use Rattle.job_records.proofs.Cutoffs.{cutoffFrom, cutoff-back}
 use Rattle.job_records.specs.declared.Read.{Read}
 use Rattle.job_records.specs.declared.Read.the-variants.{End, Record, Refused, Stopped}
@@ -26,7 +26,7 @@ answerOf : Outcome → Read
 answerOf Outcome.ends = End
 answerOf (Outcome.gives k values) = answerFrom k values
 
-read-back : (r : Read) → answerOf (paper r) ≡ r
+read-back : (r : Read) → answerOf (toldRead r) ≡ r
 unfolding answerOf answerFrom
 read-back End = refl
 read-back (Record j) =
@@ -34,8 +34,8 @@ read-back (Record j) =
 read-back (Refused k next) = refused-back (λ r. Refused r next) End k
 read-back (Stopped k) = refused-back Stopped End k
 
-pub read-told : (r s : Read) → paper r ≡ paper s → r ≡ s
-read-told = told paper answerOf read-back
+pub read-told : (r s : Read) → toldRead r ≡ toldRead s → r ≡ s
+read-told = way-back toldRead answerOf read-back
 
 pub read-coincide : (file : List ℕ) (at : ℕ) (r s : Read) → ReadsAt file at r → ReadsAt file at s → r ≡ s
 read-coincide file at r s h k = read-told r s (h ∙ sym k)

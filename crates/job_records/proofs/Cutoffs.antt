@@ -1,7 +1,7 @@
 -- The cutoff that a record states.
---   never-zero       the reader never makes a stated 0
---   asked-stated     the cutoff that is asked for is the byte
---   stated-once      two cutoffs that state the same are one
+--   never-zero            the reader never makes a stated 0
+--   asked-stated          the cutoff that is asked for is the byte
+--   statedCutoff-once     two cutoffs that state the same are one
 -- Assumes nothing.
 use mathlib.Core.Path.{_≡_, refl, sym, ap, _∙_}
 use mathlib.Core.Bool.{Bool, true, false, cond}
@@ -9,7 +9,7 @@ use mathlib.Core.List.{List, [], _∷_}
 use Prim.Native.Nat.{ℕ}
 use borrow.Author.Tests.{eqb-true, eqb-false}
 use lib.Dec.{eqb}
-use Rattle.job_records.specs.Cutoffs.{stated, statedBy, asked}
+use Rattle.job_records.specs.Cutoffs.{statedCutoff, statedBy, asked}
 use Rattle.job_records.specs.declared.Cutoff.{Cutoff}
 use Rattle.job_records.specs.declared.Cutoff.the-variants.{House, Stated}
 use Rattle.job_records.proofs.Forward.{never}
@@ -27,10 +27,10 @@ told c (Stated n) false e f s =
     zero : Stated n ≡ Stated 0 → n ≡ 0
     zero s = cc
 
-pub never-zero : (c : ℕ) (cutoff : Cutoff) → statedBy cutoff ≡ stated c → cutoff ≡ Stated 0 → ⊥
+pub never-zero : (c : ℕ) (cutoff : Cutoff) → statedBy cutoff ≡ statedCutoff c → cutoff ≡ Stated 0 → ⊥
 never-zero c cutoff e = told c cutoff (eqb c 0) refl e
 
-pub asked-stated : (c : ℕ) → asked (stated c) ≡ c
+pub asked-stated : (c : ℕ) → asked (statedCutoff c) ≡ c
 asked-stated c = go (eqb c 0) refl
   where
     go : (b : Bool) → eqb c 0 ≡ b → asked (cond b [] (c ∷ [])) ≡ c
@@ -47,5 +47,5 @@ unfolding cutoffFrom
 cutoff-back House = refl
 cutoff-back (Stated c) = refl
 
-pub stated-once : (c d : Cutoff) → statedBy c ≡ statedBy d → c ≡ d
-stated-once c d e = sym (cutoff-back c) ∙ ap cutoffFrom e ∙ cutoff-back d
+pub statedCutoff-once : (c d : Cutoff) → statedBy c ≡ statedBy d → c ≡ d
+statedCutoff-once c d e = sym (cutoff-back c) ∙ ap cutoffFrom e ∙ cutoff-back d

@@ -15,7 +15,7 @@ use lib.Seq.{drop-drop}
 use Rattle.refusals.specs.Order.{Given, Passed}
 use Rattle.refusals.proofs.Order.{given-decides, passed-decides}
 use Rattle.job_records.specs.Layout.{headLength, degreeByte, cutoffByte, bodyLength, recordLength}
-use Rattle.job_records.specs.Cutoffs.{stated}
+use Rattle.job_records.specs.Cutoffs.{statedCutoff}
 use Rattle.job_records.specs.Reading.{Outcome, startTests, recordTests, judged, readHere, readAt, HandsBack}
 use Rattle.job_records.proofs.Starting.{stops, goes-on}
 use Rattle.job_records.proofs.Forward.{never, Here, here-is, whole-record}
@@ -67,7 +67,7 @@ module _ (file : List ℕ) (at : ℕ) where
     where
       go : {o : Outcome} → Here at rest o
           → o ≡ Outcome.gives 0
-          ((at + recordLength rest) ∷ degreeByte rest ∷ (at + headLength) ∷ bodyLength rest ∷ stated (cutoffByte rest))
+          ((at + recordLength rest) ∷ degreeByte rest ∷ (at + headLength) ∷ bodyLength rest ∷ statedCutoff (cutoffByte rest))
           → Passed (startTests rest) × Passed (recordTests rest)
       go (over z) f = never (cc)
       go (stop l g) f = never (cc)

@@ -17,7 +17,7 @@ use Rattle.refusals.specs.Order.{Given, Passed}
 use Rattle.refusals.specs.Order.Given.{here, later}
 use Rattle.refusals.proofs.Order.{cases, given-decides, passed-decides, failed, others}
 use Rattle.job_records.specs.Layout.{headLength, degreeByte, cutoffByte, bodyLength, recordLength, words, part}
-use Rattle.job_records.specs.Cutoffs.{stated}
+use Rattle.job_records.specs.Cutoffs.{statedCutoff}
 use Rattle.job_records.specs.Reading.{Outcome, startTests, callTests, recordTests, judged, readHere, readAt}
 
 -- two cases that differ are never the same
@@ -30,7 +30,7 @@ pub data Here (at : ℕ) (r : List ℕ) : Outcome → Type 0 where
   stop : {k : ℕ} → 0 < length r → Given k (startTests r) → Here at r (Outcome.gives k [])
   refuse : {k : ℕ} → Passed (startTests r) → Given k (recordTests r) → Here at r (Outcome.gives k ((at + recordLength r) ∷ []))
   accept : Passed (startTests r) → Passed (recordTests r)
-      → Here at r (Outcome.gives 0 ((at + recordLength r) ∷ degreeByte r ∷ (at + headLength) ∷ bodyLength r ∷ stated (cutoffByte r)))
+      → Here at r (Outcome.gives 0 ((at + recordLength r) ∷ degreeByte r ∷ (at + headLength) ∷ bodyLength r ∷ statedCutoff (cutoffByte r)))
 
 -- every place is one of them
 pub here-is : (at : ℕ) (r : List ℕ) → Here at r (readHere at r)
@@ -114,7 +114,7 @@ goes-only file at {k} {next} {vs} e = go (here-is at (drop at file)) e
 -- its fields are the bytes at its place, and its coefficient bytes are the part of the file that is handed back; they pass the whole call's tests
 pub record Accepts (file : List ℕ) (at next m start len : ℕ) (cutoff : List ℕ) : Type 0 where
   pub degree : m ≡ getD file (at + 2) 0
-  pub cutoff-is : cutoff ≡ stated (getD file (at + 3) 0)
+  pub cutoff-is : cutoff ≡ statedCutoff (getD file (at + 3) 0)
   pub starts : start ≡ at + headLength
   pub long : len ≡ 2 * getD file (at + 4) 0
   pub goes : next ≡ start + len
@@ -138,10 +138,10 @@ accepts file at {next} {m} {start} {len} {cutoff} e = go (here-is at (drop at fi
         let l : bodyLength (drop at file) ≡ len = cc in
         let d : degreeByte (drop at file) ≡ m = cc in
         let n : at + recordLength (drop at file) ≡ next = cc in
-        let c : stated (cutoffByte (drop at file)) ≡ cutoff = cc in
+        let c : statedCutoff (cutoffByte (drop at file)) ≡ cutoff = cc in
         record {
           degree = sym d ∙ byte 2;
-          cutoff-is = sym c ∙ ap stated (byte 3);
+          cutoff-is = sym c ∙ ap statedCutoff (byte 3);
           starts = sym s;
           long = sym l ∙ ap (λ n. 2 * n) (byte 4);
           goes = omega arith;

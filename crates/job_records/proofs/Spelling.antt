@@ -12,7 +12,7 @@ use lib.ListN.{length, getD, set, length-set}
 use lib.Seq.{take-length, paste, paste-zero, paste-suc}
 use Rattle.slices.specs.Lists.{copied}
 use Rattle.find_admit.specs.Values.{Largest}
-use Rattle.find_admit.proofs.Seeking.{Seeking, seek-from, seek-raise, seek-keep, seek-end}
+use Rattle.find_admit.proofs.Seeking.{SeekingTop, seek-top-from, seek-top-raise, seek-top-keep, seek-top-end}
 use Rattle.job_records.specs.Layout.{word, words}
 use Rattle.job_records.specs.Reading.{Spelled}
 use Rattle.job_records.proofs.Words.{length-words, word-at}
@@ -22,10 +22,10 @@ use Rattle.job_records.proofs.Words.{length-words, word-at}
 -- the search among the words, of which there are half as many as bytes
 pub record Topping (bytes : List ℕ) (top k : ℕ) : Type 0 where
   pub count : length (words bytes) ≡ length bytes / 2
-  pub seeking : Seeking (words bytes) top k
+  pub seeking : SeekingTop (words bytes) top k
 
 pub top-from : (bytes : List ℕ) → Topping bytes 0 0
-top-from bytes = record { count = length-words bytes; seeking = seek-from (words bytes) }
+top-from bytes = record { count = length-words bytes; seeking = seek-top-from (words bytes) }
 
 module _ {bytes : List ℕ} {top k w : ℕ} (s : Topping bytes top k) (h : k < length bytes / 2) (e : w ≡ word (getD bytes (2 * k) 0) (getD bytes (2 * k + 1) 0)) where
   inside : k < length (words bytes)
@@ -35,13 +35,13 @@ module _ {bytes : List ℕ} {top k w : ℕ} (s : Topping bytes top k) (h : k < l
   is-word = e ∙ sym (word-at bytes k (omega arith))
 
   pub top-raise : top < w → Topping bytes w (k + 1)
-  top-raise l = record { count = s .count; seeking = seek-raise (s .seeking) inside is-word l }
+  top-raise l = record { count = s .count; seeking = seek-top-raise (s .seeking) inside is-word l }
 
   pub top-keep : w ≤ top → Topping bytes top (k + 1)
-  top-keep l = record { count = s .count; seeking = seek-keep (s .seeking) inside is-word l }
+  top-keep l = record { count = s .count; seeking = seek-top-keep (s .seeking) inside is-word l }
 
 pub top-end : {bytes : List ℕ} {top k : ℕ} → Topping bytes top k → length bytes / 2 ≤ k → Largest (words bytes) top
-top-end s h = seek-end (s .seeking) (omega (arith, s .count))
+top-end s h = seek-top-end (s .seeking) (omega (arith, s .count))
 
 -- ---- `coefficients`
 

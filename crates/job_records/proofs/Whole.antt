@@ -20,7 +20,7 @@ use Rattle.refusals.specs.Order.Passed.{none as all-passed}
 use Rattle.refusals.proofs.Order.{passes, cases, given-decides, passed-decides}
 use Rattle.job_records.specs.Layout.{headLength, bodyLength, recordLength, part}
 use Rattle.job_records.specs.Reading.{Outcome, startTests, recordTests, judged, readHere, readAt}
-use Rattle.job_records.specs.Files.{Reads, Complete, joined, outcomesOf, AllComplete}
+use Rattle.job_records.specs.Files.{Reads, Complete, joinedFile, outcomesOf, AllComplete}
 use Rattle.job_records.specs.Files.Reads.{over, stop, on}
 use Rattle.job_records.specs.Files.AllComplete.{none, one}
 use Rattle.job_records.proofs.Starting.{goes-on}
@@ -116,18 +116,18 @@ on-behind {file} {r} {at} {os} c e h =
 
 -- a file in which the records of rs stand behind pre, and tail behind them
 pub reads-through : {file : List ℕ} {at : ℕ} (pre : List ℕ) {rs : List (List ℕ)} (tail : List ℕ) {os : List Outcome} → AllComplete rs
-    → file ≡ pre ++ (joined rs ++ tail) → at ≡ length pre → Reads file (at + length (joined rs)) os → Reads file at (outcomesOf at rs ++ os)
-unfolding joined outcomesOf
+    → file ≡ pre ++ (joinedFile rs ++ tail) → at ≡ length pre → Reads file (at + length (joinedFile rs)) os → Reads file at (outcomesOf at rs ++ os)
+unfolding joinedFile outcomesOf
 reads-through pre tail none f a h = rw add-zero at h
 reads-through {file} {at} pre tail {os} (one {r = r} {rs = rs} c cs) f a h =
-    let e : readAt file at ≡ judged at r = rw (f, a, append-assoc) (record-read c (joined rs ++ tail) pre) in
-    let g : file ≡ (pre ++ r) ++ (joined rs ++ tail) = f ∙ simp append-assoc in
+    let e : readAt file at ≡ judged at r = rw (f, a, append-assoc) (record-read c (joinedFile rs ++ tail) pre) in
+    let g : file ≡ (pre ++ r) ++ (joinedFile rs ++ tail) = f ∙ simp append-assoc in
     let b : at + length r ≡ length (pre ++ r) = rw (length-append, a) in
-    let k : at + length (r ++ joined rs) ≡ at + length r + length (joined rs) = rw (length-append, add-assoc) in
+    let k : at + length (r ++ joinedFile rs) ≡ at + length r + length (joinedFile rs) = rw (length-append, add-assoc) in
     on-behind c e (reads-through (pre ++ r) tail cs g b (subst (λ i. Reads file i os) k h))
 
-pub reads-joined : {rs : List (List ℕ)} → AllComplete rs → Reads (joined rs) 0 (outcomesOf 0 rs)
+pub reads-joined : {rs : List (List ℕ)} → AllComplete rs → Reads (joinedFile rs) 0 (outcomesOf 0 rs)
 unfolding readHere
 reads-joined {rs} c =
-    let past : drop (0 + length (joined rs)) (joined rs) ≡ [] = drop-of-length-le (joined rs) {i = 0 + length (joined rs)} (omega arith) in
-    rw append-nil at (reads-through [] [] c (sym (append-nil (joined rs))) refl (over (ap (readHere (0 + length (joined rs))) past)))
+    let past : drop (0 + length (joinedFile rs)) (joinedFile rs) ≡ [] = drop-of-length-le (joinedFile rs) {i = 0 + length (joinedFile rs)} (omega arith) in
+    rw append-nil at (reads-through [] [] c (sym (append-nil (joinedFile rs))) refl (over (ap (readHere (0 + length (joinedFile rs))) past)))

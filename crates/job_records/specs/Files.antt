@@ -1,7 +1,7 @@
 -- Reading a whole file.
 --   Reads        reading from a place on meets these outcomes, one after the other, and is then over
 --   Complete     bytes are one complete record, whatever its fields say;  AllComplete  each of these is
---   joined       the file that records make
+--   joinedFile   the file that records make
 --   outcomesOf   what complete records give, one after the other, where the first stands at a place
 -- Assumes nothing.
 use mathlib.Core.Path.{_≡_}
@@ -22,9 +22,9 @@ pub record Complete (r : List ℕ) : Type 0 where
   pub mark : marked r ≡ true
   pub whole : length r ≡ recordLength r
 
-unfoldable pub joined : List (List ℕ) → List ℕ
-joined [] = []
-joined (r ∷ rs) = r ++ joined rs
+unfoldable pub joinedFile : List (List ℕ) → List ℕ
+joinedFile [] = []
+joinedFile (r ∷ rs) = r ++ joinedFile rs
 
 -- the next stands behind the one before
 unfoldable pub outcomesOf : ℕ → List (List ℕ) → List Outcome

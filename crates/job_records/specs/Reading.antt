@@ -1,6 +1,6 @@
 -- What reading gives at a place of a file (docs/RULES.md sections 5.2 and 5.3).
 --   Outcome      reading ends, or it gives a number with its values
---   paper        the outcome of each answer of the code: a place to go on comes first among the values; an accepted record also has
+--   toldRead        the outcome of each answer of the code: a place to go on comes first among the values; an accepted record also has
 --                its m, where its coefficient bytes start, how many they are, and the cutoff that it states
 --   startTests   the tests of the bytes from a place on: one byte remains, no mark, any later shortage
 --   callTests, recordTests  the tests of a complete record, in the whole call's order, and those of the record at the front of bytes
@@ -27,7 +27,7 @@ use Rattle.slices.specs.Lists.{copied}
 use Rattle.table_rules.specs.Cutoff.{highestCutoff}
 use Rattle.table_rules.specs.Polynomials.{polynomialTests}
 use Rattle.job_records.specs.Layout.{headLength, marked, degreeByte, cutoffByte, bodyLength, recordLength, words, part, coefficients}
-use Rattle.job_records.specs.Cutoffs.{stated, statedBy}
+use Rattle.job_records.specs.Cutoffs.{statedCutoff, statedBy}
 use Rattle.job_records.specs.declared.Cutoff.{Cutoff}
 use Rattle.job_records.specs.declared.Read.{Read}
 use Rattle.job_records.specs.declared.Read.the-variants.{End, Record, Refused, Stopped}
@@ -38,11 +38,11 @@ pub data Outcome : Type 0 where
   ends : Outcome
   gives : (number : ℕ) (values : List ℕ) → Outcome
 
-abbrev pub paper : Read → Outcome
-paper End = Outcome.ends
-paper (Record j) = Outcome.gives 0 (j .next ∷ j .m ∷ j .start ∷ j .len ∷ statedBy (j .cutoff))
-paper (Refused k next) = Outcome.gives (numberOf k) (next ∷ [])
-paper (Stopped k) = Outcome.gives (numberOf k) []
+abbrev pub toldRead : Read → Outcome
+toldRead End = Outcome.ends
+toldRead (Record j) = Outcome.gives 0 (j .next ∷ j .m ∷ j .start ∷ j .len ∷ statedBy (j .cutoff))
+toldRead (Refused k next) = Outcome.gives (numberOf k) (next ∷ [])
+toldRead (Stopped k) = Outcome.gives (numberOf k) []
 
 abbrev pub startTests : List ℕ → List (ℕ × Bool)
 startTests rest = (12, ltb (length rest) 2) ∷ (11, not (marked rest)) ∷ (12, ltb (length rest) (recordLength rest)) ∷ []
@@ -58,7 +58,7 @@ recordTests r = callTests (degreeByte r) (cutoffByte r) (coefficients r)
 unfoldable pub judged : ℕ → List ℕ → Outcome
 judged at r =
     decide (recordTests r) (λ k. Outcome.gives k ((at + recordLength r) ∷ []))
-    (Outcome.gives 0 ((at + recordLength r) ∷ degreeByte r ∷ (at + headLength) ∷ bodyLength r ∷ stated (cutoffByte r)))
+    (Outcome.gives 0 ((at + recordLength r) ∷ degreeByte r ∷ (at + headLength) ∷ bodyLength r ∷ statedCutoff (cutoffByte r)))
 
 -- 11 and 12 say of no place to go on
 unfoldable pub readHere : ℕ → List ℕ → Outcome
@@ -70,14 +70,14 @@ readAt file at = readHere at (drop at file)
 
 -- the contract of the reader: the answers that it admits at a place
 abbrev pub ReadsAt : List ℕ → ℕ → Read → Type 0
-ReadsAt file at r = paper r ≡ readAt file at
+ReadsAt file at r = toldRead r ≡ readAt file at
 
 -- the part of the file that the values name is the record's coefficient bytes, and all of it lies in the file
 pub record HandsBack (file : List ℕ) (at : ℕ) (o : Outcome) : Type 0 where
   pub gives : o
       ≡ Outcome.gives 0
       ((at + recordLength (drop at file)) ∷ degreeByte (drop at file) ∷ (at + headLength) ∷ bodyLength (drop at file)
-      ∷ stated (cutoffByte (drop at file)))
+      ∷ statedCutoff (cutoffByte (drop at file)))
   pub bytes : part file (at + headLength) (bodyLength (drop at file))
       ≡ part (drop at file) headLength (bodyLength (drop at file))
   pub inside : at + recordLength (drop at file) ≤ length file
@@ -93,7 +93,7 @@ bytesOf file (Stopped k) = []
 pub record Stands (r : Read) (bytes : List ℕ) : Type 0 where
   pub file : List ℕ
   pub at : ℕ
-  pub read : paper r ≡ readAt file at
+  pub read : toldRead r ≡ readAt file at
   pub lent : bytes ≡ bytesOf file r
 
 abbrev pub answered : ℕ → ℕ → Cutoff → ℕ → Admission → Read

@@ -1,7 +1,7 @@
 // The file's slice and a place in it in one struct, with thin functions over it. Each takes the struct apart and calls what
 // reads a slice. The program `roots` walks with it.
 ghost use mathlib.Core.Path.{_≡_};
-ghost use Rattle.job_records.specs.Reading.{paper, readAt, bytesOf};
+ghost use Rattle.job_records.specs.Reading.{toldRead, readAt, bytesOf};
 use crate::Read;
 use crate::body_of;
 use crate::read_record;
@@ -21,7 +21,7 @@ pub fn new<'a>(file: &'a [u8], at: usize) -> Reader<'a>
 
 // What stands at the reader's place.
 pub fn next<'a>(r: Reader<'a>) -> Read
-    ensures { λ s. ⌜ paper s ≡ readAt (now (r .entry .file)) (r .entry .at) ⌝ }
+    ensures { λ s. ⌜ toldRead s ≡ readAt (now (r .entry .file)) (r .entry .at) ⌝ }
 {
     read_record(r.file, r.at)
 }

@@ -6,8 +6,8 @@ ghost use lib.ListN.{length};
 ghost use Rattle.refusals.specs.Admitting.{Admits};
 ghost use Rattle.find_admit.specs.Values.{Largest};
 ghost use Rattle.job_records.specs.Layout.{headLength, word, words, part};
-ghost use Rattle.job_records.specs.Cutoffs.{stated, statedBy, asked};
-ghost use Rattle.job_records.specs.Reading.{paper, answered, bytesOf, readHere, ReadsAt, callTests, Spelled};
+ghost use Rattle.job_records.specs.Cutoffs.{statedCutoff, statedBy, asked};
+ghost use Rattle.job_records.specs.Reading.{toldRead, answered, bytesOf, readHere, ReadsAt, callTests, Spelled};
 use find_admit::admit_call;
 use refusals::Admission;
 use refusals::Refusal;
@@ -52,7 +52,7 @@ pub fn word(low: u8, high: u8) -> u16
 
 // House default or stated number.
 pub fn cutoff_of(c: u8) -> Cutoff
-    ensures { λ r. ⌜ statedBy r ≡ stated c ⌝ }
+    ensures { λ r. ⌜ statedBy r ≡ statedCutoff c ⌝ }
 {
     if c == 0 {
         Cutoff::House
@@ -117,7 +117,7 @@ fn answer(at: usize, m: u8, cutoff: Cutoff, len: usize, found: Admission) -> Rea
 // What the bytes from a place on begin with; there is at least one.
 fn read_here(at: usize, rest: &[u8]) -> Read
     requires { ⌜ (0 < length (now rest)) × (at + length (now rest) < 2 ^ 64) ⌝ }
-    ensures { λ r. ⌜ paper r ≡ readHere at (now (rest .entry)) ⌝ }
+    ensures { λ r. ⌜ toldRead r ≡ readHere at (now (rest .entry)) ⌝ }
 {
     if rest.len() < 2 {
         return Read::Stopped(Refusal::Short); // one byte remains

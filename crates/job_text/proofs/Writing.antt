@@ -4,7 +4,7 @@
 --   wrote-long     nothing gets longer
 --   wrote-small, wrote-large        the digits of a number, as they are written
 --   wrote-spaced, spaced-append     a number behind a space, and numbers one behind the other;  spaced-end: at most six bytes for each
---   Rowing         the first i roots stand in the list;  row-from, row-on, row-end
+--   Rowing         the first i roots stand in the list;  roots-from, roots-on, roots-end
 --   line-refused, line-accepted     the line from its parts
 -- Assumes nothing.
 use mathlib.Core.Path.{_≡_, refl, sym, ap, ap₂, _∙_, subst}
@@ -18,7 +18,7 @@ use lib.ListN.{length, getD, take, drop, set, length-append, take-append-drop}
 use lib.Seq.{set-split, take-suc, drop-append-add, drop-drop, length-take-le}
 use Rattle.slices.specs.Lists.{pasted}
 use Rattle.slices.proofs.Lists.{length-pasted, pasted-front}
-use Rattle.job_text.specs.Lines.{digit, space, lineFeed, decimal, spaced, lineOf, Wrote}
+use Rattle.job_text.specs.Lines.{digitByte, space, lineFeed, decimal, spaced, lineOf, Wrote}
 use Rattle.job_text.proofs.Digits.{decimal-short, decimal-small, decimal-large}
 
 -- what is behind a text is as it was
@@ -68,13 +68,13 @@ pub small-long : (x : ℕ) → x < 10 → length (decimal x) ≡ 1
 small-long x h = ap length (decimal-small x h)
 
 pub large-long : (x : ℕ) → 10 ≤ x → length (decimal x) ≡ length (decimal (x / 10)) + 1
-large-long x h = ap length (decimal-large x h) ∙ length-append (decimal (x / 10)) (digit (x % 10) ∷ [])
+large-long x h = ap length (decimal-large x h) ∙ length-append (decimal (x / 10)) (digitByte (x % 10) ∷ [])
 
-pub wrote-small : {x at : ℕ} {s : List ℕ} → x < 10 → at + length (decimal x) ≤ length s → Wrote (decimal x) at s (at + 1) (set s at (digit x))
+pub wrote-small : {x at : ℕ} {s : List ℕ} → x < 10 → at + length (decimal x) ≤ length s → Wrote (decimal x) at s (at + 1) (set s at (digitByte x))
 wrote-small {x} h l = rw (decimal-small x h) (wrote-byte (omega (arith, small-long x h)))
 
 pub wrote-large : {x at end : ℕ} {s s′ : List ℕ} → 10 ≤ x → at + length (decimal x) ≤ length s → Wrote (decimal (x / 10)) at s end s′
-    → Wrote (decimal x) at s (end + 1) (set s′ end (digit (x % 10)))
+    → Wrote (decimal x) at s (end + 1) (set s′ end (digitByte (x % 10)))
 wrote-large {x} {at} {end} {s} {s′} h l p =
     let n = large-long x h in
     let e : length s′ ≡ length s = wrote-long (omega arith) p in
@@ -124,14 +124,14 @@ wrote-nothing : {at : ℕ} {s : List ℕ} → at ≤ length s → Wrote [] at s 
 unfolding pasted
 wrote-nothing {at} {s} h = record { ended = omega arith; bytes = rw add-zero (sym (take-append-drop at s)) }
 
-pub row-from : (s : ℕ) (roots : List ℕ) (at : ℕ) (old : List ℕ) → s ≤ length roots → at + 6 * s ≤ length old → Rowing s roots at old old at 0
+pub roots-from : (s : ℕ) (roots : List ℕ) (at : ℕ) (old : List ℕ) → s ≤ length roots → at + 6 * s ≤ length old → Rowing s roots at old old at 0
 unfolding spaced
-row-from s roots at old h k =
+roots-from s roots at old h k =
     record { within = omega arith; listed = h; fits = k; long = refl; room = omega arith; done = wrote-nothing (omega arith) }
 
-pub row-on : {s at end end′ i : ℕ} {roots old new new′ : List ℕ} → Rowing s roots at old new end i → i < s → getD roots i 0 < 65536
+pub roots-on : {s at end end′ i : ℕ} {roots old new new′ : List ℕ} → Rowing s roots at old new end i → i < s → getD roots i 0 < 65536
     → length new′ ≡ length new → Wrote (spaced (getD roots i 0 ∷ [])) end new end′ new′ → Rowing s roots at old new′ end′ (i + 1)
-row-on {s} {at} {end} {end′} {i} {roots} {old} {new} {new′} r h b k w =
+roots-on {s} {at} {end} {end′} {i} {roots} {old} {new} {new′} r h b k w =
     let l : i < length roots = omega (arith, r .listed) in
     let e : spaced (take (i + 1) roots) ≡ spaced (take i roots) ++ spaced (getD roots i 0 ∷ []) =
     rw (add-one, take-suc roots i 0) (spaced-append (take i roots) (getD roots i 0 ∷ [])) in
@@ -144,8 +144,8 @@ row-on {s} {at} {end} {end′} {i} {roots} {old} {new} {new′} r h b k w =
       done = rw e (wrote-then (omega (arith, r .fits)) (r .done) w);
     }
 
-pub row-end : {s at end i : ℕ} {roots old new : List ℕ} → Rowing s roots at old new end i → s ≤ i → Wrote (spaced (take s roots)) at old end new × (end ≤ at + 6 * s)
-row-end {s} {at} {end} {i} {roots} {old} {new} r h =
+pub roots-end : {s at end i : ℕ} {roots old new : List ℕ} → Rowing s roots at old new end i → s ≤ i → Wrote (spaced (take s roots)) at old end new × (end ≤ at + 6 * s)
+roots-end {s} {at} {end} {i} {roots} {old} {new} r h =
     let e : i ≡ s = omega (arith, r .within) in
     (subst (λ n. Wrote (spaced (take n roots)) at old end new) e (r .done), omega (arith, r .room))
 

@@ -23,7 +23,7 @@ pub fn decimal(x: u32, at: usize, out: &mut [u8]) -> usize
 }
 
 // Writes a byte to out at `at`; the place behind it.
-fn put(b: u8, at: usize, out: &mut [u8]) -> usize
+fn put_byte(b: u8, at: usize, out: &mut [u8]) -> usize
     requires { ⌜ at + 1 ≤ length (now out) ⌝ }
     ensures { λ r. ⌜ Wrote (b ∷ []) at (now (out .entry)) r (now (out .exit)) ⌝ }
 {
@@ -36,7 +36,7 @@ fn put_spaced(x: u16, at: usize, out: &mut [u8]) -> usize
     requires { ⌜ at + 6 ≤ length (now out) ⌝ }
     ensures { λ r. ⌜ Wrote (spaced (x ∷ [])) at (now (out .entry)) r (now (out .exit)) ⌝ }
 {
-    let behind = put(32, at, out);
+    let behind = put_byte(32, at, out);
     decimal(x as u32, behind, out)
 }
 
@@ -63,10 +63,10 @@ pub fn line(k: u32, outcome: u16, s: u16, steps: u16, roots: &[u16], out: &mut [
     let first = decimal(k, 0, out);
     let second = put_spaced(outcome, first, out);
     if outcome != 0 {
-        return put(10, second, out);
+        return put_byte(10, second, out);
     }
     let third = put_spaced(s, second, out);
     let fourth = put_spaced(steps, third, out);
     let end = put_roots(s as usize, roots, fourth, out);
-    put(10, end, out)
+    put_byte(10, end, out)
 }

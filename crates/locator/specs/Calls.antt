@@ -1,6 +1,6 @@
 -- What the C face returns (docs/RULES.md section 9): the struct of an outcome in its numbers. A value that the outcome
 -- does not have is 0, so a refusal has zeros behind its number.
---   at            the value at place i of an outcome, or 0
+--   valueIn       the value at place i of an outcome, or 0
 --   asValue       outcome and value: product, inverse, position
 --   asPair        outcome, how many roots, the lower and the upper: the quadratic. One root is the lower
 --   asFound       outcome, how many roots, how many steps: whole call, search, finish. Search and finish take no steps
@@ -18,33 +18,33 @@ use Rattle.locator.specs.declared.LocatorPair.{LocatorPair}
 use Rattle.locator.specs.declared.LocatorFound.{LocatorFound}
 use Rattle.locator.specs.declared.LocatorStepped.{LocatorStepped}
 use Rattle.locator.specs.declared.LocatorCorrected.{LocatorCorrected}
-use Rattle.field_elements.specs.Calls.{paper, paperRoots, TellsProduct, TellsInverse, TellsPosition, TellsQuadratic}
-use Rattle.find_solve.specs.Calls.{paperSolved, Solves}
-use Rattle.find_search.specs.Calls.{paperSearched, Searches}
-use Rattle.table_begin.specs.Calls.{paperBegun, Begins}
-use Rattle.table_step.specs.Calls.{paperStepped, Steps}
-use Rattle.table_finish.specs.Calls.{paperFinished, Finishes}
-use Rattle.corrector.specs.Correcting.{paperCorrected, Corrects}
+use Rattle.field_elements.specs.Calls.{toldAnswer, toldQuadratic, TellsProduct, TellsInverse, TellsPosition, TellsQuadratic}
+use Rattle.find_solve.specs.Calls.{toldSolved, Solves}
+use Rattle.find_search.specs.Calls.{toldSearched, Searches}
+use Rattle.table_begin.specs.Calls.{toldBegun, Begins}
+use Rattle.table_step.specs.Calls.{toldStepped, Steps}
+use Rattle.table_finish.specs.Calls.{toldFinished, Finishes}
+use Rattle.corrector.specs.Correcting.{toldCorrected, Corrects}
 
 -- the value at place i of an outcome, or 0
-abbrev pub at : ℕ × List ℕ → ℕ → ℕ
-at o i = getD (o .1) i 0
+abbrev pub valueIn : ℕ × List ℕ → ℕ → ℕ
+valueIn o i = getD (o .1) i 0
 
 abbrev pub asValue : ℕ × List ℕ → LocatorValue
-asValue o = record { outcome = o .0; value = at o 0 }
+asValue o = record { outcome = o .0; value = valueIn o 0 }
 
 abbrev pub asPair : ℕ × List ℕ → LocatorPair
-asPair o = record { outcome = o .0; count = length (o .1); lower = at o 0; upper = at o 1 }
+asPair o = record { outcome = o .0; count = length (o .1); lower = valueIn o 0; upper = valueIn o 1 }
 
 abbrev pub asFound : ℕ × List ℕ → LocatorFound
-asFound o = record { outcome = o .0; count = at o 0; steps = at o 1 }
+asFound o = record { outcome = o .0; count = valueIn o 0; steps = valueIn o 1 }
 
 abbrev pub asStepped : ℕ × List ℕ → LocatorStepped
-asStepped o = record { outcome = o .0; done = at o 0 }
+asStepped o = record { outcome = o .0; done = valueIn o 0 }
 
 -- outcome and flips
 abbrev pub asCorrected : ℕ × List ℕ → LocatorCorrected
-asCorrected o = record { outcome = o .0; flips = at o 0 }
+asCorrected o = record { outcome = o .0; flips = valueIn o 0 }
 
 -- THE CONTRACTS of the exports: r is the struct of an answer that the contract of the call admits
 pub record As {A R : Type 0} (tell : A → R) (admits : A → Type 0) (r : R) : Type 0 where
@@ -53,32 +53,32 @@ pub record As {A R : Type 0} (tell : A → R) (admits : A → Type 0) (r : R) : 
   pub told : r ≡ tell answer
 
 abbrev pub ProductAs : ℕ → ℕ → ℕ → LocatorValue → Type 0
-ProductAs m a b = As (λ x. asValue (paper x)) (TellsProduct m a b)
+ProductAs m a b = As (λ x. asValue (toldAnswer x)) (TellsProduct m a b)
 
 abbrev pub InverseAs : ℕ → ℕ → LocatorValue → Type 0
-InverseAs m a = As (λ x. asValue (paper x)) (TellsInverse m a)
+InverseAs m a = As (λ x. asValue (toldAnswer x)) (TellsInverse m a)
 
 abbrev pub PositionAs : ℕ → ℕ → ℕ → LocatorValue → Type 0
-PositionAs m r convention = As (λ x. asValue (paper x)) (TellsPosition m r convention)
+PositionAs m r convention = As (λ x. asValue (toldAnswer x)) (TellsPosition m r convention)
 
 abbrev pub QuadraticAs : ℕ → ℕ → ℕ → LocatorPair → Type 0
-QuadraticAs m a b = As (λ x. asPair (paperRoots x)) (TellsQuadratic m a b)
+QuadraticAs m a b = As (λ x. asPair (toldQuadratic x)) (TellsQuadratic m a b)
 
 -- with lent memory afterwards
 abbrev pub SolvesAs : ℕ → ℕ → List ℕ → List ℕ → LocatorFound → List ℕ → Type 0
-SolvesAs m c cs list r after = As (λ x. asFound (paperSolved x)) (λ x. Solves m c cs list x after) r
+SolvesAs m c cs list r after = As (λ x. asFound (toldSolved x)) (λ x. Solves m c cs list x after) r
 
 abbrev pub SearchesAs : ℕ → List ℕ → List ℕ → LocatorFound → List ℕ → Type 0
-SearchesAs m cs list r after = As (λ x. asFound (paperSearched x)) (λ x. Searches m cs list x after) r
+SearchesAs m cs list r after = As (λ x. asFound (toldSearched x)) (λ x. Searches m cs list x after) r
 
 abbrev pub BeginsAs : ℕ → ℕ → List ℕ → List ℕ → ℕ → List ℕ → Type 0
-BeginsAs m c cs table r after = As (λ x. paperBegun x .0) (λ x. Begins m c cs table x after) r
+BeginsAs m c cs table r after = As (λ x. toldBegun x .0) (λ x. Begins m c cs table x after) r
 
 abbrev pub StepsAs : List ℕ → LocatorStepped → List ℕ → Type 0
-StepsAs table r after = As (λ x. asStepped (paperStepped x)) (λ x. Steps table x after) r
+StepsAs table r after = As (λ x. asStepped (toldStepped x)) (λ x. Steps table x after) r
 
 abbrev pub FinishesAs : List ℕ → List ℕ → LocatorFound → List ℕ → Type 0
-FinishesAs table list r after = As (λ x. asFound (paperFinished x)) (λ x. Finishes table list x after) r
+FinishesAs table list r after = As (λ x. asFound (toldFinished x)) (λ x. Finishes table list x after) r
 
 abbrev pub CorrectsAs : ℕ → List ℕ → LocatorCorrected → List ℕ → Type 0
-CorrectsAs t word r after = As (λ x. asCorrected (paperCorrected x)) (λ x. Corrects t word (paperCorrected x) after) r
+CorrectsAs t word r after = As (λ x. asCorrected (toldCorrected x)) (λ x. Corrects t word (toldCorrected x) after) r

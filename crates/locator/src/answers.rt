@@ -1,13 +1,13 @@
 // What the calls answer, as the structs of the C face.
 ghost use mathlib.Core.Path.{_≡_};
 ghost use Rattle.field.specs.Quadratics.{rootsIn};
-ghost use Rattle.field_elements.specs.Calls.{paper, paperRoots};
-ghost use Rattle.find_solve.specs.Calls.{paperSolved};
-ghost use Rattle.find_search.specs.Calls.{paperSearched};
-ghost use Rattle.table_begin.specs.Calls.{paperBegun};
-ghost use Rattle.table_step.specs.Calls.{paperStepped};
-ghost use Rattle.table_finish.specs.Calls.{paperFinished};
-ghost use Rattle.corrector.specs.Correcting.{paperCorrected};
+ghost use Rattle.field_elements.specs.Calls.{toldAnswer, toldQuadratic};
+ghost use Rattle.find_solve.specs.Calls.{toldSolved};
+ghost use Rattle.find_search.specs.Calls.{toldSearched};
+ghost use Rattle.table_begin.specs.Calls.{toldBegun};
+ghost use Rattle.table_step.specs.Calls.{toldStepped};
+ghost use Rattle.table_finish.specs.Calls.{toldFinished};
+ghost use Rattle.corrector.specs.Correcting.{toldCorrected};
 ghost use Rattle.locator.specs.Calls.{asValue, asPair, asFound, asStepped, asCorrected};
 use crate::LocatorCorrected;
 use crate::LocatorFound;
@@ -27,7 +27,7 @@ use table_step::Stepped;
 
 // Of an element call.
 pub fn value_of(a: Answer) -> LocatorValue
-    ensures { λ r. ⌜ r ≡ asValue (paper a) ⌝ }
+    ensures { λ r. ⌜ r ≡ asValue (toldAnswer a) ⌝ }
 {
     match a {
         Answer::Value(v) => LocatorValue {
@@ -43,7 +43,7 @@ pub fn value_of(a: Answer) -> LocatorValue
 
 // Of the quadratic.
 pub fn pair_of(a: Roots) -> LocatorPair
-    ensures { λ r. ⌜ r ≡ asPair (paperRoots a) ⌝ }
+    ensures { λ r. ⌜ r ≡ asPair (toldQuadratic a) ⌝ }
 {
     match a {
         Roots::Refused(k) => LocatorPair {
@@ -84,7 +84,7 @@ fn roots_of(q: Quadratic) -> LocatorPair
 
 // Of the whole call.
 pub fn solved_of(a: Solved) -> LocatorFound
-    ensures { λ r. ⌜ r ≡ asFound (paperSolved a) ⌝ }
+    ensures { λ r. ⌜ r ≡ asFound (toldSolved a) ⌝ }
 {
     match a {
         Solved::Found { s, steps } => LocatorFound {
@@ -102,7 +102,7 @@ pub fn solved_of(a: Solved) -> LocatorFound
 
 // Of the plain search.
 pub fn searched_of(a: Searched) -> LocatorFound
-    ensures { λ r. ⌜ r ≡ asFound (paperSearched a) ⌝ }
+    ensures { λ r. ⌜ r ≡ asFound (toldSearched a) ⌝ }
 {
     match a {
         Searched::Seen(s) => LocatorFound {
@@ -120,7 +120,7 @@ pub fn searched_of(a: Searched) -> LocatorFound
 
 // Of begin: its number alone.
 pub fn begun_of(a: Begun) -> u16
-    ensures { λ r. ⌜ r ≡ paperBegun a .0 ⌝ }
+    ensures { λ r. ⌜ r ≡ toldBegun a .0 ⌝ }
 {
     match a {
         Begun::Ready => 0,
@@ -130,7 +130,7 @@ pub fn begun_of(a: Begun) -> u16
 
 // Of a step.
 pub fn stepped_of(a: Stepped) -> LocatorStepped
-    ensures { λ r. ⌜ r ≡ asStepped (paperStepped a) ⌝ }
+    ensures { λ r. ⌜ r ≡ asStepped (toldStepped a) ⌝ }
 {
     match a {
         Stepped::Taken => LocatorStepped {
@@ -150,7 +150,7 @@ pub fn stepped_of(a: Stepped) -> LocatorStepped
 
 // Of finish.
 pub fn finished_of(a: Finished) -> LocatorFound
-    ensures { λ r. ⌜ r ≡ asFound (paperFinished a) ⌝ }
+    ensures { λ r. ⌜ r ≡ asFound (toldFinished a) ⌝ }
 {
     match a {
         Finished::Listed(s) => LocatorFound {
@@ -168,7 +168,7 @@ pub fn finished_of(a: Finished) -> LocatorFound
 
 // Of the block corrector.
 pub fn corrected_of(a: Corrected) -> LocatorCorrected
-    ensures { λ r. ⌜ r ≡ asCorrected (paperCorrected a) ⌝ }
+    ensures { λ r. ⌜ r ≡ asCorrected (toldCorrected a) ⌝ }
 {
     match a {
         Corrected::Flips(n) => LocatorCorrected {

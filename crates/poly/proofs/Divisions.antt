@@ -15,7 +15,7 @@ use lib.Bits.{bitXor}
 use lib.ListN.{length, getD, take, drop, replicate, length-append, length-drop, length-map, length-replicate, getD-replicate, take-append-drop}
 use lib.Seq.{take-length, length-take-le, take-suc, drop-cons, take-at, drop-at, getD-drop, take-append-le}
 use Rattle.algebra.specs.Polynomial.{add, Below}
-use Rattle.algebra.specs.Routines.{rem, quo, digit, shiftIn}
+use Rattle.algebra.specs.Routines.{rem, quo, quotientDigit, shiftIn}
 use Rattle.algebra.proofs.Lengths.{length-rem, length-quo}
 use Rattle.algebra.proofs.StaysBelow.{append-below, take-below, drop-below, rem-below, quo-below, below-at}
 use Rattle.field.specs.Field.{mul, fieldAt, G}
@@ -56,14 +56,14 @@ add-front m (c ∷ x) y (e ∷ q) h = ap (λ u. bitXor c e ∷ u) (add-front m x
 module _ {m : ℕ} {ls ts : List ℕ} (l : Lent m ls ts) where
   -- the remainder of a polynomial that is no longer than p: nothing is taken back
   pub rem-short : (p f : List ℕ) → length f ≤ length p → rem (G m) p f ≡ f ++ replicate (length p - length f) 0
-  unfolding rem shiftIn digit
+  unfolding rem shiftIn quotientDigit
   rem-short p [] h = let e : length p - 0 ≡ length p = omega arith in ap (λ n. replicate n 0) (sym e)
   rem-short p (c ∷ f) h =
       let k : ℕ = length p - suc (length f) in
       let e : length p - length f ≡ suc k = omega arith in
       let n : length p ≡ length (c ∷ f) + k = omega arith in
       let s : rem (G m) p f ≡ f ++ replicate (suc k) 0 = rem-short p f (omega arith) ∙ ap (λ n. f ++ replicate n 0) e in
-      let none : digit (G m) p c (rem (G m) p f) ≡ 0 = ap₂ (λ u i. getD (c ∷ u) i 0) s n ∙ zeros-last (c ∷ f) k in
+      let none : quotientDigit (G m) p c (rem (G m) p f) ≡ 0 = ap₂ (λ u i. getD (c ∷ u) i 0) s n ∙ zeros-last (c ∷ f) k in
       let front : take (length p) (c ∷ rem (G m) p f) ≡ c ∷ f ++ replicate k 0 = ap₂ (λ u i. take i (c ∷ u)) s n ∙ zeros-take (c ∷ f) k in
       let long : length p ≤ length (c ∷ f ++ replicate k 0) = omega (arith, length-append (c ∷ f) (replicate k 0), length-replicate {A = ℕ} k 0) in
       ap₂ (λ u t. add (G m) u (map (G m .mul t) p)) front none ∙ add-none m (ring (fieldAt m) (field-of l .monic) .mul-zero-l) (c ∷ f ++ replicate k 0) p long
@@ -95,8 +95,8 @@ module _ {m : ℕ} {ls ts : List ℕ} (l : Lent m ls ts) where
 
   -- the digit stands where it fell out
   split : (p : List ℕ) (c : ℕ) (f : List ℕ) → length p ≤ length f
-      → c ∷ divided m p f ≡ take (length p) (c ∷ rem (G m) p f) ++ digit (G m) p c (rem (G m) p f) ∷ take (length f - length p) (quo (G m) p f)
-  unfolding divided digit
+      → c ∷ divided m p f ≡ take (length p) (c ∷ rem (G m) p f) ++ quotientDigit (G m) p c (rem (G m) p f) ∷ take (length f - length p) (quo (G m) p f)
+  unfolding divided quotientDigit
   split p c f h =
       let r : List ℕ = rem (G m) p f in
       let q : List ℕ = take (length f - length p) (quo (G m) p f) in
@@ -111,7 +111,7 @@ module _ {m : ℕ} {ls ts : List ℕ} (l : Lent m ls ts) where
   divided-on p c f h =
       let r : List ℕ = rem (G m) p f in
       let q : List ℕ = take (length f - length p) (quo (G m) p f) in
-      let d : ℕ = digit (G m) p c r in
+      let d : ℕ = quotientDigit (G m) p c r in
       let x : List ℕ = take (length p) (c ∷ r) in
       let n : length x ≡ length p = length-take-le (length p) (c ∷ r) (omega (arith, length-rem (G m) p f)) in
       let t : getD (c ∷ divided m p f) (length p) 0 ≡ d = ap (λ u. getD u (length p) 0) (split p c f h) ∙ seam x d q (length p) n in

@@ -31,14 +31,14 @@ four-from f l b p h =
     }
 
 -- what one turn makes of a value
-abbrev pub turned : List ℕ → List ℕ → List ℕ → ℕ → ℕ → ℕ → ℕ
-turned ls ts f x k v = bitXor (getD f (k - 1) 0) (getD ts (getD ls x 0 + getD ls v 0) 0)
+abbrev pub hornerTurned : List ℕ → List ℕ → List ℕ → ℕ → ℕ → ℕ → ℕ
+hornerTurned ls ts f x k v = bitXor (getD f (k - 1) 0) (getD ts (getD ls x 0 + getD ls v 0) 0)
 
-one-on : {m : ℕ} {ls ts f : List ℕ} {x k v w : ℕ} → Valuing m ls ts f x k v → 0 < k → w ≡ turned ls ts f x k v → Valuing m ls ts f x (k - 1) w
+one-on : {m : ℕ} {ls ts f : List ℕ} {x k v w : ℕ} → Valuing m ls ts f x k v → 0 < k → w ≡ hornerTurned ls ts f x k v → Valuing m ls ts f x (k - 1) w
 one-on {m} {ls} {ts} {f} {x} {k} s h e = subst (Valuing m ls ts f x (k - 1)) (sym e) (value-on s h)
 
 pub four-on : {m : ℕ} {ls ts f : List ℕ} {x k : ℕ} {v w : Four} → FourValuing m ls ts f x k v → 0 < k
-    → w .a ≡ turned ls ts f x k (v .a) → w .b ≡ turned ls ts f (x + 1) k (v .b) → w .c ≡ turned ls ts f (x + 2) k (v .c) → w .d ≡ turned ls ts f (x + 3) k (v .d)
+    → w .a ≡ hornerTurned ls ts f x k (v .a) → w .b ≡ hornerTurned ls ts f (x + 1) k (v .b) → w .c ≡ hornerTurned ls ts f (x + 2) k (v .c) → w .d ≡ hornerTurned ls ts f (x + 3) k (v .d)
     → FourValuing m ls ts f x (k - 1) w
 four-on s h a b c d = record { first = one-on (s .first) h a; second = one-on (s .second) h b; third = one-on (s .third) h c; fourth = one-on (s .fourth) h d }
 

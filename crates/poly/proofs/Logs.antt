@@ -25,10 +25,10 @@ use Rattle.field.proofs.Known.{listed}
 use Rattle.field.specs.Field.{Field, size, order, mul, inverse, numbers, fieldAt, G}
 use Rattle.field.specs.Tables.{logOf, antilogOf}
 use Rattle.field.proofs.Ring.{power-lt, power-add}
-use Rattle.field.proofs.Generator.{Generated, generated, Small, small, unit, position-is, power-order, inverse-only}
+use Rattle.field.proofs.Generator.{Generated, generated, Small, small, one-below, position-is, power-order, inverse-only}
 use Rattle.field.proofs.Logarithms.{log-position, log-lt, log-le, log-product}
 use Rattle.field.proofs.Instance.{known-numbers}
-use Rattle.poly.specs.Lent.{Lent, IsLog, Row, logRow, held}
+use Rattle.poly.specs.Lent.{Lent, IsLog, LogRow, logRow, held}
 
 -- ---- elements, for any field
 
@@ -39,7 +39,7 @@ module _ (F : Field) (gen : Generated F) where
   antilog-lt j = go (ltb j (2 * order F))
     where
       go : (b : Bool) → cond b (power (numbers F) 2 j) 0 < size F
-      go true = power-lt F (gen .monic) (unit F gen) 2 j
+      go true = power-lt F (gen .monic) (one-below F gen) 2 j
       go false = pow-pos (F .degree)
 
   -- below twice the order the table holds the powers
@@ -70,7 +70,7 @@ module _ (F : Field) (gen : Generated F) where
       let whole : logOf F x + j ≡ order F = omega arith in
       sym (inverse-only F gen x (antilogOf F j) p h below
       (ap₂ (mul F) (sym (back x h) ∙ antilog-power (logOf F x) (omega arith)) (antilog-power j (omega arith))
-      ∙ sym (power-add F (gen .monic) (unit F gen) 2 (logOf F x) j) ∙ ap (power (numbers F) 2) whole ∙ power-order F gen))
+      ∙ sym (power-add F (gen .monic) (one-below F gen) 2 (logOf F x) j) ∙ ap (power (numbers F) 2) whole ∙ power-order F gen))
 
 -- ---- over lent tables
 
@@ -128,7 +128,7 @@ module _ {m : ℕ} {logs antilogs : List ℕ} (l : Lent m logs antilogs) where
   held-row [] h = refl
   held-row (c ∷ p) h = ap₂ (λ x u. x ∷ u) (antilog-log (h .0)) (held-row p (h .1))
 
-  pub row-is-row : (p : List ℕ) → Below (2 ^ m) p → Row m (logRow m p)
+  pub row-is-row : (p : List ℕ) → Below (2 ^ m) p → LogRow m (logRow m p)
   row-is-row p h = record { entry = go p h }
     where
       go : (p : List ℕ) → Below (2 ^ m) p → (i : ℕ) → i < length (logRow m p) → IsLog m (getD (logRow m p) i 0)

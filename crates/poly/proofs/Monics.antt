@@ -22,7 +22,7 @@ use Rattle.field.specs.Field.{mul, inverse, fieldAt, G}
 use Rattle.field.proofs.Ring.{ring}
 use Rattle.field.proofs.Generator.{inverse-lt, mul-inverse}
 use Rattle.poly.specs.Lent.{Lent}
-use Rattle.poly.specs.Monic.{TopIs, front, MadeMonic, Scalable}
+use Rattle.poly.specs.Monic.{TopIs, monicLow, MadeMonic, Scalable}
 use Rattle.slices.proofs.Filling.{Filling, map-from, map-on, fill-next, fill-end}
 use Rattle.poly.proofs.Logs.{field-of, logs-fit, product-fits, product-at}
 
@@ -96,7 +96,7 @@ module _ (m : ℕ) where
 
 -- all coefficients are 0
 pub made-none : {m : ℕ} {r : List ℕ} {j : ℕ} → TopIs r j → j ≡ 0 → MadeMonic m r 0 r
-unfolding norm front
+unfolding norm monicLow
 made-none {m} {r} {j} t z = record { within = omega arith; long = refl; made = norm-skip m r 0 (length r) (omega arith) (λ i h. t .above i (omega arith)) }
 
 module _ {m : ℕ} {ls ts r : List ℕ} {j : ℕ} (l : Lent m ls ts) (b : Below (2 ^ m) r) (t : TopIs r j) (h : j ≢ 0) where
@@ -126,7 +126,7 @@ module _ {m : ℕ} {ls ts r : List ℕ} {j : ℕ} (l : Lent m ls ts) (b : Below 
           absurd (let w : ⊥ = omega arith in w)
 
   pub made-some : {v : ℕ} {y : List ℕ} → v ≡ inverse (fieldAt m) (getD r (j - 1) 0) → y ≡ map (G m .mul v) (take (j - 1) r) → MadeMonic m r j (y ++ drop (j - 1) r)
-  unfolding front
+  unfolding monicLow
   made-some {v} {y} e s =
       let k : ℕ = j - 1 in
       let w = t .within in
@@ -137,5 +137,5 @@ module _ {m : ℕ} {ls ts r : List ℕ} {j : ℕ} (l : Lent m ls ts) (b : Below 
         within = w;
         long = length-front r y k (same ∙ sym long);
         made = norm-skip m r j (length r) w (t .above) ∙ ap (λ i. norm (G m) i r) (sym back) ∙ norm-lead m k r (t .nonzero (omega arith))
-            ∙ ap some (ap (λ u. map (G m .mul u) (take k r)) (sym e) ∙ sym s ∙ sym (take-at y (drop k r) k same)) ∙ ap (λ i. front i (y ++ drop k r)) back;
+            ∙ ap some (ap (λ u. map (G m .mul u) (take k r)) (sym e) ∙ sym s ∙ sym (take-at y (drop k r) k same)) ∙ ap (λ i. monicLow i (y ++ drop k r)) back;
       }

@@ -1,7 +1,7 @@
 -- The loops over a row: what holds at each turn.
 --   Adding                             the multiple is added to the first i elements
 --   adding-from, adding-on, adding-end the start, a turn, the end
---   skipped                            the multiple by 0 is nothing to add
+--   row-skipped                            the multiple by 0 is nothing to add
 --   adding-fits                        the product stands in the table
 --   Writing, write-from, write-on, write-fits, write-end   the same of the loop that writes a row
 -- Assumes nothing.
@@ -72,8 +72,8 @@ module _ {m : ℕ} {ls ts : List ℕ} {t : ℕ} {row r₀ r : List ℕ} {i : ℕ
       fill-stop (s .filling) (ap (λ n. drop n (added m t row r₀)) e ∙ add-rest m r₀ q (omega arith) ∙ ap (λ n. drop n r₀) (sym e))
 
 -- nothing is added
-pub skipped : {m : ℕ} {ls ts : List ℕ} {t : ℕ} {row r : List ℕ} → Addable m ls ts t row r → t ≡ 0 → r ≡ added m t row r
-skipped {m} {ls} {ts} {t} {row} {r} a z =
+pub row-skipped : {m : ℕ} {ls ts : List ℕ} {t : ℕ} {row r : List ℕ} → Addable m ls ts t row r → t ≡ 0 → r ≡ added m t row r
+row-skipped {m} {ls} {ts} {t} {row} {r} a z =
     sym (ap (λ u. added m u row r) z
     ∙ add-none m (ring (fieldAt m) (field-of (a .tables) .monic) .mul-zero-l) r (held m row) (omega (arith, a .room, held-long m row)))
 

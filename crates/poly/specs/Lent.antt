@@ -1,7 +1,7 @@
 -- What the routines are lent, and how they hold a polynomial to divide by.
 --   Lent    the degree is known, and the two lists are the field's log and antilog tables
 --   IsLog   x is the log of an element: of the one that the antilog of x is
---   Row     a list of logs of elements
+--   LogRow     a list of logs of elements
 --   logRow  the row of a polynomial: the log of each coefficient
 --   held    the polynomial that a row holds: the antilog of each log
 --   Addable, Loggable   what the routines on rows may take for granted
@@ -27,7 +27,7 @@ abbrev pub IsLog : ℕ → ℕ → Type 0
 IsLog m x = logOf (fieldAt m) (antilogOf (fieldAt m) x) ≡ x
 
 -- a list of them
-pub record Row (m : ℕ) (row : List ℕ) : Type 0 where
+pub record LogRow (m : ℕ) (row : List ℕ) : Type 0 where
   pub entry : (i : ℕ) → i < length row → IsLog m (getD row i 0)
 
 -- from the polynomial to the row
@@ -44,7 +44,7 @@ held m row = map (antilogOf (fieldAt m)) row
 pub record Addable (m : ℕ) (ls ts : List ℕ) (t : ℕ) (row r : List ℕ) : Type 0 where
   pub tables : Lent m ls ts
   pub element : t < 2 ^ m
-  pub logs : Row m row
+  pub logs : LogRow m row
   pub room : length row ≤ length r
 
 -- the logs of p can be written to a row

@@ -17,7 +17,7 @@ use Rattle.field.specs.Tables.{logOf}
 use Rattle.field.specs.Field.{fieldAt, G}
 use Rattle.slices.specs.Lists.{copied}
 use Rattle.slices.proofs.Lists.{copied-front, length-copied}
-use Rattle.poly.specs.Lent.{Row, logRow, held}
+use Rattle.poly.specs.Lent.{LogRow, logRow, held}
 use Rattle.poly.specs.Division.{divided, Divisible}
 use Rattle.poly_gcd.specs.Euclid.{Cofactorable}
 use Rattle.poly.proofs.Logs.{numbers-of, held-row, row-is-row}
@@ -37,7 +37,7 @@ module _ {m : ℕ} {ls ts p g row f h : List ℕ} (c : Cofactorable m ls ts p g 
   pub cofactor-asks : {row₁ f₁ : List ℕ} → row₁ ≡ logRow m g → f₁ ≡ copied p f → Divisible m ls ts row₁ (set f₁ (length p) 1)
   cofactor-asks {row₁} {f₁} r e = record {
     tables = c .tables;
-    logs = subst (Row m) (sym r) (row-is-row (c .tables) g (c .small-g));
+    logs = subst (LogRow m) (sym r) (row-is-row (c .tables) g (c .small-g));
     small = subst (Below (2 ^ m)) (sym (whole e)) (monic-below (numbers-of (c .tables)) p (c .small-p));
     room = omega (arith, ap length r, length-map g (logOf (fieldAt m)), ap length (whole e), length-monic (G m) p, c .shorter);
   }

@@ -1,7 +1,7 @@
 -- Euclid's loop on two slices, and the cofactor: what the code has done at each place.
 --   reduce-row, reduce-asks             what the row and the division ask
 --   reduce-short, reduce-long           the remainder stands at the front
---   front-some, front-none              what `front` holds
+--   monicLow-some, monicLow-none              what `monicLow` holds
 --   turn-asks, turn-below, turn-is      one division
 --   turn-on, turn-same, turn-last       what it leaves for the next, that the greatest common divisor is the same, and what it is where the remainder is 0
 --   Looping, loop-from, loop-asks, loop-on, loop-ended, loop-copied   the loop
@@ -23,10 +23,10 @@ use Rattle.field.specs.Tables.{logOf}
 use Rattle.field.specs.Field.{fieldAt, G}
 use Rattle.slices.specs.Lists.{copied}
 use Rattle.slices.proofs.Lists.{copied-front}
-use Rattle.poly.specs.Lent.{Lent, Row, Loggable, logRow, held}
+use Rattle.poly.specs.Lent.{Lent, LogRow, Loggable, logRow, held}
 use Rattle.poly.specs.Division.{divided, Divisible}
-use Rattle.poly.specs.Monic.{front, MadeMonic}
-use Rattle.poly_gcd.specs.Euclid.{Turnable, Reducing, LeftIn, Turned, GcdIs}
+use Rattle.poly.specs.Monic.{monicLow, MadeMonic}
+use Rattle.poly_gcd.specs.Euclid.{Turnable, Reducing, LeftIn, EuclidTurned, GcdIs}
 use Rattle.poly.proofs.Logs.{numbers-of, held-row, row-is-row}
 use Rattle.poly.proofs.Divisions.{rem-short, divided-front, length-divided}
 
@@ -43,7 +43,7 @@ module _ {m : ℕ} {ls ts p row b : List ℕ} {k : ℕ} (g : Reducing m ls ts p 
   pub reduce-asks : {y : List ℕ} → y ≡ logRow m p → length p ≤ k → Divisible m ls ts (take (length p) (y ++ drop (length p) row)) (take k b)
   reduce-asks {y} e h = record {
     tables = g .tables;
-    logs = subst (Row m) (sym (written e)) (row-is-row (g .tables) p (g .small-p));
+    logs = subst (LogRow m) (sym (written e)) (row-is-row (g .tables) p (g .small-p));
     small = g .small-b;
     room = omega (arith, ap length (written e), length-map p (logOf (fieldAt m)), length-take-le k b (g .within));
   }
@@ -84,22 +84,22 @@ module _ {m : ℕ} {ls ts p row b : List ℕ} {k : ℕ} (g : Reducing m ls ts p 
 -- ---- `turn`
 
 -- what is behind the front does not matter
-front-append : (j : ℕ) (y z : List ℕ) → j ≤ length y → front j (y ++ z) ≡ front j y
-unfolding front
+front-append : (j : ℕ) (y z : List ℕ) → j ≤ length y → monicLow j (y ++ z) ≡ monicLow j y
+unfolding monicLow
 front-append zero y z h = refl
 front-append (suc k) y z h = ap some (take-append-le k y z (omega arith))
 
 -- something is left
-pub front-some : (j : ℕ) (y : List ℕ) → j ≢ 0 → front j y ≡ some (take (j - 1) y)
-unfolding front
-front-some zero y h = absurd (h refl)
-front-some (suc k) y h = let e : k ≡ suc k - 1 = omega arith in ap (λ i. some (take i y)) e
+pub monicLow-some : (j : ℕ) (y : List ℕ) → j ≢ 0 → monicLow j y ≡ some (take (j - 1) y)
+unfolding monicLow
+monicLow-some zero y h = absurd (h refl)
+monicLow-some (suc k) y h = let e : k ≡ suc k - 1 = omega arith in ap (λ i. some (take i y)) e
 
 -- nothing is left
-pub front-none : (j : ℕ) (y : List ℕ) → j ≡ 0 → front j y ≡ none
-unfolding front
-front-none zero y h = refl
-front-none (suc k) y h = absurd (let b : ⊥ = omega arith in b)
+pub monicLow-none : (j : ℕ) (y : List ℕ) → j ≡ 0 → monicLow j y ≡ none
+unfolding monicLow
+monicLow-none zero y h = refl
+monicLow-none (suc k) y h = absurd (let b : ⊥ = omega arith in b)
 
 module _ {m : ℕ} {ls ts row a : List ℕ} {n : ℕ} {b : List ℕ} {k : ℕ} (t : Turnable m ls ts row a n b k) where
   -- the divisor is as long as is said
@@ -130,7 +130,7 @@ module _ {m : ℕ} {ls ts row a : List ℕ} {n : ℕ} {b : List ℕ} {k : ℕ} (
   pub turn-below : {b₁ : List ℕ} → LeftIn m (take n a) b k b₁ → Lent m ls ts × Below (2 ^ m) (take n b₁)
   turn-below e = (t .tables, subst (Below (2 ^ m)) (sym (stands e)) small-left)
 
-  pub turn-is : {b₁ y : List ℕ} {j : ℕ} → LeftIn m (take n a) b k b₁ → MadeMonic m (take n b₁) j y → Turned m a n b k j (set a n 1) (y ++ drop n b₁)
+  pub turn-is : {b₁ y : List ℕ} {j : ℕ} → LeftIn m (take n a) b k b₁ → MadeMonic m (take n b₁) j y → EuclidTurned m a n b k j (set a n 1) (y ++ drop n b₁)
   turn-is {b₁} {y} {j} e d =
       let room = t .room-b in
       let same = e .long in
@@ -145,9 +145,9 @@ module _ {m : ℕ} {ls ts row a : List ℕ} {n : ℕ} {b : List ℕ} {k : ℕ} (
 
   -- ---- what one division leaves
 
-  module _ {j : ℕ} {a₁ b₁ : List ℕ} (d : Turned m a n b k j a₁ b₁) where
+  module _ {j : ℕ} {a₁ b₁ : List ℕ} (d : EuclidTurned m a n b k j a₁ b₁) where
     -- Euclid's step
-    step : gcd (G m) (take n a) (take k b) ≡ Option·elim (front j b₁) (take n a) (λ r. gcd (G m) r (monic (G m) (take n a)))
+    step : gcd (G m) (take n a) (take k b) ≡ Option·elim (monicLow j b₁) (take n a) (λ r. gcd (G m) r (monic (G m) (take n a)))
     unfolding Option·elim
     step =
         gcd-unroll (G m) (take n a) (take k b)
@@ -161,7 +161,7 @@ module _ {m : ℕ} {ls ts row a : List ℕ} {n : ℕ} {b : List ℕ} {k : ℕ} (
     pub turn-last : j ≡ 0 → take n a₁ ≡ gcd (G m) (take n a) (take k b)
     unfolding Option·elim
     turn-last z =
-        turn-kept ∙ sym (step ∙ ap (λ (o : Option (List ℕ)). Option·elim o (take n a) (λ r. gcd (G m) r (monic (G m) (take n a)))) (front-none j b₁ z))
+        turn-kept ∙ sym (step ∙ ap (λ (o : Option (List ℕ)). Option·elim o (take n a) (λ r. gcd (G m) r (monic (G m) (take n a)))) (monicLow-none j b₁ z))
 
     module _ (h : j ≢ 0) where
       -- it goes on with the remainder and the divisor
@@ -169,7 +169,7 @@ module _ {m : ℕ} {ls ts row a : List ℕ} {n : ℕ} {b : List ℕ} {k : ℕ} (
       unfolding Option·elim
       turn-same =
           ap (gcd (G m) (take (j - 1) b₁)) (d .lead)
-          ∙ sym (step ∙ ap (λ (o : Option (List ℕ)). Option·elim o (take n a) (λ r. gcd (G m) r (monic (G m) (take n a)))) (front-some j b₁ h))
+          ∙ sym (step ∙ ap (λ (o : Option (List ℕ)). Option·elim o (take n a) (λ r. gcd (G m) r (monic (G m) (take n a)))) (monicLow-some j b₁ h))
 
       pub turn-on : {row₁ : List ℕ} → length row₁ ≡ length row → Turnable m ls ts row₁ b₁ (j - 1) a₁ (n + 1)
       turn-on {row₁} l = record {
@@ -178,7 +178,7 @@ module _ {m : ℕ} {ls ts row a : List ℕ} {n : ℕ} {b : List ℕ} {k : ℕ} (
         room-a = omega (arith, d .fewer, d .long-b, t .room-b);
         room-b = omega (arith, d .fewer, d .long-a, t .room-a);
         within = omega (arith, d .long-a, t .room-a);
-        small-a = norm-below (numbers-of (t .tables)) n left small-left (d .made ∙ front-some j b₁ h);
+        small-a = norm-below (numbers-of (t .tables)) n left small-left (d .made ∙ monicLow-some j b₁ h);
         small-b = subst (Below (2 ^ m)) (sym (d .lead)) (monic-below (numbers-of (t .tables)) (take n a) (t .small-a));
       }
 
@@ -197,7 +197,7 @@ pub loop-from : {m : ℕ} {ls ts row a : List ℕ} {n : ℕ} {b : List ℕ} {k :
 loop-from t = record { given = t; fewer = omega arith; long-row = refl; long-a = refl; long-b = refl; same = refl }
 
 module _ {m : ℕ} {ls ts row₀ a₀ : List ℕ} {n₀ : ℕ} {b₀ : List ℕ} {k₀ : ℕ} {row a b : List ℕ} {n k : ℕ} (s : Looping m ls ts row₀ a₀ n₀ b₀ k₀ row a b n k)
-    {j : ℕ} {a₁ b₁ : List ℕ} (d : Turned m a n b k j a₁ b₁) where
+    {j : ℕ} {a₁ b₁ : List ℕ} (d : EuclidTurned m a n b k j a₁ b₁) where
   pub loop-ended : j ≡ 0 → GcdIs m a₀ n₀ b₀ k₀ n a₁
   loop-ended z = record { count = s .fewer; low = turn-last (s .given) d z ∙ s .same }
 
@@ -209,7 +209,7 @@ module _ {m : ℕ} {ls ts row₀ a₀ : List ℕ} {n₀ : ℕ} {b₀ : List ℕ}
     asked : Turnable m ls ts row b₁ (j - 1) a₁ (n + 1)
     asked = loop-asks refl
 
-    module _ {i : ℕ} {a₂ b₂ : List ℕ} (e : Turned m b₁ (j - 1) a₁ (n + 1) i b₂ a₂) where
+    module _ {i : ℕ} {a₂ b₂ : List ℕ} (e : EuclidTurned m b₁ (j - 1) a₁ (n + 1) i b₂ a₂) where
       pub loop-copied : {a₃ : List ℕ} → i ≡ 0 → a₃ ≡ copied (take (j - 1) b₂) a₂ → GcdIs m a₀ n₀ b₀ k₀ (j - 1) a₃
       loop-copied {a₃} z f =
           let room : j - 1 ≤ length b₂ = omega (arith, e .long-a, asked .room-a) in

@@ -19,7 +19,7 @@ use Rattle.poly.specs.Lent.{Lent}
 use Rattle.poly.specs.Monic.{MadeMonic}
 use Rattle.poly_gcd.specs.Euclid.{Turnable, GcdIs}
 use Rattle.poly.proofs.Logs.{numbers-of}
-use Rattle.poly_gcd.proofs.EuclidLoops.{front-some, front-none}
+use Rattle.poly_gcd.proofs.EuclidLoops.{monicLow-some, monicLow-none}
 
 module _ {m : ℕ} {ls ts row a : List ℕ} {n : ℕ} {b : List ℕ} {k g : ℕ} {a′ : List ℕ} (t : Turnable m ls ts row a n b k) (d : GcdIs m a n b k g a′) where
   pub gcd-means : IsGcdBelow (G m) (2 ^ m) (monic (G m) (take n a)) (take k b) (monic (G m) (take g a′))
@@ -32,7 +32,7 @@ module _ {m : ℕ} {ls ts row a : List ℕ} {n : ℕ} {b : List ℕ} {k g : ℕ}
 
 module _ {m : ℕ} {ls ts r : List ℕ} {j : ℕ} {r′ : List ℕ} (l : Lent m ls ts) (b : Below (2 ^ m) r) (d : MadeMonic m r j r′) where
   pub monic-means : j ≢ 0 → Made (G m) (2 ^ m) r (take (j - 1) r′)
-  monic-means h = norm-made (numbers-of l) r b (d .made ∙ front-some j r′ h)
+  monic-means h = norm-made (numbers-of l) r b (d .made ∙ monicLow-some j r′ h)
 
   pub monic-vanishes : j ≡ 0 → (i : ℕ) → getD r i 0 ≡ 0
-  monic-vanishes z = norm-none (numbers-of l) r b (d .made ∙ front-none j r′ z)
+  monic-vanishes z = norm-none (numbers-of l) r b (d .made ∙ monicLow-none j r′ z)

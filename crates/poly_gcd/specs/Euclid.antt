@@ -2,7 +2,7 @@
 --   Turnable      the monic polynomial with the n low coefficients at the front of a can divide the one with the k coefficients at the front of b
 --   Reducing      the remainder of the first k coefficients of b by monic p can be left at the front of b
 --   LeftIn        so it is left
---   Turned        one division is done: the monic divisor stands in a with its 1, and the remainder, made monic, at the front of b
+--   EuclidTurned  one division is done: the monic divisor stands in a with its 1, and the remainder, made monic, at the front of b
 --   GcdIs         the first g coefficients of a are the monic greatest common divisor's
 --   Cofactorable  monic p can be divided by monic g
 -- Assumes nothing.
@@ -14,7 +14,7 @@ use Rattle.algebra.specs.Polynomial.{Below}
 use Rattle.algebra.specs.Routines.{monic, rem, norm, gcd}
 use Rattle.field.specs.Field.{G}
 use Rattle.poly.specs.Lent.{Lent}
-use Rattle.poly.specs.Monic.{front}
+use Rattle.poly.specs.Monic.{monicLow}
 
 -- with room for the divisor's leading 1, for a remainder as long as the divisor, and for a row
 pub record Turnable (m : ℕ) (ls ts row a : List ℕ) (n : ℕ) (b : List ℕ) (k : ℕ) : Type 0 where
@@ -41,12 +41,12 @@ pub record LeftIn (m : ℕ) (p b : List ℕ) (k : ℕ) (b′ : List ℕ) : Type 
   pub long : length b′ ≡ length b
 
 -- one division
-pub record Turned (m : ℕ) (a : List ℕ) (n : ℕ) (b : List ℕ) (k j : ℕ) (a′ b′ : List ℕ) : Type 0 where
+pub record EuclidTurned (m : ℕ) (a : List ℕ) (n : ℕ) (b : List ℕ) (k j : ℕ) (a′ b′ : List ℕ) : Type 0 where
   pub fewer : j ≤ n
   pub long-a : length a′ ≡ length a
   pub long-b : length b′ ≡ length b
   pub lead : take (n + 1) a′ ≡ monic (G m) (take n a)
-  pub made : norm (G m) n (rem (G m) (take n a) (take k b)) ≡ front j b′
+  pub made : norm (G m) n (rem (G m) (take n a) (take k b)) ≡ monicLow j b′
 
 -- the outcome
 pub record GcdIs (m : ℕ) (a : List ℕ) (n : ℕ) (b : List ℕ) (k g : ℕ) (a′ : List ℕ) : Type 0 where

@@ -2,13 +2,13 @@
 ghost use mathlib.Core.Path.{_≡_};
 ghost use Rattle.algebra.specs.Routines.{cofactor};
 ghost use Rattle.field.specs.Field.{G};
-ghost use Rattle.poly_gcd.specs.Euclid.{Turnable, Reducing, LeftIn, Turned, GcdIs, Cofactorable};
+ghost use Rattle.poly_gcd.specs.Euclid.{Turnable, Reducing, LeftIn, EuclidTurned, GcdIs, Cofactorable};
 use poly::division::divide;
 use poly::monic::make_monic;
 use poly::rows::log_row;
 
 // Leaves the remainder of the first k coefficients of b by the monic polynomial with the low coefficients p at the front of b.
-fn reduce(
+fn leave_remainder(
     m: u16,
     logs: &[u16],
     antilogs: &[u16],
@@ -30,7 +30,7 @@ fn reduce(
 }
 
 // One division of Euclid's. Returns how many coefficients the remainder has, 0 where it is 0.
-fn turn(
+fn euclid_turn(
     m: u16,
     logs: &[u16],
     antilogs: &[u16],
@@ -41,9 +41,9 @@ fn turn(
     k: usize,
 ) -> usize
     requires { ⌜ Turnable m (now logs) (now antilogs) (now row) (now a) n (now b) k ⌝ }
-    ensures { λ j. ⌜ Turned m (now (a .entry)) n (now (b .entry)) k j (now (a .exit)) (now (b .exit)) ⌝ }
+    ensures { λ j. ⌜ EuclidTurned m (now (a .entry)) n (now (b .entry)) k j (now (a .exit)) (now (b .exit)) ⌝ }
 {
-    reduce(m, logs, antilogs, &a[..n], row, b, k);
+    leave_remainder(m, logs, antilogs, &a[..n], row, b, k);
     a[n] = 1;
     make_monic(m, logs, antilogs, &mut b[..n])
 }
@@ -66,12 +66,12 @@ pub fn gcd(
     let mut n = n;
     let mut k = k;
     loop {
-        let j = turn(m, logs, antilogs, row, a, n, b, k);
+        let j = euclid_turn(m, logs, antilogs, row, a, n, b, k);
         if j == 0 {
             return n;
         }
         let d = j - 1;
-        let i = turn(m, logs, antilogs, row, b, d, a, n + 1);
+        let i = euclid_turn(m, logs, antilogs, row, b, d, a, n + 1);
         if i == 0 {
             slices::copy(&b[..d], a);
             return d;

@@ -14,7 +14,7 @@ use Rattle.algebra.proofs.Lengths.{length-rem}
 use Rattle.algebra.proofs.StaysBelow.{rem-below}
 use Rattle.field.specs.Field.{fieldAt, G}
 use Rattle.field.specs.Tables.{logOf}
-use Rattle.poly.specs.Lent.{Lent, Row, Loggable, logRow, held}
+use Rattle.poly.specs.Lent.{Lent, LogRow, Loggable, logRow, held}
 use Rattle.poly_powers.specs.Powers.{Squarable, Startable, Savable, Saved}
 use Rattle.poly.proofs.Logs.{numbers-of, held-row, held-below, held-long, row-is-row}
 
@@ -26,10 +26,10 @@ module _ {m : ℕ} {ls ts p row w s : List ℕ} (g : Startable m ls ts p row w s
   pub start-one : 1 < 2 ^ m
   start-one = numbers-of (g .tables) .one-below
 
-  pub start-asks : {b : ℕ} {row₁ : List ℕ} → b < 2 ^ m → row₁ ≡ logRow m p → Lent m ls ts × Row m row₁ × (b < 2 ^ m) × (length w ≡ length row₁)
+  pub start-asks : {b : ℕ} {row₁ : List ℕ} → b < 2 ^ m → row₁ ≡ logRow m p → Lent m ls ts × LogRow m row₁ × (b < 2 ^ m) × (length w ≡ length row₁)
   start-asks h e = (
     g .tables,
-    subst (Row m) (sym e) (row-is-row (g .tables) p (g .small)),
+    subst (LogRow m) (sym e) (row-is-row (g .tables) p (g .small)),
     h,
     g .room-w ∙ sym (ap length e ∙ length-map p (logOf (fieldAt m))),
   )
@@ -39,7 +39,7 @@ module _ {m : ℕ} {ls ts p row w s : List ℕ} (g : Startable m ls ts p row w s
       let long : length row₁ ≡ length p = ap length e ∙ length-map p (logOf (fieldAt m)) in
       record {
         tables = g .tables;
-        logs = subst (Row m) (sym e) (row-is-row (g .tables) p (g .small));
+        logs = subst (LogRow m) (sym e) (row-is-row (g .tables) p (g .small));
         small = subst (Below (2 ^ m)) (sym d)
             (rem-below (numbers-of (g .tables)) (held m row₁) (0 ∷ b ∷ []) (held-below (g .tables) row₁) (numbers-of (g .tables) .zero-below, (h, tt)));
         long = ap length d ∙ length-rem (G m) (held m row₁) (0 ∷ b ∷ []) ∙ held-long m row₁;

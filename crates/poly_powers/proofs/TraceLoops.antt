@@ -15,7 +15,7 @@ use Rattle.algebra.specs.Polynomial.{add}
 use Rattle.algebra.specs.Routines.{rem, square}
 use Rattle.field.specs.Field.{mul, fieldAt, G}
 use Rattle.field.specs.Tables.{logOf}
-use Rattle.poly.specs.Lent.{Row, IsLog, logRow, held, Addable, Loggable}
+use Rattle.poly.specs.Lent.{LogRow, IsLog, logRow, held, Addable, Loggable}
 use Rattle.poly_powers.specs.Powers.{Savable, Saved, Summable, powerRows, traceSum}
 use Rattle.poly.proofs.Logs.{numbers-of, held-long}
 use Rattle.poly.proofs.Sums.{add-nil, add-assoc, long-row}
@@ -120,7 +120,7 @@ module _ {m : ℕ} {ls ts row : List ℕ} {k : ℕ} {w₀ s₀ rows₀ w s rows 
 -- ---- `add_trace`
 
 -- a part of a list of logs is one
-pub part-of-row : {m : ℕ} {rows : List ℕ} (n at : ℕ) → at + n ≤ length rows → Row m rows → Row m (take n (drop at rows))
+pub part-of-row : {m : ℕ} {rows : List ℕ} (n at : ℕ) → at + n ≤ length rows → LogRow m rows → LogRow m (take n (drop at rows))
 part-of-row {m} {rows} n at h r =
     let long : length (take n (drop at rows)) ≡ n = length-take-le n (drop at rows) (omega (arith, length-drop at rows)) in
     record {

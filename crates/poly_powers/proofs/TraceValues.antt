@@ -20,7 +20,7 @@ use Rattle.algebra.proofs.NumberEvaluation.{eval-add, eval-scale, eval-square}
 use Rattle.algebra.proofs.NumberDivision.{eval-rem}
 use Rattle.field.specs.Field.{fieldAt, G}
 use Rattle.field.specs.Tables.{logOf}
-use Rattle.poly.specs.Lent.{Lent, Row, IsLog, logRow, held}
+use Rattle.poly.specs.Lent.{Lent, LogRow, IsLog, logRow, held}
 use Rattle.poly_powers.specs.Powers.{powerRows, traceSum}
 use Rattle.poly.proofs.Logs.{numbers-of, held-row, held-below, row-is-row}
 
@@ -58,16 +58,16 @@ module _ {m : ℕ} {ls ts : List ℕ} (l : Lent m ls ts) where
         )
 
     -- and are logs
-    pub powerRows-row : (k : ℕ) (w : List ℕ) → Below (2 ^ m) w → Row m (powerRows m p k w)
+    pub powerRows-row : (k : ℕ) (w : List ℕ) → Below (2 ^ m) w → LogRow m (powerRows m p k w)
     unfolding powerRows
     powerRows-row zero w hw = record { entry = λ i h. absurd (let x : ⊥ = omega arith in x) }
     powerRows-row (suc k) w hw =
         let rest : List ℕ = powerRows m p k (rem (G m) p (square (G m) w)) in
-        let a : Row m (logRow m w) = row-is-row l w hw in
-        let b : Row m rest = powerRows-row k (rem (G m) p (square (G m) w)) (next-small w hw) in
+        let a : LogRow m (logRow m w) = row-is-row l w hw in
+        let b : LogRow m rest = powerRows-row k (rem (G m) p (square (G m) w)) (next-small w hw) in
         record { entry = λ i h. both (logRow m w) rest a b i h }
       where
-        both : (u v : List ℕ) → Row m u → Row m v → (i : ℕ) → i < length (u ++ v) → IsLog m (getD (u ++ v) i 0)
+        both : (u v : List ℕ) → LogRow m u → LogRow m v → (i : ℕ) → i < length (u ++ v) → IsLog m (getD (u ++ v) i 0)
         both [] v a b i h = b .entry i h
         both (x ∷ u) v a b zero h = a .entry 0 (omega arith)
         both (x ∷ u) v a b (suc i) h = both u v (record { entry = λ j g. a .entry (suc j) (omega arith) }) b i (omega arith)

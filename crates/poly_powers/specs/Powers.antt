@@ -16,7 +16,7 @@ use lib.ListN.{length, take, drop}
 use Rattle.algebra.specs.Polynomial.{Below, add}
 use Rattle.algebra.specs.Routines.{rem, square, frobeniusMod}
 use Rattle.field.specs.Field.{G}
-use Rattle.poly.specs.Lent.{Lent, Row, logRow, held}
+use Rattle.poly.specs.Lent.{Lent, LogRow, logRow, held}
 
 -- twice as many places
 pub record Spreadable (m : ℕ) (ls ts w s : List ℕ) : Type 0 where
@@ -27,7 +27,7 @@ pub record Spreadable (m : ℕ) (ls ts w s : List ℕ) : Type 0 where
 -- w is a remainder
 pub record Squarable (m : ℕ) (ls ts row w s : List ℕ) : Type 0 where
   pub tables : Lent m ls ts
-  pub logs : Row m row
+  pub logs : LogRow m row
   pub small : Below (2 ^ m) w
   pub long : length w ≡ length row
   pub room : length s ≡ length row + length row
@@ -63,5 +63,5 @@ pub record Saved (m : ℕ) (p : List ℕ) (k : ℕ) (w w′ rows : List ℕ) : T
 pub record Summable (m : ℕ) (ls ts rows : List ℕ) (k b : ℕ) (t : List ℕ) : Type 0 where
   pub tables : Lent m ls ts
   pub element : b < 2 ^ m
-  pub logs : Row m rows
+  pub logs : LogRow m rows
   pub room-rows : k * length t ≤ length rows

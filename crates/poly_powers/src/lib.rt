@@ -6,7 +6,7 @@ ghost use lib.ListN.{length};
 ghost use Rattle.algebra.specs.Polynomial.{add};
 ghost use Rattle.algebra.specs.Routines.{rem, square, frobeniusMod, traceMod};
 ghost use Rattle.field.specs.Field.{mul, fieldAt, G};
-ghost use Rattle.poly.specs.Lent.{Lent, Row, held};
+ghost use Rattle.poly.specs.Lent.{Lent, LogRow, held};
 ghost use Rattle.poly_powers.specs.Powers.{Spreadable, Squarable, Startable, Savable, Saved, Summable, traceSum};
 use poly::division::divide;
 use poly::division::remainder;
@@ -26,7 +26,7 @@ fn square_of(m: u16, logs: &[u16], antilogs: &[u16], x: u16) -> u16
 }
 
 // Writes the square of w to s: each coefficient's square at twice its place, and 0 between.
-fn spread(m: u16, logs: &[u16], antilogs: &[u16], w: &[u16], s: &mut [u16])
+fn square_into(m: u16, logs: &[u16], antilogs: &[u16], w: &[u16], s: &mut [u16])
     requires { ⌜ Spreadable m (now logs) (now antilogs) (now w) (now s) ⌝ }
     ensures { λ _. ⌜ now (s .exit) ≡ square (G m) (now (w .entry)) ⌝ }
 {
@@ -45,7 +45,7 @@ pub fn square_mod(m: u16, logs: &[u16], antilogs: &[u16], row: &[u16], w: &mut [
     requires { ⌜ Squarable m (now logs) (now antilogs) (now row) (now w) (now s) ⌝ }
     ensures { λ _. ⌜ now (w .exit) ≡ rem (G m) (held m (now (row .entry))) (square (G m) (now (w .entry))) ⌝ }
 {
-    spread(m, logs, antilogs, w, s);
+    square_into(m, logs, antilogs, w, s);
     divide(m, logs, antilogs, row, s);
     slices::copy(&s[..row.len()], w);
 }
@@ -73,7 +73,7 @@ pub fn power_mod(
 // Writes bz modulo the polynomial that the row holds to w.
 pub fn linear_mod(m: u16, logs: &[u16], antilogs: &[u16], row: &[u16], b: u16, w: &mut [u16])
     requires { ⌜ Lent m (now logs) (now antilogs)
-        × Row m (now row)
+        × LogRow m (now row)
         × (b < 2 ^ m)
         × (length (now w) ≡ length (now row)) ⌝ }
     ensures { λ _. ⌜ now (w .exit) ≡ rem (G m) (held m (now (row .entry))) (0 ∷ b ∷ []) ⌝ }

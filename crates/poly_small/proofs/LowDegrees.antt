@@ -3,7 +3,7 @@
 --   quadratic-list              the roots are the values of its answer
 --   front-none, front-one, front-two   lists of no, one and two numbers at the front
 --   front-within                they stand there
---   quadratic-one, quadratic-two   the roots of a quadratic at the front
+--   quadratic-one-root, quadratic-two-roots   the roots of a quadratic at the front
 --   low-none, low-one           degree 0 and 1
 --   low-asks, low-two           degree 2
 --   front-out                   a list of the roots is the roots in some order
@@ -20,7 +20,7 @@ use Rattle.algebra.specs.Field.{OnNumbers}
 use Rattle.algebra.specs.Polynomial.{Below}
 use Rattle.algebra.specs.Routines.{monic}
 use Rattle.algebra.proofs.RootList.{rootsOf-none, rootsOf-one, rootsOf-count}
-use Rattle.field.specs.Rows.{known, polyOf, Listed}
+use Rattle.field.specs.Rows.{known, polyOf, ListedRow}
 use Rattle.field.proofs.Known.{listed}
 use Rattle.field.specs.Field.{fieldOf, G, rootsAt}
 use Rattle.field.specs.Tables.{Halves}
@@ -54,7 +54,7 @@ front-within {rs} {k} {o} f = omega (arith, f .count, ap length (f .front), leng
 
 -- what the solver asks
 pub quadratic-asks : {m poly a b : ℕ} {hs out : List ℕ} → Halvable m hs a b out → poly ≡ polyOf m
-    → Listed m poly × Halves (fieldOf m poly) hs × (a < 2 ^ m) × (b < 2 ^ m)
+    → ListedRow m poly × Halves (fieldOf m poly) hs × (a < 2 ^ m) × (b < 2 ^ m)
 quadratic-asks {m} {hs = hs} h e = (
   record { degree = h .degree; poly = sym e },
   subst (λ n. Halves (fieldOf m n) hs) (sym e) (h .halves),
@@ -68,12 +68,12 @@ pub quadratic-list : (m a b : ℕ) {poly : ℕ} {q r : Quadratic} → poly ≡ p
 quadratic-list m a b e h s = ap (λ n. rootsOfQuadratic (fieldOf m n) a b) (sym e) ∙ sym h ∙ ap rootsIn s
 
 -- one root
-pub quadratic-one : {m a b : ℕ} {hs out : List ℕ} (x : ℕ) {rs : List ℕ} → Halvable m hs a b out → rs ≡ x ∷ [] → Front rs 1 (set out 0 x)
-quadratic-one {out = out} x h e = front-one out x (omega (arith, h .room)) e
+pub quadratic-one-root : {m a b : ℕ} {hs out : List ℕ} (x : ℕ) {rs : List ℕ} → Halvable m hs a b out → rs ≡ x ∷ [] → Front rs 1 (set out 0 x)
+quadratic-one-root {out = out} x h e = front-one out x (omega (arith, h .room)) e
 
 -- two roots
-pub quadratic-two : {m a b : ℕ} {hs out : List ℕ} (x y : ℕ) {rs : List ℕ} → Halvable m hs a b out → rs ≡ x ∷ y ∷ [] → Front rs 2 (set (set out 0 x) 1 y)
-quadratic-two {out = out} x y h e = front-two out x y (omega (arith, h .room)) e
+pub quadratic-two-roots : {m a b : ℕ} {hs out : List ℕ} (x y : ℕ) {rs : List ℕ} → Halvable m hs a b out → rs ≡ x ∷ y ∷ [] → Front rs 2 (set (set out 0 x) 1 y)
+quadratic-two-roots {out = out} x y h e = front-two out x y (omega (arith, h .room)) e
 
 -- ---- a list of low coefficients
 

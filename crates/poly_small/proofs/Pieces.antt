@@ -30,8 +30,8 @@ use Rattle.field.proofs.Instance.{squared-size}
 use Rattle.poly.specs.Lent.{Lent}
 use Rattle.poly_gcd.specs.Euclid.{Cofactorable}
 use Rattle.poly.proofs.Logs.{numbers-of, field-of, small-of}
-use Rattle.poly_small.specs.Roots.{Front, RootsOut, Lowly, Solvable}
-use Rattle.poly_small.specs.Parting.{GcdOf, Parts, Partable, Parted, Pieces, Split}
+use Rattle.poly_small.specs.Roots.{Front, RootsOut, Lowly, SmallSolvable}
+use Rattle.poly_small.specs.Parting.{GcdOf, Parts, CubicPartable, CubicParted, Pieces, SplitCubic}
 use Rattle.poly_small.proofs.LowDegrees.{front-out, front-within}
 
 -- x^(2^m) = x
@@ -135,9 +135,9 @@ module _ {m : ℕ} {ls ts hs p g out : List ℕ} (i : Pieces m ls ts hs p g out)
 
 -- ---- a cubic that some level parts
 
-module _ {m : ℕ} {ls ts hs p out : List ℕ} (s : Split m ls ts hs p out) where
+module _ {m : ℕ} {ls ts hs p out : List ℕ} (s : SplitCubic m ls ts hs p out) where
   -- what the search for a level asks
-  pub split-asks : {g : List ℕ} → 3 < length g → Partable m ls ts p g
+  pub split-asks : {g : List ℕ} → 3 < length g → CubicPartable m ls ts p g
   split-asks h = record {
     cubic = record { tables = s .given .tables; small = s .given .small; three = s .three; room = h };
     level = s .level;
@@ -145,7 +145,7 @@ module _ {m : ℕ} {ls ts hs p out : List ℕ} (s : Split m ls ts hs p out) wher
   }
 
   -- the part at a level that parts it
-  pub split-piece : {n : ℕ} {g : List ℕ} → 3 < length g → Parted m p n g → Pieces m ls ts hs p (take n g) out
+  pub split-piece : {n : ℕ} {g : List ℕ} → 3 < length g → CubicParted m p n g → Pieces m ls ts hs p (take n g) out
   split-piece {n} {g} h d =
       let l : length (take n g) ≡ n = length-take-le n g (omega (arith, d .less)) in
       record {
@@ -160,7 +160,7 @@ module _ {m : ℕ} {ls ts hs p out : List ℕ} (s : Split m ls ts hs p out) wher
 
 -- ---- the part that splits
 
-module _ {m : ℕ} {ls ts hs p out : List ℕ} (s : Solvable m ls ts hs p out) (two : 2 < length p) {n : ℕ} {g : List ℕ} (room : 3 < length g) (d : GcdOf m p (fieldPoly (G m) m) n g)
+module _ {m : ℕ} {ls ts hs p out : List ℕ} (s : SmallSolvable m ls ts hs p out) (two : 2 < length p) {n : ℕ} {g : List ℕ} (room : 3 < length g) (d : GcdOf m p (fieldPoly (G m) m) n g)
   where
     M : OnNumbers (G m) (2 ^ m)
     M = numbers-of (s .tables)
@@ -191,7 +191,7 @@ module _ {m : ℕ} {ls ts hs p out : List ℕ} (s : Solvable m ls ts hs p out) (
     whole h = let c = d .count in let e : 3 ≡ n = omega arith in ap (λ i. take i g) e
 
     -- then some level parts it
-    pub split-given : 3 ≤ n → Split m ls ts hs (take 3 g) out
+    pub split-given : 3 ≤ n → SplitCubic m ls ts hs (take 3 g) out
     split-given h =
         let c = d .count in
         let l : length (take 3 g) ≡ 3 = length-take-le 3 g (omega arith) in

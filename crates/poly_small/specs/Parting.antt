@@ -1,11 +1,11 @@
 -- The parting of a cubic into degrees 1 and 2.
---   Cubic      p has three low coefficients, and its gcd with another polynomial has room at the front of g
---   GcdOf      the first n elements of g are the gcd of monic p and t
---   Parts      the level i parts monic p: its gcd with Tr(2^i z) is neither constant nor all of it
---   Partable   some level parts the cubic
---   Parted     the first n elements of g are the gcd with Tr(2^i z) at some level i that parts it
---   Pieces     g is a gcd of the cubic p, of degree 1 or 2, so that both parts can be solved
---   Split      some level parts the cubic, and its roots have room
+--   Cubic           p has three low coefficients, and its gcd with another polynomial has room at the front of g
+--   GcdOf           the first n elements of g are the gcd of monic p and t
+--   Parts           the level i parts monic p: its gcd with Tr(2^i z) is neither constant nor all of it
+--   CubicPartable   some level parts the cubic
+--   CubicParted     the first n elements of g are the gcd with Tr(2^i z) at some level i that parts it
+--   Pieces          g is a gcd of the cubic p, of degree 1 or 2, so that both parts can be solved
+--   SplitCubic      some level parts the cubic, and its roots have room
 -- Assumes nothing.
 use mathlib.Core.Path.{_≡_}
 use mathlib.Core.List.{List}
@@ -15,7 +15,7 @@ use Rattle.algebra.specs.Polynomial.{Below, traceOf}
 use Rattle.algebra.specs.Routines.{gcd}
 use Rattle.field.specs.Field.{G}
 use Rattle.poly.specs.Lent.{Lent}
-use Rattle.poly_small.specs.Roots.{Solvable}
+use Rattle.poly_small.specs.Roots.{SmallSolvable}
 
 -- with room for the leading 1
 pub record Cubic (m : ℕ) (ls ts p g : List ℕ) : Type 0 where
@@ -36,13 +36,13 @@ pub record Parts (m : ℕ) (p : List ℕ) (i : ℕ) : Type 0 where
   pub less : length (gcd (G m) p (traceOf (G m) m (2 ^ i))) < length p
 
 -- at a level that need not be known
-pub record Partable (m : ℕ) (ls ts p g : List ℕ) : Type 0 where
+pub record CubicPartable (m : ℕ) (ls ts p g : List ℕ) : Type 0 where
   pub cubic : Cubic m ls ts p g
   pub level : ℕ
   pub parts : Parts m p level
 
 -- of degree 1 or 2
-pub record Parted (m : ℕ) (p : List ℕ) (n : ℕ) (g : List ℕ) : Type 0 where
+pub record CubicParted (m : ℕ) (p : List ℕ) (n : ℕ) (g : List ℕ) : Type 0 where
   pub level : ℕ
   pub below : 2 ^ level < 2 ^ m
   pub least : 0 < n
@@ -51,7 +51,7 @@ pub record Parted (m : ℕ) (p : List ℕ) (n : ℕ) (g : List ℕ) : Type 0 whe
 
 -- with some polynomial t
 pub record Pieces (m : ℕ) (ls ts hs p g out : List ℕ) : Type 0 where
-  pub given : Solvable m ls ts hs p out
+  pub given : SmallSolvable m ls ts hs p out
   pub three : length p ≡ 3
   pub least : 0 < length g
   pub less : length g < 3
@@ -60,8 +60,8 @@ pub record Pieces (m : ℕ) (ls ts hs p g out : List ℕ) : Type 0 where
   pub is : g ≡ gcd (G m) p with
 
 -- at a level that need not be known
-pub record Split (m : ℕ) (ls ts hs p out : List ℕ) : Type 0 where
-  pub given : Solvable m ls ts hs p out
+pub record SplitCubic (m : ℕ) (ls ts hs p out : List ℕ) : Type 0 where
+  pub given : SmallSolvable m ls ts hs p out
   pub three : length p ≡ 3
   pub level : ℕ
   pub parts : Parts m p level

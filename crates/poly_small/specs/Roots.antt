@@ -1,9 +1,9 @@
 -- Roots at the front of a slice, and what the routines may take for granted.
---   Front      the first k elements of out are the list rs, whole
---   RootsOut   the first k elements of out are the roots of monic p, in any order, and no more than p has degrees
---   Halvable   z^2 + az + b can be solved over a lent half-table
---   Lowly      degree 0 to 2: monic p can be solved so
---   Solvable   degree 0 to 3: monic p can be solved over lent tables
+--   Front           the first k elements of out are the list rs, whole
+--   RootsOut        the first k elements of out are the roots of monic p, in any order, and no more than p has degrees
+--   Halvable        z^2 + az + b can be solved over a lent half-table
+--   Lowly           degree 0 to 2: monic p can be solved so
+--   SmallSolvable   degree 0 to 3: monic p can be solved over lent tables
 -- Assumes nothing.
 use mathlib.Core.Path.{_≡_}
 use mathlib.Core.Logic.{_↔_}
@@ -45,7 +45,7 @@ pub record Lowly (m : ℕ) (hs p out : List ℕ) : Type 0 where
   pub room : length p ≤ length out
 
 -- room for three roots
-pub record Solvable (m : ℕ) (ls ts hs p out : List ℕ) : Type 0 where
+pub record SmallSolvable (m : ℕ) (ls ts hs p out : List ℕ) : Type 0 where
   pub tables : Lent m ls ts
   pub halves : Halves (fieldAt m) hs
   pub small : Below (2 ^ m) p

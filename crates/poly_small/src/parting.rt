@@ -3,8 +3,8 @@ ghost use Prim.Native.Nat.{_<_, _^_};
 ghost use lib.ListN.{length};
 ghost use Rattle.algebra.specs.Polynomial.{fieldPoly, traceOf};
 ghost use Rattle.field.specs.Field.{G};
-ghost use Rattle.poly_small.specs.Roots.{Solvable, RootsOut};
-ghost use Rattle.poly_small.specs.Parting.{Cubic, GcdOf, Partable, Parted, Pieces, Split};
+ghost use Rattle.poly_small.specs.Roots.{SmallSolvable, RootsOut};
+ghost use Rattle.poly_small.specs.Parting.{Cubic, GcdOf, CubicPartable, CubicParted, Pieces, SplitCubic};
 use crate::low::low_roots;
 use poly_gcd::cofactor;
 use poly_gcd::gcd;
@@ -12,7 +12,7 @@ use poly_powers::trace_of;
 use poly_powers::z_power;
 
 // Writes the part of the monic cubic with the low coefficients p that splits, its gcd with z^(2^m) + z, to the front of g. Returns its degree.
-fn split_part(m: u16, logs: &[u16], antilogs: &[u16], p: &[u16], g: &mut [u16]) -> usize
+fn cubic_split_part(m: u16, logs: &[u16], antilogs: &[u16], p: &[u16], g: &mut [u16]) -> usize
     requires { ⌜ Cubic m (now logs) (now antilogs) (now p) (now g) ⌝ }
     ensures { λ n. ⌜ GcdOf m (now (p .entry)) (fieldPoly (G m) m) n (now (g .exit)) ⌝ }
 {
@@ -41,8 +41,8 @@ fn part_at(m: u16, logs: &[u16], antilogs: &[u16], p: &[u16], b: u16, g: &mut [u
 
 // Writes the gcd with Tr(2^i z) at the first level i that parts the monic cubic with the low coefficients p to the front of g. Returns its degree, 1 or 2.
 fn part_of(m: u16, logs: &[u16], antilogs: &[u16], p: &[u16], g: &mut [u16]) -> usize
-    requires { ⌜ Partable m (now logs) (now antilogs) (now p) (now g) ⌝ }
-    ensures { λ n. ⌜ Parted m (now (p .entry)) n (now (g .exit)) ⌝ }
+    requires { ⌜ CubicPartable m (now logs) (now antilogs) (now p) (now g) ⌝ }
+    ensures { λ n. ⌜ CubicParted m (now (p .entry)) n (now (g .exit)) ⌝ }
 {
     let mut b: u16 = 1;
     let mut i: u16 = 0;
@@ -93,7 +93,7 @@ fn split_roots(
     p: &[u16],
     out: &mut [u16],
 ) -> usize
-    requires { ⌜ Split m (now logs) (now antilogs) (now halves) (now p) (now out) ⌝ }
+    requires { ⌜ SplitCubic m (now logs) (now antilogs) (now halves) (now p) (now out) ⌝ }
     ensures { λ k. ⌜ RootsOut m (now (p .entry)) k (now (out .exit)) ⌝ }
 {
     let mut g: [u16; 4] = [0; 4];
@@ -110,11 +110,11 @@ pub fn cubic_roots(
     p: &[u16],
     out: &mut [u16],
 ) -> usize
-    requires { ⌜ Solvable m (now logs) (now antilogs) (now halves) (now p) (now out) × (2 < length (now p)) ⌝ }
+    requires { ⌜ SmallSolvable m (now logs) (now antilogs) (now halves) (now p) (now out) × (2 < length (now p)) ⌝ }
     ensures { λ k. ⌜ RootsOut m (now (p .entry)) k (now (out .exit)) ⌝ }
 {
     let mut g: [u16; 4] = [0; 4];
-    let n = split_part(m, logs, antilogs, p, &mut g);
+    let n = cubic_split_part(m, logs, antilogs, p, &mut g);
     if n < 3 {
         return low_roots(m, halves, &g[..n], out);
     }

@@ -1,7 +1,7 @@
 -- The levels of a list of steps obey the laws of levels; columns, each z times the one before, bring a polynomial into their basis.
 --   vanishing-additive, vanishing-vanishes   the vanishing map respects sums, and is 0 at every step
 --   levels-hold     the levels obey the laws of levels
---   raised-value    z times what stands in the basis
+--   raisedIn-value    z times what stands in the basis
 --   mix-value       the mix of the columns has the polynomial's values
 --   coset-values    the transform of the mix gives the polynomial's values at the points of the coset
 -- Assumes nothing.
@@ -17,7 +17,7 @@ use Rattle.algebra.specs.Field.{Ops, Laws}
 use Rattle.algebra.specs.Polynomial.{add, eval}
 use Rattle.algebra.proofs.Elements as S
 use Rattle.poly_values.specs.Transform.{Level, Additive, Vanishes, Levels, value, scaled, transform, mults, points}
-use Rattle.poly_values.specs.Basis.{Step, vanishing, Right, levelOn, levels, joinRaised, raised, whole, next, Columns, mix, onCoset}
+use Rattle.poly_values.specs.Basis.{Step, vanishing, RightSteps, levelOn, levels, joinRaised, raisedIn, whole, nextColumn, Columns, mix, onCoset}
 use Rattle.algebra.specs.Trial.{All}
 use Rattle.poly_values.proofs.Transform as T
 use Rattle.poly_values.proofs.Image.{all-take, all-drop}
@@ -54,7 +54,7 @@ module _ {K : Type 0} {F : Ops K} (laws : Laws F) where
   vanishes-on [] h va = tt
   vanishes-on (v ∷ L) h va = (h (v .step) (va .0), vanishes-on L h (va .1))
 
-  pub vanishing-vanishes : (B : List (Step K)) → Right F B → Vanishes F (vanishing F B) (levels F B)
+  pub vanishing-vanishes : (B : List (Step K)) → RightSteps F B → Vanishes F (vanishing F B) (levels F B)
   unfolding levels vanishing
   vanishing-vanishes [] ok = tt
   vanishing-vanishes (b ∷ B) ok = (
@@ -63,7 +63,7 @@ module _ {K : Type 0} {F : Ops K} (laws : Laws F) where
   )
 
   -- the levels obey the laws of levels
-  pub levels-hold : (B : List (Step K)) → Right F B → Levels F (levels F B)
+  pub levels-hold : (B : List (Step K)) → RightSteps F B → Levels F (levels F B)
   unfolding levels
   levels-hold [] ok = tt
   levels-hold (b ∷ B) ok = (
@@ -90,14 +90,14 @@ module _ {K : Type 0} {F : Ops K} (laws : Laws F) where
   length-add-le (x ∷ a) [] h = refl
   length-add-le (x ∷ a) (y ∷ b) h = ap suc (length-add-le a b (omega arith))
 
-  pub length-raised : (B : List (Step K)) (a : List K) → length (raised F B a .0) ≡ 2 ^ length B
-  unfolding raised
-  length-raised [] a = refl
-  length-raised (b ∷ B) a =
-      let l = length-raised B (take (2 ^ length B) a) in
-      let h = length-raised B (drop (2 ^ length B) a) in
-      length-append (raised F B (take (2 ^ length B) a) .0) (add F (raised F B (drop (2 ^ length B) a) .0) (_ ∷ []))
-      ∙ ap₂ _+_ l (length-add-le (raised F B (drop (2 ^ length B) a) .0) (_ ∷ []) (omega (arith, h, pow-pos (length B))) ∙ h)
+  pub length-raisedIn : (B : List (Step K)) (a : List K) → length (raisedIn F B a .0) ≡ 2 ^ length B
+  unfolding raisedIn
+  length-raisedIn [] a = refl
+  length-raisedIn (b ∷ B) a =
+      let l = length-raisedIn B (take (2 ^ length B) a) in
+      let h = length-raisedIn B (drop (2 ^ length B) a) in
+      length-append (raisedIn F B (take (2 ^ length B) a) .0) (add F (raisedIn F B (drop (2 ^ length B) a) .0) (_ ∷ []))
+      ∙ ap₂ _+_ l (length-add-le (raisedIn F B (drop (2 ^ length B) a) .0) (_ ∷ []) (omega (arith, h, pow-pos (length B))) ∙ h)
       ∙ omega (arith, pow-suc 2 (length B))
 
   -- ---- values of few coefficients
@@ -119,7 +119,7 @@ module _ {K : Type 0} {F : Ops K} (laws : Laws F) where
 
   -- ---- z times what stands in the basis
 
-  module _ (s : Step K) (B : List (Step K)) (ok : Right F (s ∷ B)) (x : K) where
+  module _ (s : Step K) (B : List (Step K)) (ok : RightSteps F (s ∷ B)) (x : K) where
     van : K
     van = vanishing F B x
 
@@ -159,14 +159,14 @@ module _ {K : Type 0} {F : Ops K} (laws : Laws F) where
             ∙ ap (λ y. l ⊕ y) (S.add-left-comm laws a h (w ⊕ b) ∙ ap (λ y. h ⊕ y) (S.add-left-comm laws a w b ∙ add-comm w (a ⊕ b)) ∙ sym (add-assoc h (a ⊕ b) w))
             ∙ sym (add-assoc l (h ⊕ (a ⊕ b)) w)
 
-  pub raised-value : (B : List (Step K)) → Right F B → (a : List K) (x : K)
-      → x ⊗ value F (levels F B) a x ≡ value F (levels F B) (raised F B a .0) x ⊕ raised F B a .1 ⊗ vanishing F B x
-  unfolding raised value levels vanishing part van
-  raised-value [] ok a x = mul-comm x _ ∙ sym (zero-add _)
-  raised-value (s ∷ B) ok a x =
+  pub raisedIn-value : (B : List (Step K)) → RightSteps F B → (a : List K) (x : K)
+      → x ⊗ value F (levels F B) a x ≡ value F (levels F B) (raisedIn F B a .0) x ⊕ raisedIn F B a .1 ⊗ vanishing F B x
+  unfolding raisedIn value levels vanishing part van
+  raisedIn-value [] ok a x = mul-comm x _ ∙ sym (zero-add _)
+  raisedIn-value (s ∷ B) ok a x =
       mul-add x _ _ ∙ ap (λ y. x ⊗ value F L (take n a) x ⊕ y) (S.mul-left-comm laws x (p) _)
       ∙ ap₂ (λ i j. x ⊗ value F L (take i a) x ⊕ p ⊗ (x ⊗ value F L (drop j a) x)) (size-levels B) (size-levels B)
-      ∙ ap₂ (λ y z. y ⊕ p ⊗ z) (raised-value B (ok .2) (take h a) x) (raised-value B (ok .2) (drop h a) x)
+      ∙ ap₂ (λ y z. y ⊕ p ⊗ z) (raisedIn-value B (ok .2) (take h a) x) (raisedIn-value B (ok .2) (drop h a) x)
       ∙ halves-raised s B ok x (value F L (lo .0) x) (value F L (hi .0) x) (lo .1) (hi .1)
       ∙ ap (λ y. (value F L (lo .0) x ⊕ p ⊗ y) ⊕ (hi .1 ⊗ s .back) ⊗ vanishing F (s ∷ B) x)
       (sym (T.value-add laws L (hi .0) (more ∷ []) x ∙ ap (λ y. value F L (hi .0) x ⊕ y) (value-single L more x)))
@@ -186,10 +186,10 @@ module _ {K : Type 0} {F : Ops K} (laws : Laws F) where
       p = s .back ⊗ vanishing F B x
 
       lo : List K × K
-      lo = raised F B (take h a)
+      lo = raisedIn F B (take h a)
 
       hi : List K × K
-      hi = raised F B (drop h a)
+      hi = raisedIn F B (drop h a)
 
       more : K
       more = (lo .1 ⊕ hi .1) ⊗ s .unit
@@ -198,7 +198,7 @@ module _ {K : Type 0} {F : Ops K} (laws : Laws F) where
       up = add F (hi .0) (more ∷ [])
 
       long : length (lo .0) ≡ n
-      long = length-raised B (take h a) ∙ sym (size-levels B)
+      long = length-raisedIn B (take h a) ∙ sym (size-levels B)
 
   -- ---- coefficients with one more behind them
 
@@ -297,12 +297,12 @@ module _ {K : Type 0} {F : Ops K} (laws : Laws F) where
   length-mix (c ∷ f) a columns h = omega (arith, length-map a (F .mul c), length-longer (scaled F c a) (mix F f columns))
 
   -- z times a column
-  next-value : (B : List (Step K)) → Right F B → (a : List K) (x : K) → getD a (2 ^ length B) 0# ≡ 0#
-      → whole F B (next F B a) x ≡ x ⊗ whole F B a x
-  unfolding whole next
+  next-value : (B : List (Step K)) → RightSteps F B → (a : List K) (x : K) → getD a (2 ^ length B) 0# ≡ 0#
+      → whole F B (nextColumn F B a) x ≡ x ⊗ whole F B a x
+  unfolding whole nextColumn
   next-value B ok a x e =
       ap₂ (λ s t. value F L s x ⊕ t ⊗ w) (take-at (up .0) (up .1 ∷ []) n long) (getD-at (up .0) (up .1) [] 0# n long)
-      ∙ sym (raised-value B ok (take n a) x)
+      ∙ sym (raisedIn-value B ok (take n a) x)
       ∙ ap (λ y. x ⊗ y) (sym (ap (λ y. value F L (take n a) x ⊕ y) (ap (λ y. y ⊗ w) e ∙ S.zero-mul laws w) ∙ S.add-zero laws _))
     where
       L : List (Level K)
@@ -315,13 +315,13 @@ module _ {K : Type 0} {F : Ops K} (laws : Laws F) where
       w = vanishing F B x
 
       up : List K × K
-      up = raised F B (take n a)
+      up = raisedIn F B (take n a)
 
       long : length (up .0) ≡ n
-      long = length-raised B (take n a)
+      long = length-raisedIn B (take n a)
 
   -- the mix of the columns has the polynomial's values
-  pub mix-value : (B : List (Step K)) → Right F B → (f : List K) (a : List K) (columns : List (List K)) (x y : K) → Columns F B a columns
+  pub mix-value : (B : List (Step K)) → RightSteps F B → (f : List K) (a : List K) (columns : List (List K)) (x y : K) → Columns F B a columns
       → whole F B a x ≡ y → length f ≤ suc (length columns) → whole F B (mix F f (a ∷ columns)) x ≡ y ⊗ eval F f x
   unfolding mix eval
   mix-value B ok [] a columns x y cs e h = whole-none B x ∙ sym (S.mul-zero laws y)
@@ -341,12 +341,12 @@ module _ {K : Type 0} {F : Ops K} (laws : Laws F) where
   length-take-le′ : (n : ℕ) (a : List K) → n ≤ length a → length (take n a) ≡ n
   length-take-le′ n a h = simp length-take (omega arith)
 
-  pub coset-values : (B : List (Step K)) → Right F B → (a : List K) → 2 ^ length B ≤ length a → (c : K)
+  pub coset-values : (B : List (Step K)) → RightSteps F B → (a : List K) → 2 ^ length B ≤ length a → (c : K)
       → transform F (mults F (levels F B) c) (onCoset F B a c) ≡ map (whole F B a) (points F (levels F B) c)
   unfolding onCoset whole
   coset-values B ok a h c =
       T.transform-values laws L (levels-hold B ok) c start (length-add-le (take n a) (top ⊗ w ∷ []) (omega (arith, long, pow-pos (length B))) ∙ long ∙ sym (size-levels B))
-      ∙ T.agree laws L (vanishing-additive B) (vanishing-vanishes B ok) (value F L start) (λ x. value F L (take n a) x ⊕ top ⊗ vanishing F B x) c
+      ∙ T.transform-agree laws L (vanishing-additive B) (vanishing-vanishes B ok) (value F L start) (λ x. value F L (take n a) x ⊕ top ⊗ vanishing F B x) c
       (λ x e. T.value-add laws L (take n a) (top ⊗ w ∷ []) x ∙ ap (λ y. value F L (take n a) x ⊕ y) (value-single L (top ⊗ w) x ∙ ap (λ y. top ⊗ y) (sym e)))
     where
       L : List (Level K)
@@ -368,7 +368,7 @@ module _ {K : Type 0} {F : Ops K} (laws : Laws F) where
       long = length-take-le′ n a h
 
   -- the values of f
-  pub mixed-values : (B : List (Step K)) → Right F B → (f z : List K) (columns : List (List K)) → All (λ c. c ≡ 0#) z → 2 ^ length B ≤ length z
+  pub mixed-values : (B : List (Step K)) → RightSteps F B → (f z : List K) (columns : List (List K)) → All (λ c. c ≡ 0#) z → 2 ^ length B ≤ length z
       → Columns F B (1# ∷ z) columns → 1 ≤ length f → length f ≤ suc (length columns) → (c : K)
       → transform F (mults F (levels F B) c) (onCoset F B (mix F f ((1# ∷ z) ∷ columns)) c) ≡ map (eval F f) (points F (levels F B) c)
   mixed-values B ok f z columns zeros n cs some h c =

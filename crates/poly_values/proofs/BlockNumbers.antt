@@ -13,11 +13,11 @@ use Rattle.algebra.specs.Polynomial.{add, eval, Below}
 use Rattle.algebra.proofs.Elements as S
 use Rattle.algebra.proofs.Crossing.{Elem, elem-equal, elems, laws, low, low-add, low-scale, lift, low-lift}
 use Rattle.poly_values.specs.Transform.{Level, points, scaled, transform, mults, value}
-use Rattle.poly_values.specs.Basis.{Step, vanishing, Right, levels, raised}
+use Rattle.poly_values.specs.Basis.{Step, vanishing, RightSteps, levels, raisedIn}
 use Rattle.poly_values.specs.Blocks.{wholeOf, nextOf, ColumnsOf, addOf, mixOf, cosetOf}
 use Rattle.poly_values.proofs.Image.{Respects, transform-image}
 use Rattle.poly_values.proofs.Basis.{value-one}
-use Rattle.poly_values.proofs.Numbers.{StepBelow, lowStep, lowSteps, liftSteps, low-liftSteps, zero-list, zeros-are, low-zeros, liftAll, low-liftAll, low-vanishing, right-up, low-points, low-mults, low-raised, low-same, low-values, respects, anything, lows}
+use Rattle.poly_values.proofs.Numbers.{StepBelow, lowStep, lowSteps, liftSteps, low-liftSteps, zero-list, zeros-are, low-zeros, liftAll, low-liftAll, low-vanishing, right-up, low-points, low-mults, low-raisedIn, low-same, low-values, respects, anything, lows}
 use Rattle.poly_values.proofs.Blocks.{mix-whole, blocks-values}
 
 -- the first block is full, the others are no longer
@@ -31,7 +31,7 @@ pub record Shaped {K : Type 0} (n : ℕ) (bs : List (List K)) : Type 0 where
 module _ {K : Type 0} {F : Ops K} (laws : Laws F) where
   open Ops F using (zero as 0#, one as 1#)
 
-  pub blocks-mixed : (B : List (Step K)) → Right F B → (f z : List K) (columns : List (List (List K))) → All (λ c. c ≡ 0#) z
+  pub blocks-mixed : (B : List (Step K)) → RightSteps F B → (f z : List K) (columns : List (List (List K))) → All (λ c. c ≡ 0#) z
       → ColumnsOf F B ((1# ∷ z) ∷ []) columns → Shaped (2 ^ length B) (mixOf F f (((1# ∷ z) ∷ []) ∷ columns)) → length f ≤ suc (length columns) → (c : K)
       → transform F (mults F (levels F B) c) (cosetOf F B (mixOf F f (((1# ∷ z) ∷ []) ∷ columns)) c) ≡ map (eval F f) (points F (levels F B) c)
   unfolding wholeOf
@@ -54,8 +54,8 @@ module _ {G : Ops ℕ} {q : ℕ} (N : OnNumbers G q) where
   unfolding nextOf lows
   low-nextOf B c [] = refl
   low-nextOf B c (b ∷ bs) =
-      ap₂ _∷_ (low-add N (raised E B b .0) (c ∷ []) ∙ ap (λ p. add G (p .0) (c .0 ∷ [])) (low-raised N B b))
-      (low-nextOf B (raised E B b .1) bs ∙ ap (λ p. nextOf G (lowSteps N B) (p .1) (lows N bs)) (low-raised N B b))
+      ap₂ _∷_ (low-add N (raisedIn E B b .0) (c ∷ []) ∙ ap (λ p. add G (p .0) (c .0 ∷ [])) (low-raisedIn N B b))
+      (low-nextOf B (raisedIn E B b .1) bs ∙ ap (λ p. nextOf G (lowSteps N B) (p .1) (lows N bs)) (low-raisedIn N B b))
 
   low-addOf : (a b : List (List (Elem q))) → lows N (addOf E a b) ≡ addOf G (lows N a) (lows N b)
   unfolding addOf lows
@@ -109,7 +109,7 @@ module _ {G : Ops ℕ} {q : ℕ} (N : OnNumbers G q) where
       all-up (b ∷ bs) h = (omega (arith, h .0, length-map b (λ u. u .0)), all-up bs (h .1))
 
   -- over lists of elements
-  pub values-blocks-low : (B : List (Step (Elem q))) → Right G (lowSteps N B) → (f z : List (Elem q)) (columns : List (List (List (Elem q)))) → All (λ c. c ≡ E .zero) z
+  pub values-blocks-low : (B : List (Step (Elem q))) → RightSteps G (lowSteps N B) → (f z : List (Elem q)) (columns : List (List (List (Elem q)))) → All (λ c. c ≡ E .zero) z
       → ColumnsOf G (lowSteps N B) (lows N ((E .one ∷ z) ∷ [])) (map (lows N) columns)
       → Shaped (2 ^ length B) (mixOf G (low N f) (map (lows N) (((E .one ∷ z) ∷ []) ∷ columns))) → length f ≤ suc (length columns) → (c : Elem q)
       → transform G (mults G (levels G (lowSteps N B)) (c .0)) (cosetOf G (lowSteps N B) (mixOf G (low N f) (map (lows N) (((E .one ∷ z) ∷ []) ∷ columns))) (c .0))
@@ -142,13 +142,13 @@ module _ {G : Ops ℕ} {q : ℕ} (N : OnNumbers G q) where
       transform G (mults G (levels G B) c) (cosetOf G B (mixOf G f (((G .one ∷ z) ∷ []) ∷ columns)) c) ≡ map (eval G f) (points G (levels G B) c)
 
   -- ---- THE LAW over numbers, for any number of coefficients: B the steps, zeros and columns the columns (the first is 1 and the zeros), c the coset
-  pub values-blocks : (B : List (Step ℕ)) → All (StepBelow q) B → Right G B → (f : List ℕ) → Below q f → (z : List ℕ) → All (λ c. c ≡ G .zero) z
+  pub values-blocks : (B : List (Step ℕ)) → All (StepBelow q) B → RightSteps G B → (f : List ℕ) → Below q f → (z : List ℕ) → All (λ c. c ≡ G .zero) z
       → (columns : List (List (List ℕ))) → All (All (Below q)) columns → ColumnsOf G B ((G .one ∷ z) ∷ []) columns
       → Shaped (2 ^ length B) (mixOf G f (((G .one ∷ z) ∷ []) ∷ columns)) → length f ≤ suc (length columns) → (c : ℕ) → c < q
       → transform G (mults G (levels G B) c) (cosetOf G B (mixOf G f (((G .one ∷ z) ∷ []) ∷ columns)) c) ≡ map (eval G f) (points G (levels G B) c)
   unfolding lows
   values-blocks B small ok f fs z zeros columns cols cs s h c below =
-      subst (λ (B : List (Step ℕ)). Right G B → ColumnsOf G B ((G .one ∷ z) ∷ []) columns → Shaped (2 ^ length B) (mixOf G f (((G .one ∷ z) ∷ []) ∷ columns)) → Goal c B f z columns)
+      subst (λ (B : List (Step ℕ)). RightSteps G B → ColumnsOf G B ((G .one ∷ z) ∷ []) columns → Shaped (2 ^ length B) (mixOf G f (((G .one ∷ z) ∷ []) ∷ columns)) → Goal c B f z columns)
       (low-liftSteps N B small)
       (λ ok cs s.
       subst (λ (f : List ℕ). Shaped (2 ^ length B′) (mixOf G f (((G .one ∷ z) ∷ []) ∷ columns)) → Goal c B′ f z columns) (low-lift N f fs)

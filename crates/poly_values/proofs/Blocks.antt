@@ -13,10 +13,10 @@ use Rattle.algebra.specs.Trial.{All}
 use Rattle.algebra.specs.Polynomial.{add, eval}
 use Rattle.algebra.proofs.Elements as S
 use Rattle.poly_values.specs.Transform.{Level, value, scaled, transform, mults, points}
-use Rattle.poly_values.specs.Basis.{Step, vanishing, Right, levels, raised}
+use Rattle.poly_values.specs.Basis.{Step, vanishing, RightSteps, levels, raisedIn}
 use Rattle.poly_values.specs.Blocks.{wholeOf, nextOf, ColumnsOf, addOf, mixOf, cosetOf}
 use Rattle.poly_values.proofs.Transform as T
-use Rattle.poly_values.proofs.Basis.{vanishing-additive, vanishing-vanishes, levels-hold, raised-value, value-none, value-single, size-levels, length-add-le}
+use Rattle.poly_values.proofs.Basis.{vanishing-additive, vanishing-vanishes, levels-hold, raisedIn-value, value-none, value-single, size-levels, length-add-le}
 
 module _ {K : Type 0} {F : Ops K} (laws : Laws F) where
   infixl 60 _⊕_
@@ -25,14 +25,14 @@ module _ {K : Type 0} {F : Ops K} (laws : Laws F) where
   open Laws laws using (add-comm, add-assoc, zero-add, mul-comm, mul-assoc, one-mul, mul-add)
 
   -- z times blocks
-  pub next-whole : (B : List (Step K)) → Right F B → (c : K) (bs : List (List K)) (z : K) → wholeOf F B (nextOf F B c bs) z ≡ c ⊕ z ⊗ wholeOf F B bs z
+  pub next-whole : (B : List (Step K)) → RightSteps F B → (c : K) (bs : List (List K)) (z : K) → wholeOf F B (nextOf F B c bs) z ≡ c ⊕ z ⊗ wholeOf F B bs z
   unfolding wholeOf nextOf
   next-whole B ok c [] z =
       ap₂ _⊕_ (value-single laws (levels F B) c z) (S.mul-zero laws (vanishing F B z)) ∙ ap (λ y. c ⊕ y) (sym (S.mul-zero laws z))
   next-whole B ok c (b ∷ bs) z =
       ap₂ _⊕_ (T.value-add laws L (up .0) (c ∷ []) z ∙ ap (λ y. value F L (up .0) z ⊕ y) (value-single laws L c z) ∙ add-comm _ c)
       (ap (λ y. w ⊗ y) (next-whole B ok (up .1) bs z) ∙ mul-add w (up .1) (z ⊗ r) ∙ ap₂ _⊕_ (mul-comm w (up .1)) (S.mul-left-comm laws w z r))
-      ∙ add-assoc c _ _ ∙ ap (λ y. c ⊕ y) (sym (add-assoc _ _ _) ∙ ap (λ y. y ⊕ z ⊗ (w ⊗ r)) (sym (raised-value laws B ok b z)) ∙ sym (mul-add z _ _))
+      ∙ add-assoc c _ _ ∙ ap (λ y. c ⊕ y) (sym (add-assoc _ _ _) ∙ ap (λ y. y ⊕ z ⊗ (w ⊗ r)) (sym (raisedIn-value laws B ok b z)) ∙ sym (mul-add z _ _))
     where
       L : List (Level K)
       L = levels F B
@@ -44,7 +44,7 @@ module _ {K : Type 0} {F : Ops K} (laws : Laws F) where
       r = wholeOf F B bs z
 
       up : List K × K
-      up = raised F B b
+      up = raisedIn F B b
 
   -- ---- sums and multiples
 
@@ -62,7 +62,7 @@ module _ {K : Type 0} {F : Ops K} (laws : Laws F) where
       ap₂ (λ s t. s ⊕ vanishing F B z ⊗ t) (T.value-scaled laws (levels F B) e x z) (whole-multiple B e a z) ∙ simp (mul-add, S.mul-left-comm laws)
 
   -- the mix of the columns has the polynomial's values, however many coefficients it has
-  pub mix-whole : (B : List (Step K)) → Right F B → (f : List K) (a : List (List K)) (columns : List (List (List K))) (x y : K) → ColumnsOf F B a columns
+  pub mix-whole : (B : List (Step K)) → RightSteps F B → (f : List K) (a : List (List K)) (columns : List (List (List K))) (x y : K) → ColumnsOf F B a columns
       → wholeOf F B a x ≡ y → length f ≤ suc (length columns) → wholeOf F B (mixOf F f (a ∷ columns)) x ≡ y ⊗ eval F f x
   unfolding mixOf eval wholeOf
   mix-whole B ok [] a columns x y cs e h = sym (S.mul-zero laws y)
@@ -99,13 +99,13 @@ module _ {K : Type 0} {F : Ops K} (laws : Laws F) where
       ∙ ap (λ y. value F (levels F B) b x ⊕ y) (T.value-scaled laws (levels F B) (vanishing F B c) (cosetOf F B bs c) x ∙ ap₂ _⊗_ (sym e) (coset-at B bs c x e))
 
   -- THE LAW for any number of blocks: the first has 2^k coefficients, the others at most as many
-  pub blocks-values : (B : List (Step K)) → Right F B → (b : List K) (bs : List (List K)) → length b ≡ 2 ^ length B → All (λ a. length a ≤ 2 ^ length B) bs → (c : K)
+  pub blocks-values : (B : List (Step K)) → RightSteps F B → (b : List K) (bs : List (List K)) → length b ≡ 2 ^ length B → All (λ a. length a ≤ 2 ^ length B) bs → (c : K)
       → transform F (mults F (levels F B) c) (cosetOf F B (b ∷ bs) c) ≡ map (wholeOf F B (b ∷ bs)) (points F (levels F B) c)
   unfolding cosetOf
   blocks-values B ok b bs n small c =
       T.transform-values laws L (levels-hold laws B ok) c start
       (length-add-le laws b rest (omega (arith, n, length-coset B bs (2 ^ length B) c small, length-map (cosetOf F B bs c) (F .mul (vanishing F B c)))) ∙ n ∙ sym (size-levels laws B))
-      ∙ T.agree laws L (vanishing-additive laws B) (vanishing-vanishes laws B ok) (value F L start) (wholeOf F B (b ∷ bs)) c (λ x e. coset-at B (b ∷ bs) c x e)
+      ∙ T.transform-agree laws L (vanishing-additive laws B) (vanishing-vanishes laws B ok) (value F L start) (wholeOf F B (b ∷ bs)) c (λ x e. coset-at B (b ∷ bs) c x e)
     where
       L : List (Level K)
       L = levels F B

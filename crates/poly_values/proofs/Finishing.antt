@@ -20,18 +20,18 @@ use Rattle.field.specs.Rows.{polyIn}
 use Rattle.field.specs.Field.{Field, mul, numbers, fieldOf, fieldAt, G}
 use Rattle.field.proofs.Digits.{bit-cases}
 use Rattle.field.proofs.Xor.{xor-assoc}
-use Rattle.field.proofs.Ring.{Monic, mul-zero-r}
+use Rattle.field.proofs.Ring.{FullDegree, mul-zero-r}
 use Rattle.field.proofs.Instance.{known-numbers}
 use Rattle.poly_values.specs.Transform.{Level, scaled, points, transform, mults}
 use Rattle.poly_values.specs.Basis.{Step, vanishing, levels, mix, onCoset, Columns}
-use Rattle.poly_values.specs.Planes.{digit, occupied, lane, lanes, number, wordsAt, sumWords, spreadWords, columnsOf, mixAt, rowOf, fieldBy, taps11, Multiple, Spread, Mixed, Started}
+use Rattle.poly_values.specs.Planes.{binaryDigit, occupied, lane, lanes, digitsNumber, wordsAt, sumWords, spreadWords, columnsOf, mixAt, laneRow, fieldBy, taps11, Multiple, Spread, Mixed, RowStarted}
 use Rattle.poly_values.specs.Tables.{steps11, TreeTable, TopTable, ColumnTable, Values}
 use Rattle.poly_values.proofs.Planes.{lane-lt, lane-sum, lane-is-zero, sum-words}
-use Rattle.poly_values.proofs.Numbers.{values}
+use Rattle.poly_values.proofs.Numbers.{transform-values}
 use Rattle.poly_values.proofs.Multipliers.{small11, right11, monic11}
 use Rattle.poly_values.proofs.Lists.{map-append, length-tabulate, getD-zeros, getD-add, getD-scaled}
 use Rattle.poly_values.proofs.Scalars.{spread-is, all-ones, mix-zero}
-use Rattle.poly_values.proofs.Lanes.{row-at, length-add}
+use Rattle.poly_values.proofs.Lanes.{laneRow-at, length-add}
 
 -- ---- lists of lanes
 
@@ -64,7 +64,7 @@ lanes-turn v a {i} {j} h e = ap (λ k. set (lanes 0 i v ++ drop i a) i (lane k v
 
 -- ---- the mix, as a list
 
-module _ (F : Field) (monic : Monic F) (n : ℕ) where
+module _ (F : Field) (monic : FullDegree F) (n : ℕ) where
   mix-at : (f : List ℕ) (c : ℕ) (g : List ℕ) → length f ≤ c → (i : ℕ) → i < n → getD (mix (numbers F) f (columnsOf (F .degree) n c g)) i 0 ≡ mixAt F i f g
   unfolding mix columnsOf mixAt
   mix-at [] c g h i k = refl
@@ -147,7 +147,7 @@ length-points l =
 -- ---- the values
 
 pub numbers11 : OnNumbers (numbers (fieldBy taps11)) 2048
-unfolding number
+unfolding digitsNumber
 numbers11 = known-numbers row11
 
 all-columns : (m n c : ℕ) (g : List ℕ) → All (Below (2 ^ m)) (columnsOf m n c g)
@@ -170,13 +170,13 @@ N = numbers (fieldBy taps11)
 pub values-from : {f g cols top v a x p p′ : List ℕ} → length f ≤ 33 → 1 ≤ length f → Below 2048 f
     → ColumnTable taps11 steps11 32 cols → TopTable taps11 steps11 top → TreeTable taps11 steps11 g
     → Mixed taps11 f cols v → a ≡ lanes 0 33 v → ((l : ℕ) → l < 64 → lane l x ≡ bitXor (getD a 0 0) (mul (fieldBy taps11) (getD a 32 0) (lane l top)))
-    → Started taps11 5 g x (take 32 a) p p′ → Values taps11 f p′ 32
+    → RowStarted taps11 5 g x (take 32 a) p p′ → Values taps11 f p′ 32
 unfolding onCoset columnsOf
 values-from {f} {g} {cols} {top} {v} {a} {x} {p} {p′} few some small C T G M ea first R =
     record {
-      lanes = λ w hw l hl. sym (row-at 11 l 32 p′ w hw)
+      lanes = λ w hw l hl. sym (laneRow-at 11 l 32 p′ w hw)
           ∙ ap (λ r. getD r w 0) (R .rows l hl ∙ ap₂ (transform N) (G .multipliers l hl) (begun l hl)
-          ∙ values numbers11 steps11 small11 right11 f small (replicate 32 0) (zeros 32) others (all-columns 11 33 32 (drop 11 cols)) (omega arith) (C .others) some
+          ∙ transform-values numbers11 steps11 small11 right11 f small (replicate 32 0) (zeros 32) others (all-columns 11 33 32 (drop 11 cols)) (omega arith) (C .others) some
           (omega (arith, length-columns 11 33 32 (drop 11 cols))) l (omega arith))
           ∙ map-at (eval N f) (points N (levels N steps11) l) w (omega (arith, length-points l)) ∙ ap (eval N f) (point-at l w hl hw);
     }
@@ -249,21 +249,21 @@ first-vector {s} {t} {b} {c} {x} {top} hs eb ec ex l h =
 -- ---- the lanes that are 0
 
 -- a digit of the complement
-not-digit : (z l : ℕ) → l < 64 → bitXor z 18446744073709551615 / 2 ^ l % 2 ≡ bitXor (digit l z) 1
-not-digit z l h = ap (λ (n : ℕ). n % 2) (xor-shr z 18446744073709551615 l) ∙ xor-mod (z / 2 ^ l) (18446744073709551615 / 2 ^ l) 1 ∙ ap (bitXor (digit l z)) (all-ones l h)
+not-digit : (z l : ℕ) → l < 64 → bitXor z 18446744073709551615 / 2 ^ l % 2 ≡ bitXor (binaryDigit l z) 1
+not-digit z l h = ap (λ (n : ℕ). n % 2) (xor-shr z 18446744073709551615 l) ∙ xor-mod (z / 2 ^ l) (18446744073709551615 / 2 ^ l) 1 ∙ ap (bitXor (binaryDigit l z)) (all-ones l h)
 
 pub field11 : fieldBy taps11 ≡ fieldAt 11
-unfolding number polyIn
+unfolding digitsNumber polyIn
 field11 = refl
 
 module _ {f p : List ℕ} (v : Values taps11 f p 32) (w : ℕ) (hw : w < 32) {z : ℕ} (e : z ≡ occupied (wordsAt 11 p (w * 11))) (l : ℕ) (hl : l < 64) where
   pub free-hit : bitXor z 18446744073709551615 / 2 ^ l % 2 ≡ 1 → eval (G 11) f (w * 64 + l) ≡ 0
   free-hit h =
       ap (λ F. eval (numbers F) f (w * 64 + l)) (sym field11) ∙ sym (v .lanes w hw l hl)
-      ∙ lane-is-zero l (wordsAt 11 p (w * 11)) .0 (ap (digit l) (sym e) ∙ bit-cases (λ (d : ℕ). bitXor d 1 ≡ 1 → d ≡ 0) (λ k. refl) (λ k. absurd (omega arith)) (z / 2 ^ l) (sym (not-digit z l hl) ∙ h))
+      ∙ lane-is-zero l (wordsAt 11 p (w * 11)) .0 (ap (binaryDigit l) (sym e) ∙ bit-cases (λ (d : ℕ). bitXor d 1 ≡ 1 → d ≡ 0) (λ k. refl) (λ k. absurd (omega arith)) (z / 2 ^ l) (sym (not-digit z l hl) ∙ h))
 
   pub free-miss : bitXor z 18446744073709551615 / 2 ^ l % 2 ≡ 0 → eval (G 11) f (w * 64 + l) ≡ 0 → ⊥
   free-miss h k =
-      let o : digit l z ≡ 0 = ap (digit l) e ∙ lane-is-zero l (wordsAt 11 p (w * 11)) .1 (v .lanes w hw l hl ∙ ap (λ F. eval (numbers F) f (w * 64 + l)) field11 ∙ k) in
+      let o : binaryDigit l z ≡ 0 = ap (binaryDigit l) e ∙ lane-is-zero l (wordsAt 11 p (w * 11)) .1 (v .lanes w hw l hl ∙ ap (λ F. eval (numbers F) f (w * 64 + l)) field11 ∙ k) in
       let b : _≡_ {A = ℕ} 1 0 = sym (ap (λ (d : ℕ). bitXor d 1) o) ∙ sym (not-digit z l hl) ∙ h in
       omega arith

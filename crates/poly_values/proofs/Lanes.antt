@@ -1,5 +1,5 @@
 -- In every lane the transform of a row of vectors is the transform in the field.
---   row-at        an entry of a row of lanes
+--   laneRow-at    an entry of a row of lanes
 --   row-append    the row of two parts
 --   row-run       the lanes of a row that was transformed
 --   node-by       one level: the two halves of the row after its butterflies, transformed
@@ -16,26 +16,26 @@ use Rattle.algebra.specs.Trial.{All}
 use Rattle.algebra.specs.Polynomial.{add}
 use Rattle.field.specs.Field.{Field, mul, numbers}
 use Rattle.poly_values.specs.Transform.{Mults, leaf, node, width, scaled, lower, transform, mapMults}
-use Rattle.poly_values.specs.Planes.{lane, wordsAt, tabulate, product, planeOps, fieldBy, flat, treeOf, transformAt, rowOf}
+use Rattle.poly_values.specs.Planes.{lane, wordsAt, tabulate, laneProduct, planeOps, fieldBy, flat, treeOf, transformAt, laneRow}
 use Rattle.poly_values.proofs.Image.{Respects, transform-image, all-transform}
-use Rattle.poly_values.proofs.Planes.{Digits, lane-sum, lane-product, length-sum, length-product}
+use Rattle.poly_values.proofs.Planes.{BinaryDigits, lane-sum, lane-product, length-sum, length-laneProduct}
 use Rattle.poly_values.proofs.Rows.{transform-rows, length-transform, length-flat, words-at, flat-append}
 use Rattle.poly_values.proofs.Lists.{map-append, length-tabulate, getD-tabulate, getD-add, getD-scaled}
 use Rattle.poly_values.proofs.Scalars.{words-next}
 
 -- ---- rows
 
-pub length-row : (m l n : ℕ) (p : List ℕ) → length (rowOf m l n p) ≡ n
-unfolding rowOf
+pub length-row : (m l n : ℕ) (p : List ℕ) → length (laneRow m l n p) ≡ n
+unfolding laneRow
 length-row m l zero p = refl
 length-row m l (suc n) p = ap suc (length-row m l n (drop m p))
 
-pub row-at : (m l n : ℕ) (p : List ℕ) (i : ℕ) → i < n → getD (rowOf m l n p) i 0 ≡ lane l (wordsAt m p (i * m))
-unfolding rowOf
-row-at m l zero p i h = absurd (omega arith)
-row-at m l (suc n) p zero h = ap (λ (k : ℕ). lane l (wordsAt m p k)) (sym (zero-mul m))
-row-at m l (suc n) p (suc i) h =
-    row-at m l n (drop m p) i (omega arith) ∙ ap (lane l) (words-next m i p)
+pub laneRow-at : (m l n : ℕ) (p : List ℕ) (i : ℕ) → i < n → getD (laneRow m l n p) i 0 ≡ lane l (wordsAt m p (i * m))
+unfolding laneRow
+laneRow-at m l zero p i h = absurd (omega arith)
+laneRow-at m l (suc n) p zero h = ap (λ (k : ℕ). lane l (wordsAt m p k)) (sym (zero-mul m))
+laneRow-at m l (suc n) p (suc i) h =
+    laneRow-at m l n (drop m p) i (omega arith) ∙ ap (lane l) (words-next m i p)
 
 -- the vectors of a row
 vectors : ℕ → ℕ → List ℕ → List (List ℕ)
@@ -64,23 +64,23 @@ flat-vectors m zero (x ∷ p) h = absurd (omega (arith, zero-mul m))
 flat-vectors m (suc n) p h =
     ap₂ _++_ (take-words m p (omega (arith, suc-mul n m))) (flat-vectors m n (drop m p) (length-drop m p ∙ omega (arith, suc-mul n m))) ∙ take-append-drop m p
 
-row-vectors : (m l n : ℕ) (p : List ℕ) → rowOf m l n p ≡ map (lane l) (vectors m n p)
-unfolding rowOf vectors
+row-vectors : (m l n : ℕ) (p : List ℕ) → laneRow m l n p ≡ map (lane l) (vectors m n p)
+unfolding laneRow vectors
 row-vectors m l zero p = refl
 row-vectors m l (suc n) p = ap (λ s. lane l (wordsAt m p 0) ∷ s) (row-vectors m l n (drop m p))
 
 -- the row of vectors that stand one after the other
-row-flat : (m l : ℕ) (vs : List (List ℕ)) → All (λ v. length v ≡ m) vs → rowOf m l (length vs) (flat vs) ≡ map (lane l) vs
-unfolding rowOf flat
+row-flat : (m l : ℕ) (vs : List (List ℕ)) → All (λ v. length v ≡ m) vs → laneRow m l (length vs) (flat vs) ≡ map (lane l) vs
+unfolding laneRow flat
 row-flat m l [] h = refl
 row-flat m l (v ∷ vs) h =
-    ap₂ (λ s t. lane l s ∷ t) (words-at m [] v (flat vs) 0 refl (h .0)) (ap (rowOf m l (length vs)) (drop-at v (flat vs) m (h .0)) ∙ row-flat m l vs (h .1))
+    ap₂ (λ s t. lane l s ∷ t) (words-at m [] v (flat vs) 0 refl (h .0)) (ap (laneRow m l (length vs)) (drop-at v (flat vs) m (h .0)) ∙ row-flat m l vs (h .1))
 
-pub row-append : (m l n k : ℕ) (p r : List ℕ) → length p ≡ n * m → length r ≡ k * m → rowOf m l (n + k) (p ++ r) ≡ rowOf m l n p ++ rowOf m l k r
+pub row-append : (m l n k : ℕ) (p r : List ℕ) → length p ≡ n * m → length r ≡ k * m → laneRow m l (n + k) (p ++ r) ≡ laneRow m l n p ++ laneRow m l k r
 row-append m l n k p r h j =
-    ap₂ (λ s t. rowOf m l (n + k) (s ++ t)) (sym (flat-vectors m n p h)) (sym (flat-vectors m k r j))
-    ∙ ap (rowOf m l (n + k)) (sym (flat-append (vectors m n p) (vectors m k r)))
-    ∙ ap (λ i. rowOf m l i (flat (vectors m n p ++ vectors m k r))) (sym (length-append (vectors m n p) (vectors m k r) ∙ ap₂ _+_ (length-vectors m n p) (length-vectors m k r)))
+    ap₂ (λ s t. laneRow m l (n + k) (s ++ t)) (sym (flat-vectors m n p h)) (sym (flat-vectors m k r j))
+    ∙ ap (laneRow m l (n + k)) (sym (flat-append (vectors m n p) (vectors m k r)))
+    ∙ ap (λ i. laneRow m l i (flat (vectors m n p ++ vectors m k r))) (sym (length-append (vectors m n p) (vectors m k r) ∙ ap₂ _+_ (length-vectors m n p) (length-vectors m k r)))
     ∙ row-flat m l (vectors m n p ++ vectors m k r) (all-append (vectors m n p) (all-vectors m n p))
     ∙ map-append (lane l) (vectors m n p) (vectors m k r) ∙ sym (ap₂ _++_ (row-vectors m l n p) (row-vectors m l k r))
   where
@@ -90,14 +90,14 @@ row-append m l n k p r h j =
 
 -- ---- the transform of a row
 
-module _ (q : List ℕ) (ok : Digits q) (l : ℕ) where
+module _ (q : List ℕ) (ok : BinaryDigits q) (l : ℕ) where
   lane-respects : Respects (planeOps q) (numbers (fieldBy q)) (λ v. length v ≡ length q) (lane l)
   lane-respects =
       record {
         sums = λ x y h k. lane-sum l x y;
         products = λ e x h. lane-product q ok l e x h;
         kept-sum = λ x y h k. length-sum x y (length q) h k;
-        kept-product = λ e x h. length-product q e x h;
+        kept-product = λ e x h. length-laneProduct q e x h;
       }
 
   lane-transform : (T : Mults (List ℕ)) (a : List (List ℕ)) → All (λ v. length v ≡ length q) a
@@ -105,11 +105,11 @@ module _ (q : List ℕ) (ok : Digits q) (l : ℕ) where
   lane-transform T a h = transform-image lane-respects T a h
 
   pub row-run : (k : ℕ) (g p : List ℕ) → length p ≡ 2 ^ k * length q
-      → rowOf (length q) l (2 ^ k) (transformAt q k g p) ≡ transform (numbers (fieldBy q)) (mapMults (lane l) (treeOf q k g)) (rowOf (length q) l (2 ^ k) p)
+      → laneRow (length q) l (2 ^ k) (transformAt q k g p) ≡ transform (numbers (fieldBy q)) (mapMults (lane l) (treeOf q k g)) (laneRow (length q) l (2 ^ k) p)
   row-run k g p h =
-      ap (λ s. rowOf (length q) l (2 ^ k) (transformAt q k g s)) (sym (flat-vectors (length q) (2 ^ k) p h))
-      ∙ ap (rowOf (length q) l (2 ^ k)) (transform-rows q k g vs (length-vectors (length q) (2 ^ k) p) (all-vectors (length q) (2 ^ k) p))
-      ∙ ap (λ n. rowOf (length q) l n (flat (transform (planeOps q) (treeOf q k g) vs))) (sym (length-transform q k g vs (length-vectors (length q) (2 ^ k) p)))
+      ap (λ s. laneRow (length q) l (2 ^ k) (transformAt q k g s)) (sym (flat-vectors (length q) (2 ^ k) p h))
+      ∙ ap (laneRow (length q) l (2 ^ k)) (transform-rows q k g vs (length-vectors (length q) (2 ^ k) p) (all-vectors (length q) (2 ^ k) p))
+      ∙ ap (λ n. laneRow (length q) l n (flat (transform (planeOps q) (treeOf q k g) vs))) (sym (length-transform q k g vs (length-vectors (length q) (2 ^ k) p)))
       ∙ row-flat (length q) l (transform (planeOps q) (treeOf q k g) vs) (all-transform lane-respects (treeOf q k g) vs (all-vectors (length q) (2 ^ k) p))
       ∙ lane-transform (treeOf q k g) vs (all-vectors (length q) (2 ^ k) p)
       ∙ ap (transform (numbers (fieldBy q)) (mapMults (lane l) (treeOf q k g))) (sym (row-vectors (length q) l (2 ^ k) p))
@@ -160,7 +160,7 @@ module _ (F : Field) (zero-right : (x : ℕ) → mul F x 0 ≡ 0) where
           (λ i k. getD-add (numbers F) (λ x. refl) xor-zero-r s (drop h a) i ∙ ap (bitXor (getD s i 0)) (getD-drop h a i 0) ∙ sym (at i (omega (arith, length-add s (drop h a) h ns (length-drop h a ∙ omega arith))) .1))
 
 -- the transform keeps the number of words
-pub length-at : (q : List ℕ) (ok : Digits q) (k : ℕ) (g p : List ℕ) → length p ≡ 2 ^ k * length q → length (transformAt q k g p) ≡ 2 ^ k * length q
+pub length-at : (q : List ℕ) (ok : BinaryDigits q) (k : ℕ) (g p : List ℕ) → length p ≡ 2 ^ k * length q → length (transformAt q k g p) ≡ 2 ^ k * length q
 length-at q ok k g p h =
     ap (λ s. length (transformAt q k g s)) (sym (flat-vectors (length q) (2 ^ k) p h))
     ∙ ap length (transform-rows q k g vs (length-vectors (length q) (2 ^ k) p) (all-vectors (length q) (2 ^ k) p))
@@ -178,16 +178,16 @@ module _ (m l h : ℕ) (p : List ℕ) (n : length p ≡ (h + h) * m) where
   pub length-upper : length (drop (h * m) p) ≡ h * m
   length-upper = length-drop (h * m) p ∙ omega (arith, add-mul h h m)
 
-  both-halves : rowOf m l (h + h) p ≡ rowOf m l h (take (h * m) p) ++ rowOf m l h (drop (h * m) p)
-  both-halves = ap (rowOf m l (h + h)) (sym (take-append-drop (h * m) p)) ∙ row-append m l h h (take (h * m) p) (drop (h * m) p) length-lower length-upper
+  both-halves : laneRow m l (h + h) p ≡ laneRow m l h (take (h * m) p) ++ laneRow m l h (drop (h * m) p)
+  both-halves = ap (laneRow m l (h + h)) (sym (take-append-drop (h * m) p)) ∙ row-append m l h h (take (h * m) p) (drop (h * m) p) length-lower length-upper
 
-  pub lower-row : (i : ℕ) → i < h → getD (rowOf m l h (take (h * m) p)) i 0 ≡ lane l (wordsAt m p (i * m))
+  pub lower-row : (i : ℕ) → i < h → getD (laneRow m l h (take (h * m) p)) i 0 ≡ lane l (wordsAt m p (i * m))
   lower-row i k =
-      sym (List·getD-append (rowOf m l h (take (h * m) p)) (rowOf m l h (drop (h * m) p)) 0 i (omega (arith, length-row m l h (take (h * m) p))))
-      ∙ ap (λ s. getD s i 0) (sym both-halves) ∙ row-at m l (h + h) p i (omega arith)
+      sym (List·getD-append (laneRow m l h (take (h * m) p)) (laneRow m l h (drop (h * m) p)) 0 i (omega (arith, length-row m l h (take (h * m) p))))
+      ∙ ap (λ s. getD s i 0) (sym both-halves) ∙ laneRow-at m l (h + h) p i (omega arith)
 
-  pub upper-row : (i : ℕ) → i < h → getD (rowOf m l h (drop (h * m) p)) i 0 ≡ lane l (wordsAt m p ((h + i) * m))
+  pub upper-row : (i : ℕ) → i < h → getD (laneRow m l h (drop (h * m) p)) i 0 ≡ lane l (wordsAt m p ((h + i) * m))
   upper-row i k =
-      sym (ap (λ j. getD (rowOf m l h (take (h * m) p) ++ rowOf m l h (drop (h * m) p)) (j + i) 0) (sym (length-row m l h (take (h * m) p)))
-      ∙ getD-append-add (rowOf m l h (take (h * m) p)) (rowOf m l h (drop (h * m) p)) i 0)
-      ∙ ap (λ s. getD s (h + i) 0) (sym both-halves) ∙ row-at m l (h + h) p (h + i) (omega arith)
+      sym (ap (λ j. getD (laneRow m l h (take (h * m) p) ++ laneRow m l h (drop (h * m) p)) (j + i) 0) (sym (length-row m l h (take (h * m) p)))
+      ∙ getD-append-add (laneRow m l h (take (h * m) p)) (laneRow m l h (drop (h * m) p)) i 0)
+      ∙ ap (λ s. getD s (h + i) 0) (sym both-halves) ∙ laneRow-at m l (h + h) p (h + i) (omega arith)

@@ -17,16 +17,16 @@ use mathlib.Core.Bool.{true}
 use Rattle.algebra.specs.Polynomial.{Below}
 use Rattle.slices.specs.Bounded.{allZero}
 use Rattle.slices.proofs.Bounded.{allZero-exactly}
-use Rattle.poly_values.proofs.Tail.{lent, back}
+use Rattle.poly_values.proofs.Tail.{lent-tail, back}
 use Rattle.poly_values.proofs.Image.{all-take}
 use Rattle.field.specs.Field.{Field, mul, numbers}
-use Rattle.field.proofs.Ring.{Monic, mul-comm, mul-zero-r}
+use Rattle.field.proofs.Ring.{FullDegree, mul-comm, mul-zero-r}
 use Rattle.poly_values.specs.Transform.{Mults, leaf, node, transform, mapMults}
-use Rattle.poly_values.specs.Planes.{lane, wordsAt, sumWords, spreadWords, fieldBy, treeOf, transformAt, halvesAt, rowOf, Multiple, Spread, Firsts, Started}
-use Rattle.poly_values.proofs.Planes.{Digits, lane-sum, sum-words}
+use Rattle.poly_values.specs.Planes.{lane, wordsAt, sumWords, spreadWords, fieldBy, treeOf, transformAt, halvesAt, laneRow, Multiple, Spread, Firsts, RowStarted}
+use Rattle.poly_values.proofs.Planes.{BinaryDigits, lane-sum, sum-words}
 use Rattle.poly_values.proofs.Lists.{length-tabulate, getD-zeros}
 use Rattle.poly_values.proofs.Scalars.{spread-is}
-use Rattle.poly_values.proofs.Lanes.{length-row, row-at, row-append, row-run, width-tree, node-by, length-at, lower-row, upper-row, length-lower, length-upper}
+use Rattle.poly_values.proofs.Lanes.{length-row, laneRow-at, row-append, row-run, width-tree, node-by, length-at, lower-row, upper-row, length-lower, length-upper}
 use Rattle.poly_values.proofs.Starting.{words-same, words-other}
 
 -- x in the first place of a
@@ -48,15 +48,15 @@ pub record Pair (q x e : List ℕ) (y : ℕ) (s t : List ℕ) : Type 0 where
   pub lane-s : (l : ℕ) → lane l s ≡ bitXor (lane l x) (mul (fieldBy q) (lane l e) y)
   pub lane-t : (l : ℕ) → l < 64 → lane l t ≡ bitXor (lane l s) y
 
-module _ (q : List ℕ) (ok : Digits q) (monic : Monic (fieldBy q)) where
+module _ (q : List ℕ) (ok : BinaryDigits q) (monic : FullDegree (fieldBy q)) where
   abbrev F : Field
   F = fieldBy q
 
   abbrev m : ℕ
   m = length q
 
-  pub start-leaf : {g x a p p′ : List ℕ} → length x ≡ m → length a ≡ 1 → length p ≡ m → p′ ≡ paste p 0 x m → Started q 0 g x a p p′
-  unfolding rowOf treeOf mapMults transform
+  pub start-leaf : {g x a p p′ : List ℕ} → length x ≡ m → length a ≡ 1 → length p ≡ m → p′ ≡ paste p 0 x m → RowStarted q 0 g x a p p′
+  unfolding laneRow treeOf mapMults transform
   start-leaf {g} {x} {a} {p} {p′} nx na np e = record {
     long = ap length e ∙ length-paste p 0 x m (omega (arith, np)) (omega (arith, nx));
     rows = λ l h. ap (λ y. y ∷ []) (ap (λ w. lane l (wordsAt m w 0)) e ∙ ap (lane l) (words-same p x 0 m (omega (arith, np)) nx)) ∙ ap (λ s. lane l x ∷ s) (sym (none a na));
@@ -82,15 +82,15 @@ module _ (q : List ℕ) (ok : Digits q) (monic : Monic (fieldBy q)) where
   module _ {x e s t : List ℕ} {y : ℕ} (both : Pair q x e y s t) where
     -- nothing but y above the half
     pub start-low : (k h : ℕ) {g a p r z p′ : List ℕ} → h ≡ 2 ^ k → length a ≡ h + h → y ≡ getD a h 0 → ((i : ℕ) → h < i → getD a i 0 ≡ 0) → e ≡ wordsAt m g 0
-        → length p ≡ (h + h) * m → Started q k (drop m g) s (take h a) (take (h * m) p) r → Started q k (drop (h * m) g) t (take h a) (drop (h * m) p) z → p′ ≡ r ++ z
-        → Started q (suc k) g x a p p′
+        → length p ≡ (h + h) * m → RowStarted q k (drop m g) s (take h a) (take (h * m) p) r → RowStarted q k (drop (h * m) g) t (take h a) (drop (h * m) p) z → p′ ≡ r ++ z
+        → RowStarted q (suc k) g x a p p′
     unfolding treeOf mapMults
     start-low k h {g} {a} {p} {r} {z} {p′} hk na ey above ee np R Z e′ = record {
       long = ap length e′ ∙ length-append r z ∙ omega (arith, nr, nz, np, add-mul h h m);
       rows = λ l d.
-          ap₂ (λ i w. rowOf m l i w) (omega (arith, pow-suc 2 k, hk)) e′
+          ap₂ (λ i w. laneRow m l i w) (omega (arith, pow-suc 2 k, hk)) e′
           ∙ row-append m l h h r z nr nz
-          ∙ ap₂ _++_ (ap (λ i. rowOf m l i r) hk ∙ R .rows l d) (ap (λ i. rowOf m l i z) hk ∙ Z .rows l d)
+          ∙ ap₂ _++_ (ap (λ i. laneRow m l i r) hk ∙ R .rows l d) (ap (λ i. laneRow m l i z) hk ∙ Z .rows l d)
           ∙ sym (node-by F (mul-zero-r F monic) (lane l e) h (mapMults (lane l) (treeOf q k (drop m g))) (mapMults (lane l) (treeOf q k (drop (h * m) g)))
           (withFirst (lane l x) a) (withFirst (lane l s) (take h a)) (withFirst (lane l t) (take h a))
           (width-tree q l k (drop m g) ∙ sym hk) (length-first (lane l x) a (omega (arith, some)) ∙ na) (length-first (lane l s) (take h a) (omega (arith, nh, some)) ∙ nh) (length-first (lane l t) (take h a) (omega (arith, nh, some)) ∙ nh)
@@ -134,17 +134,17 @@ module _ (q : List ℕ) (ok : Digits q) (monic : Monic (fieldBy q)) where
     -- the first butterflies of all coefficients
     pub start-full : (k h : ℕ) {g a p p₁ p₂ p₃ p′ : List ℕ} → h ≡ 2 ^ k → length a ≡ h + h → y ≡ getD a h 0 → e ≡ wordsAt m g 0
         → length p ≡ (h + h) * m → Firsts q e a h h p p₁ → p₂ ≡ paste p₁ 0 s m → p₃ ≡ paste p₂ (h * m) t m → p′ ≡ halvesAt q k h g p₃
-        → Started q (suc k) g x a p p′
+        → RowStarted q (suc k) g x a p p′
     unfolding treeOf mapMults
     start-full k h {g} {a} {p} {p₁} {p₂} {p₃} {p′} hk na ey ee np fs e₂ e₃ e′ = record {
       long = ap length e′ ∙ length-append lo hi ∙ omega (arith, nlo, nhi, np, add-mul h h m);
       rows = λ l d.
-          ap₂ (λ i w. rowOf m l i w) (omega (arith, pow-suc 2 k, hk)) e′
+          ap₂ (λ i w. laneRow m l i w) (omega (arith, pow-suc 2 k, hk)) e′
           ∙ row-append m l h h lo hi nlo nhi
-          ∙ ap₂ _++_ (ap (λ i. rowOf m l i lo) hk ∙ row-run q ok l k (drop m g) (take (h * m) p₃) (length-lower m 0 h p₃ n₃ ∙ ap (λ i. i * m) hk) ∙ ap (λ i. transform (numbers F) (mapMults (lane l) (treeOf q k (drop m g))) (rowOf m l i (take (h * m) p₃))) (sym hk))
-          (ap (λ i. rowOf m l i hi) hk ∙ row-run q ok l k (drop (h * m) g) (drop (h * m) p₃) (length-upper m 0 h p₃ n₃ ∙ ap (λ i. i * m) hk) ∙ ap (λ i. transform (numbers F) (mapMults (lane l) (treeOf q k (drop (h * m) g))) (rowOf m l i (drop (h * m) p₃))) (sym hk))
+          ∙ ap₂ _++_ (ap (λ i. laneRow m l i lo) hk ∙ row-run q ok l k (drop m g) (take (h * m) p₃) (length-lower m 0 h p₃ n₃ ∙ ap (λ i. i * m) hk) ∙ ap (λ i. transform (numbers F) (mapMults (lane l) (treeOf q k (drop m g))) (laneRow m l i (take (h * m) p₃))) (sym hk))
+          (ap (λ i. laneRow m l i hi) hk ∙ row-run q ok l k (drop (h * m) g) (drop (h * m) p₃) (length-upper m 0 h p₃ n₃ ∙ ap (λ i. i * m) hk) ∙ ap (λ i. transform (numbers F) (mapMults (lane l) (treeOf q k (drop (h * m) g))) (laneRow m l i (drop (h * m) p₃))) (sym hk))
           ∙ sym (node-by F (mul-zero-r F monic) (lane l e) h (mapMults (lane l) (treeOf q k (drop m g))) (mapMults (lane l) (treeOf q k (drop (h * m) g)))
-          (withFirst (lane l x) a) (rowOf m l h (take (h * m) p₃)) (rowOf m l h (drop (h * m) p₃))
+          (withFirst (lane l x) a) (laneRow m l h (take (h * m) p₃)) (laneRow m l h (drop (h * m) p₃))
           (width-tree q l k (drop m g) ∙ sym hk) (length-first (lane l x) a (omega (arith, some)) ∙ na) (length-row m l h (take (h * m) p₃)) (length-row m l h (drop (h * m) p₃))
           (λ i j. (lower-row m l h p₃ n₃ i j ∙ low l d i j, upper-row m l h p₃ n₃ i j ∙ up l d i j ∙ ap (λ u. bitXor u (getD (withFirst (lane l x) a) (h + i) 0)) (sym (lower-row m l h p₃ n₃ i j)))))
           ∙ ap₂ (λ v i. transform (numbers F) (node (lane l v) (mapMults (lane l) (treeOf q k (drop m g))) (mapMults (lane l) (treeOf q k (drop (i * m) g)))) (withFirst (lane l x) a)) ee hk;
@@ -209,11 +209,11 @@ module _ (q : List ℕ) (ok : Digits q) (monic : Monic (fieldBy q)) where
   -- what `start` does with its two halves
   pub low-joined : (k h : ℕ) {x e s t : List ℕ} {y : ℕ} → Pair q x e y s t → {g a p r z : List ℕ} → 0 < k → h ≡ 2 ^ (k - 1) → length a ≡ h + h → y ≡ getD a h 0
       → ((i : ℕ) → h < i → getD a i 0 ≡ 0) → e ≡ wordsAt m g 0 → length p ≡ (h + h) * m
-      → Started q (k - 1) (take (length g - m) (drop m g)) s (take h a) (take (h * m - 0) p) r
-      → Started q (k - 1) (take (length g - h * m) (drop (h * m) g)) t (take h a) (take (length (r ++ drop (h * m - 0) p) - h * m) (drop (h * m) (r ++ drop (h * m - 0) p))) z
-      → Started q k g x a p (putMid (h * m) (length (r ++ drop (h * m - 0) p) - h * m) (r ++ drop (h * m - 0) p) z)
+      → RowStarted q (k - 1) (take (length g - m) (drop m g)) s (take h a) (take (h * m - 0) p) r
+      → RowStarted q (k - 1) (take (length g - h * m) (drop (h * m) g)) t (take h a) (take (length (r ++ drop (h * m - 0) p) - h * m) (drop (h * m) (r ++ drop (h * m - 0) p))) z
+      → RowStarted q k g x a p (putMid (h * m) (length (r ++ drop (h * m - 0) p) - h * m) (r ++ drop (h * m - 0) p) z)
   low-joined k h {x} {e} {s} {t} {y} both {g} {a} {p} {r} {z} some hk na ey above ee np R Z =
-      subst (λ (n : ℕ). Started q n g x a p (putMid u (length (r ++ drop (u - 0) p) - u) (r ++ drop (u - 0) p) z)) (sym down)
+      subst (λ (n : ℕ). RowStarted q n g x a p (putMid u (length (r ++ drop (u - 0) p) - u) (r ++ drop (u - 0) p) z)) (sym down)
       (start-low both (k - 1) h hk na ey above ee np R′ Z′ (back (r ++ drop (u - 0) p) z u ∙ ap (λ l. l ++ z) (take-at r (drop (u - 0) p) u nr)))
     where
       u : ℕ
@@ -225,15 +225,15 @@ module _ (q : List ℕ) (ok : Digits q) (monic : Monic (fieldBy q)) where
       nought : u - 0 ≡ u
       nought = omega arith
 
-      R′ : Started q (k - 1) (drop m g) s (take h a) (take u p) r
-      R′ = subst (λ (l : List ℕ). Started q (k - 1) l s (take h a) (take u p) r) (lent g m) (subst (λ (n : ℕ). Started q (k - 1) (take (length g - m) (drop m g)) s (take h a) (take n p) r) nought R)
+      R′ : RowStarted q (k - 1) (drop m g) s (take h a) (take u p) r
+      R′ = subst (λ (l : List ℕ). RowStarted q (k - 1) l s (take h a) (take u p) r) (lent-tail g m) (subst (λ (n : ℕ). RowStarted q (k - 1) (take (length g - m) (drop m g)) s (take h a) (take n p) r) nought R)
 
       nr : length r ≡ u
       nr = R′ .long ∙ length-lower m 0 h p np
 
-      Z′ : Started q (k - 1) (drop u g) t (take h a) (drop u p) z
-      Z′ = subst (λ (l : List ℕ). Started q (k - 1) l t (take h a) (drop u p) z) (lent g u)
-          (subst (λ (l : List ℕ). Started q (k - 1) (take (length g - u) (drop u g)) t (take h a) l z) (lent (r ++ drop (u - 0) p) u ∙ drop-at r (drop (u - 0) p) u nr ∙ ap (λ i. drop i p) nought) Z)
+      Z′ : RowStarted q (k - 1) (drop u g) t (take h a) (drop u p) z
+      Z′ = subst (λ (l : List ℕ). RowStarted q (k - 1) l t (take h a) (drop u p) z) (lent-tail g u)
+          (subst (λ (l : List ℕ). RowStarted q (k - 1) (take (length g - u) (drop u g)) t (take h a) l z) (lent-tail (r ++ drop (u - 0) p) u ∙ drop-at r (drop (u - 0) p) u nr ∙ ap (λ i. drop i p) nought) Z)
 
 -- ---- nothing above the half
 
@@ -241,7 +241,7 @@ pub above-zero : (a : List ℕ) (h : ℕ) → allZero (take (length a - (h + 1))
 above-zero a h e i k =
     let d : i ≡ h + 1 + (i - (h + 1)) = omega arith in
     ap (λ j. getD a j 0) d ∙ sym (getD-drop (h + 1) a (i - (h + 1)) 0)
-    ∙ ap (λ l. getD l (i - (h + 1)) 0) (sym (lent a (h + 1)) ∙ allZero-exactly (take (length a - (h + 1)) (drop (h + 1) a)) .0 e)
+    ∙ ap (λ l. getD l (i - (h + 1)) 0) (sym (lent-tail a (h + 1)) ∙ allZero-exactly (take (length a - (h + 1)) (drop (h + 1) a)) .0 e)
     ∙ getD-zeros (length (take (length a - (h + 1)) (drop (h + 1) a))) (i - (h + 1))
 
 pub below-take : (b n : ℕ) (a : List ℕ) → Below b a → Below b (take n a)

@@ -18,13 +18,13 @@ use Rattle.algebra.specs.Field.{Ops}
 use Rattle.algebra.specs.Trial.{All}
 use Rattle.algebra.specs.Polynomial.{Below}
 use Rattle.field.specs.Field.{Field, size, mul, numbers}
-use Rattle.field.proofs.Table.{both, both-left, both-right}
-use Rattle.field.proofs.Additive.{Additive, linear, basis, by-basis}
+use Rattle.field.proofs.Table.{bothTrue, bothTrue-left, bothTrue-right}
+use Rattle.field.proofs.Additive.{Additive, linearMap, basis, by-basis}
 use Rattle.field.proofs.Xor.{xor-assoc, xor-cancel, xor-swap}
-use Rattle.field.proofs.Ring.{RingLaws, ring, Monic}
+use Rattle.field.proofs.Ring.{RingLaws, ring, FullDegree}
 use Rattle.poly_values.specs.Transform.{Mults, leaf, node, mults, mapMults}
-use Rattle.poly_values.specs.Basis.{Step, vanishing, Right, levels, next, Columns}
-use Rattle.poly_values.specs.Planes.{lane, number, wordsAt, treeOf, lanes, columnsOf, fieldBy, taps11}
+use Rattle.poly_values.specs.Basis.{Step, vanishing, RightSteps, levels, nextColumn, Columns}
+use Rattle.poly_values.specs.Planes.{lane, digitsNumber, wordsAt, treeOf, lanes, columnsOf, fieldBy, taps11}
 use Rattle.poly_values.specs.Tables.{steps11, TreeTable, TopTable, ColumnTable}
 use Rattle.poly_values.proofs.Numbers.{StepBelow}
 use Rattle.poly_values.proofs.Scalars.{words-next}
@@ -33,9 +33,9 @@ use Rattle.poly_values.proofs.Scalars.{words-next}
 
 -- the lanes l, l + 1, .. of v, n of them, hold the values at off + l of the additive map with the values vs at 1, 2, 4, ..
 unfoldable pub laneTest : List ℕ → ℕ → ℕ → ℕ → List ℕ → Bool
-unfolding linear lane
+unfolding linearMap lane
 laneTest vs off l zero v = true
-laneTest vs off l (suc n) v = both (eqb (lane l v) (linear vs (bitXor off l))) (laneTest vs off (suc l) n v)
+laneTest vs off l (suc n) v = bothTrue (eqb (lane l v) (linearMap vs (bitXor off l))) (laneTest vs off (suc l) n v)
 
 -- the map of a level
 unfoldable pub partOf : Field → Step ℕ → List (Step ℕ) → ℕ → ℕ
@@ -46,8 +46,8 @@ unfoldable pub treeTest : Field → List (Step ℕ) → ℕ → List ℕ → Boo
 unfolding laneTest partOf basis
 treeTest F [] off g = true
 treeTest F (s ∷ B) off g =
-    both (laneTest (basis (partOf F s B) (F .degree)) off 0 64 (wordsAt (F .degree) g 0))
-    (both (treeTest F B off (drop (F .degree) g)) (treeTest F B (bitXor off (s .step)) (drop (2 ^ length B * F .degree) g)))
+    bothTrue (laneTest (basis (partOf F s B) (F .degree)) off 0 64 (wordsAt (F .degree) g 0))
+    (bothTrue (treeTest F B off (drop (F .degree) g)) (treeTest F B (bitXor off (s .step)) (drop (2 ^ length B * F .degree) g)))
 
 unfoldable pub topTest : Field → List (Step ℕ) → List ℕ → Bool
 unfolding laneTest vanishing mul basis
@@ -57,50 +57,50 @@ unfoldable pub same : List ℕ → List ℕ → Bool
 same [] [] = true
 same [] (y ∷ b) = false
 same (x ∷ a) [] = false
-same (x ∷ a) (y ∷ b) = both (eqb x y) (same a b)
+same (x ∷ a) (y ∷ b) = bothTrue (eqb x y) (same a b)
 
 pub same-is : (a b : List ℕ) → T (same a b) → a ≡ b
 unfolding same
 same-is [] [] t = refl
 same-is [] (y ∷ b) t = absurd t
 same-is (x ∷ a) [] t = absurd t
-same-is (x ∷ a) (y ∷ b) t = ap₂ _∷_ (eqb→eq x y (both-left (eqb x y) (same a b) t)) (same-is a b (both-right (eqb x y) (same a b) t))
+same-is (x ∷ a) (y ∷ b) t = ap₂ _∷_ (eqb→eq x y (bothTrue-left (eqb x y) (same a b) t)) (same-is a b (bothTrue-right (eqb x y) (same a b) t))
 
 unfoldable pub columnTest : Field → List (Step ℕ) → List ℕ → List (List ℕ) → Bool
-unfolding next mul same
+unfolding nextColumn mul same
 columnTest F B a [] = true
-columnTest F B a (b ∷ bs) = both (eqb (getD a (2 ^ length B) 0) 0) (both (same (next (numbers F) B a) b) (columnTest F B b bs))
+columnTest F B a (b ∷ bs) = bothTrue (eqb (getD a (2 ^ length B) 0) 0) (bothTrue (same (nextColumn (numbers F) B a) b) (columnTest F B b bs))
 
 pub columns-right : (F : Field) (B : List (Step ℕ)) (a : List ℕ) (bs : List (List ℕ)) → T (columnTest F B a bs) → Columns (numbers F) B a bs
 unfolding columnTest
 columns-right F B a [] t = tt
 columns-right F B a (b ∷ bs) t = (
-  eqb→eq (getD a (2 ^ length B) 0) 0 (both-left (eqb (getD a (2 ^ length B) 0) 0) rest t),
-  same-is (next (numbers F) B a) b (both-left (same (next (numbers F) B a) b) (columnTest F B b bs) (both-right (eqb (getD a (2 ^ length B) 0) 0) rest t)),
-  columns-right F B b bs (both-right (same (next (numbers F) B a) b) (columnTest F B b bs) (both-right (eqb (getD a (2 ^ length B) 0) 0) rest t)),
+  eqb→eq (getD a (2 ^ length B) 0) 0 (bothTrue-left (eqb (getD a (2 ^ length B) 0) 0) rest t),
+  same-is (nextColumn (numbers F) B a) b (bothTrue-left (same (nextColumn (numbers F) B a) b) (columnTest F B b bs) (bothTrue-right (eqb (getD a (2 ^ length B) 0) 0) rest t)),
+  columns-right F B b bs (bothTrue-right (same (nextColumn (numbers F) B a) b) (columnTest F B b bs) (bothTrue-right (eqb (getD a (2 ^ length B) 0) 0) rest t)),
 )
   where
     rest : Bool
-    rest = both (same (next (numbers F) B a) b) (columnTest F B b bs)
+    rest = bothTrue (same (nextColumn (numbers F) B a) b) (columnTest F B b bs)
 
 -- n lanes from l on are 0
 unfoldable pub zeroTest : ℕ → ℕ → List ℕ → Bool
 unfolding lane
 zeroTest l zero v = true
-zeroTest l (suc n) v = both (eqb (lane l v) 0) (zeroTest (suc l) n v)
+zeroTest l (suc n) v = bothTrue (eqb (lane l v) 0) (zeroTest (suc l) n v)
 
 zeros-right : (l n : ℕ) (v : List ℕ) → T (zeroTest l n v) → (k : ℕ) → k < n → lane (l + k) v ≡ 0
 unfolding zeroTest
 zeros-right l zero v t k h = absurd (omega arith)
-zeros-right l (suc n) v t zero h = ap (λ i. lane i v) (add-zero l) ∙ eqb→eq (lane l v) 0 (both-left (eqb (lane l v) 0) (zeroTest (suc l) n v) t)
+zeros-right l (suc n) v t zero h = ap (λ i. lane i v) (add-zero l) ∙ eqb→eq (lane l v) 0 (bothTrue-left (eqb (lane l v) 0) (zeroTest (suc l) n v) t)
 zeros-right l (suc n) v t (suc k) h =
-    ap (λ i. lane i v) (add-suc l k ∙ sym (suc-add l k)) ∙ zeros-right (suc l) n v (both-right (eqb (lane l v) 0) (zeroTest (suc l) n v) t) k (omega arith)
+    ap (λ i. lane i v) (add-suc l k ∙ sym (suc-add l k)) ∙ zeros-right (suc l) n v (bothTrue-right (eqb (lane l v) 0) (zeroTest (suc l) n v) t) k (omega arith)
 
 -- of the vectors from the j-th on, c and one more, each has nothing above its own lane
 unfoldable pub aboveTest : ℕ → ℕ → ℕ → List ℕ → Bool
 unfolding zeroTest
 aboveTest m j zero g = true
-aboveTest m j (suc c) g = both (zeroTest (suc j) (suc c) (wordsAt m g 0)) (aboveTest m (suc j) c (drop m g))
+aboveTest m j (suc c) g = bothTrue (zeroTest (suc j) (suc c) (wordsAt m g 0)) (aboveTest m (suc j) c (drop m g))
 
 above-right : (m j c : ℕ) (g : List ℕ) → T (aboveTest m j c g) → (i l : ℕ) → j + i < l → l ≤ j + c → lane l (wordsAt m g (i * m)) ≡ 0
 unfolding aboveTest
@@ -108,10 +108,10 @@ above-right m j zero g t i l h k = absurd (omega arith)
 above-right m j (suc c) g t zero l h k =
     let d : suc j + (l - suc j) ≡ l = omega arith in
     ap₂ (λ i n. lane i (wordsAt m g n)) (sym d) (zero-mul m)
-    ∙ zeros-right (suc j) (suc c) (wordsAt m g 0) (both-left (zeroTest (suc j) (suc c) (wordsAt m g 0)) (aboveTest m (suc j) c (drop m g)) t) (l - suc j) (omega arith)
+    ∙ zeros-right (suc j) (suc c) (wordsAt m g 0) (bothTrue-left (zeroTest (suc j) (suc c) (wordsAt m g 0)) (aboveTest m (suc j) c (drop m g)) t) (l - suc j) (omega arith)
 above-right m j (suc c) g t (suc i) l h k =
     ap (lane l) (sym (words-next m i g))
-    ∙ above-right m (suc j) c (drop m g) (both-right (zeroTest (suc j) (suc c) (wordsAt m g 0)) (aboveTest m (suc j) c (drop m g)) t) i l (omega arith) (omega arith)
+    ∙ above-right m (suc j) c (drop m g) (bothTrue-right (zeroTest (suc j) (suc c) (wordsAt m g 0)) (aboveTest m (suc j) c (drop m g)) t) i l (omega arith) (omega arith)
 
 -- ---- the laws
 
@@ -120,14 +120,14 @@ pub lanes-right : (m : ℕ) (e : ℕ → ℕ) → Additive e → (off l n : ℕ)
 unfolding laneTest
 lanes-right m e ad off l zero v t small k h = absurd (omega arith)
 lanes-right m e ad off l (suc n) v t small zero h =
-    ap (λ i. lane i v) (add-zero l) ∙ eqb→eq (lane l v) (linear (basis e m) (bitXor off l)) (both-left (eqb (lane l v) (linear (basis e m) (bitXor off l))) (laneTest (basis e m) off (suc l) n v) t)
+    ap (λ i. lane i v) (add-zero l) ∙ eqb→eq (lane l v) (linearMap (basis e m) (bitXor off l)) (bothTrue-left (eqb (lane l v) (linearMap (basis e m) (bitXor off l))) (laneTest (basis e m) off (suc l) n v) t)
     ∙ sym (by-basis m e ad (bitXor off l) (small l (omega arith))) ∙ ap (λ i. e (bitXor off i)) (sym (add-zero l))
 lanes-right m e ad off l (suc n) v t small (suc k) h =
     let i : l + suc k ≡ suc l + k = omega arith in
-    ap (λ j. lane j v) i ∙ lanes-right m e ad off (suc l) n v (both-right (eqb (lane l v) (linear (basis e m) (bitXor off l))) (laneTest (basis e m) off (suc l) n v) t)
+    ap (λ j. lane j v) i ∙ lanes-right m e ad off (suc l) n v (bothTrue-right (eqb (lane l v) (linearMap (basis e m) (bitXor off l))) (laneTest (basis e m) off (suc l) n v) t)
     (λ j d. small j (omega arith)) k (omega arith) ∙ ap (λ j. e (bitXor off j)) (sym i)
 
-module _ (F : Field) (monic : Monic F) where
+module _ (F : Field) (monic : FullDegree F) where
   open RingLaws (ring F monic) using (mul-comm, mul-xor-l, mul-xor-r)
 
   twice : (a b w : ℕ) → bitXor (bitXor a w) (bitXor b w) ≡ bitXor a b
@@ -159,8 +159,8 @@ module _ (F : Field) (monic : Monic F) where
     unfolding treeTest treeOf mapMults mults levels partOf
     tree-right [] small off hoff g t l h = refl
     tree-right (s ∷ B) small off hoff g t l h =
-        λ i. node (first i) (left (tree-right B (small .1) off hoff (drop (F .degree) g) (both-left lo hi (both-right here (both lo hi) t)) l h) i)
-        (right (tree-right B (small .1) (bitXor off (s .step)) (xor-lt (F .degree) off (s .step) hoff (small .0 .step)) (drop (2 ^ length B * F .degree) g) (both-right lo hi (both-right here (both lo hi) t)) l h) i)
+        λ i. node (first i) (left (tree-right B (small .1) off hoff (drop (F .degree) g) (bothTrue-left lo hi (bothTrue-right here (bothTrue lo hi) t)) l h) i)
+        (right (tree-right B (small .1) (bitXor off (s .step)) (xor-lt (F .degree) off (s .step) hoff (small .0 .step)) (drop (2 ^ length B * F .degree) g) (bothTrue-right lo hi (bothTrue-right here (bothTrue lo hi) t)) l h) i)
       where
         here : Bool
         here = laneTest (basis (partOf F s B) (F .degree)) off 0 64 (wordsAt (F .degree) g 0)
@@ -175,7 +175,7 @@ module _ (F : Field) (monic : Monic F) where
         first =
             ap (λ n. lane l (wordsAt n g 0)) (sym degree)
             ∙ ap (λ i. lane i (wordsAt (F .degree) g 0)) (sym (zero-add l))
-            ∙ lanes-right (F .degree) (partOf F s B) (part-xor s B) off 0 64 (wordsAt (F .degree) g 0) (both-left here (both lo hi) t) (λ k d. lane-below off k hoff (omega arith)) l h
+            ∙ lanes-right (F .degree) (partOf F s B) (part-xor s B) off 0 64 (wordsAt (F .degree) g 0) (bothTrue-left here (bothTrue lo hi) t) (λ k d. lane-below off k hoff (omega arith)) l h
             ∙ ap (λ i. partOf F s B (bitXor off i)) (zero-add l)
 
         left : mapMults (lane l) (treeOf q (length B) (drop (F .degree) g)) ≡ mults (numbers F) (levels (numbers F) B) (bitXor off l)
@@ -198,19 +198,19 @@ module _ (F : Field) (monic : Monic F) where
 -- ---- the tables of field 11
 
 unfoldable pub tableTest : List ℕ → List (Step ℕ) → ℕ → List ℕ → Bool
-unfolding same columnTest aboveTest columnsOf lanes number
+unfolding same columnTest aboveTest columnsOf lanes digitsNumber
 tableTest q B n g =
-    both (both (eqb (length g) (suc n * length q)) (aboveTest (length q) 0 n g))
-    (both (same (lanes 0 (suc (2 ^ length B)) (wordsAt (length q) g 0)) (1 ∷ replicate (2 ^ length B) 0))
+    bothTrue (bothTrue (eqb (length g) (suc n * length q)) (aboveTest (length q) 0 n g))
+    (bothTrue (same (lanes 0 (suc (2 ^ length B)) (wordsAt (length q) g 0)) (1 ∷ replicate (2 ^ length B) 0))
     (columnTest (fieldBy q) B (1 ∷ replicate (2 ^ length B) 0) (columnsOf (length q) (suc (2 ^ length B)) n (drop (length q) g))))
 
 pub columns-table : (q : List ℕ) (B : List (Step ℕ)) (n : ℕ) (g : List ℕ) → T (tableTest q B n g) → ColumnTable q B n g
 unfolding tableTest
 columns-table q B n g t = record {
-  long = eqb→eq (length g) (suc n * length q) (both-left long above (both-left shape rest t));
-  first = same-is (lanes 0 (suc (2 ^ length B)) (wordsAt (length q) g 0)) (1 ∷ replicate (2 ^ length B) 0) (both-left one others (both-right shape rest t));
-  others = columns-right (fieldBy q) B (1 ∷ replicate (2 ^ length B) 0) (columnsOf (length q) (suc (2 ^ length B)) n (drop (length q) g)) (both-right one others (both-right shape rest t));
-  above = λ j l h k. above-right (length q) 0 n g (both-right long above (both-left shape rest t)) j l (omega arith) (omega arith);
+  long = eqb→eq (length g) (suc n * length q) (bothTrue-left long above (bothTrue-left shape rest t));
+  first = same-is (lanes 0 (suc (2 ^ length B)) (wordsAt (length q) g 0)) (1 ∷ replicate (2 ^ length B) 0) (bothTrue-left one others (bothTrue-right shape rest t));
+  others = columns-right (fieldBy q) B (1 ∷ replicate (2 ^ length B) 0) (columnsOf (length q) (suc (2 ^ length B)) n (drop (length q) g)) (bothTrue-right one others (bothTrue-right shape rest t));
+  above = λ j l h k. above-right (length q) 0 n g (bothTrue-right long above (bothTrue-left shape rest t)) j l (omega arith) (omega arith);
 }
   where
     long : Bool
@@ -220,7 +220,7 @@ columns-table q B n g t = record {
     above = aboveTest (length q) 0 n g
 
     shape : Bool
-    shape = both long above
+    shape = bothTrue long above
 
     one : Bool
     one = same (lanes 0 (suc (2 ^ length B)) (wordsAt (length q) g 0)) (1 ∷ replicate (2 ^ length B) 0)
@@ -229,7 +229,7 @@ columns-table q B n g t = record {
     others = columnTest (fieldBy q) B (1 ∷ replicate (2 ^ length B) 0) (columnsOf (length q) (suc (2 ^ length B)) n (drop (length q) g))
 
     rest : Bool
-    rest = both one others
+    rest = bothTrue one others
 
 pub small11 : All (StepBelow 2048) steps11
 small11 = (
@@ -246,12 +246,12 @@ small11 = (
   ),
 )
 
-pub monic11 : Monic (fieldBy taps11)
-unfolding number
+pub monic11 : FullDegree (fieldBy taps11)
+unfolding digitsNumber
 monic11 = refl
 
-pub right11 : Right (numbers (fieldBy taps11)) steps11
-unfolding number vanishing mul
+pub right11 : RightSteps (numbers (fieldBy taps11)) steps11
+unfolding digitsNumber vanishing mul
 right11 = (refl, refl, (refl, refl, (refl, refl, (refl, refl, (refl, refl, tt)))))
 
 pub tree11 : (g : List ℕ) → T (treeTest (fieldBy taps11) steps11 0 g) → TreeTable taps11 steps11 g

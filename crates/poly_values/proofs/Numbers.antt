@@ -1,6 +1,6 @@
 -- The law of the transform, carried from field elements to numbers below the field's size.
---   lowStep     a step as numbers
---   values      the transform of the mixed columns gives the values of f at the points of the coset of c
+--   lowStep              a step as numbers
+--   transform-values     the transform of the mixed columns gives the values of f at the points of the coset of c
 -- Assumes nothing.
 use mathlib.Core.Path.{_≡_, refl, sym, ap, ap₂, _∙_, subst}
 use mathlib.Core.List.{List, [], _∷_, _++_, map}
@@ -12,7 +12,7 @@ use Rattle.algebra.specs.Trial.{All}
 use Rattle.algebra.specs.Polynomial.{add, eval, Below}
 use Rattle.algebra.proofs.Crossing.{Elem, elem-equal, elems, laws, low, low-add, low-scale, low-eval, lift, low-lift}
 use Rattle.poly_values.specs.Transform.{Level, Mults, node, points, scaled, transform, mults, mapMults}
-use Rattle.poly_values.specs.Basis.{Step, vanishing, Right, levels, joinRaised, raised, next, Columns, mix, onCoset}
+use Rattle.poly_values.specs.Basis.{Step, vanishing, RightSteps, levels, joinRaised, raisedIn, nextColumn, Columns, mix, onCoset}
 use Rattle.poly_values.proofs.Lists.{map-append}
 use Rattle.poly_values.proofs.Image.{Respects, transform-image, map-take, map-drop}
 use Rattle.poly_values.proofs.Basis.{mixed-values}
@@ -51,7 +51,7 @@ module _ {G : Ops ℕ} {q : ℕ} (N : OnNumbers G q) where
   low-vanishing [] z = refl
   low-vanishing (b ∷ B) z = ap (λ x. G .mul x (G .add x (b .unit .0))) (low-vanishing B z)
 
-  pub right-up : (B : List (Step (Elem q))) → Right G (lowSteps B) → Right E B
+  pub right-up : (B : List (Step (Elem q))) → RightSteps G (lowSteps B) → RightSteps E B
   right-up [] ok = tt
   right-up (b ∷ B) ok = (elem-equal (low-vanishing B (b .step) ∙ ok .0), elem-equal (ok .1), right-up B (ok .2))
 
@@ -72,13 +72,13 @@ module _ {G : Ops ℕ} {q : ℕ} (N : OnNumbers G q) where
   abbrev pub lowPair : List (Elem q) × Elem q → List ℕ × ℕ
   lowPair p = (low N (p .0), p .1 .0)
 
-  pub low-raised : (B : List (Step (Elem q))) (a : List (Elem q)) → lowPair (raised E B a) ≡ raised G (lowSteps B) (low N a)
-  unfolding raised
-  low-raised [] a = ap (λ x. (G .zero ∷ [], x)) (low-getD a 0)
-  low-raised (s ∷ B) a =
-      join (raised E B (take (2 ^ length B) a)) (raised E B (drop (2 ^ length B) a))
-      ∙ ap₂ (joinRaised G (lowStep s)) (low-raised B (take (2 ^ length B) a)) (low-raised B (drop (2 ^ length B) a))
-      ∙ ap₂ (λ x y. joinRaised G (lowStep s) (raised G (lowSteps B) x) (raised G (lowSteps B) y))
+  pub low-raisedIn : (B : List (Step (Elem q))) (a : List (Elem q)) → lowPair (raisedIn E B a) ≡ raisedIn G (lowSteps B) (low N a)
+  unfolding raisedIn
+  low-raisedIn [] a = ap (λ x. (G .zero ∷ [], x)) (low-getD a 0)
+  low-raisedIn (s ∷ B) a =
+      join (raisedIn E B (take (2 ^ length B) a)) (raisedIn E B (drop (2 ^ length B) a))
+      ∙ ap₂ (joinRaised G (lowStep s)) (low-raisedIn B (take (2 ^ length B) a)) (low-raisedIn B (drop (2 ^ length B) a))
+      ∙ ap₂ (λ x y. joinRaised G (lowStep s) (raisedIn G (lowSteps B) x) (raisedIn G (lowSteps B) y))
       (map-take φ (2 ^ length B) a ∙ ap (λ n. take (2 ^ n) (low N a)) (sym (length-map B lowStep)))
       (map-drop φ (2 ^ length B) a ∙ ap (λ n. drop (2 ^ n) (low N a)) (sym (length-map B lowStep)))
     where
@@ -86,12 +86,12 @@ module _ {G : Ops ℕ} {q : ℕ} (N : OnNumbers G q) where
       join lo hi = ap (λ l. (l, G .mul (hi .1 .0) (s .back .0)))
           (map-append φ (lo .0) (add E (hi .0) (_ ∷ [])) ∙ ap (λ l. low N (lo .0) ++ l) (low-add N (hi .0) (_ ∷ [])))
 
-  low-next : (B : List (Step (Elem q))) (a : List (Elem q)) → low N (next E B a) ≡ next G (lowSteps B) (low N a)
-  unfolding next
+  low-next : (B : List (Step (Elem q))) (a : List (Elem q)) → low N (nextColumn E B a) ≡ nextColumn G (lowSteps B) (low N a)
+  unfolding nextColumn
   low-next B a =
-      map-append φ (raised E B (take (2 ^ length B) a) .0) (_ ∷ [])
-      ∙ ap (λ p. p .0 ++ p .1 ∷ []) (low-raised B (take (2 ^ length B) a))
-      ∙ ap (λ l. raised G (lowSteps B) l .0 ++ raised G (lowSteps B) l .1 ∷ []) (map-take φ (2 ^ length B) a ∙ ap (λ n. take (2 ^ n) (low N a)) (sym (length-map B lowStep)))
+      map-append φ (raisedIn E B (take (2 ^ length B) a) .0) (_ ∷ [])
+      ∙ ap (λ p. p .0 ++ p .1 ∷ []) (low-raisedIn B (take (2 ^ length B) a))
+      ∙ ap (λ l. raisedIn G (lowSteps B) l .0 ++ raisedIn G (lowSteps B) l .1 ∷ []) (map-take φ (2 ^ length B) a ∙ ap (λ n. take (2 ^ n) (low N a)) (sym (length-map B lowStep)))
 
   -- two lists of elements with the same numbers are the same
   pub low-same : (a b : List (Elem q)) → low N a ≡ low N b → a ≡ b
@@ -108,7 +108,7 @@ module _ {G : Ops ℕ} {q : ℕ} (N : OnNumbers G q) where
   columns-up B a [] h = tt
   columns-up B a (b ∷ bs) h = (
     elem-equal (low-getD a (2 ^ length B) ∙ ap (λ n. getD (low N a) (2 ^ n) (G .zero)) (sym (length-map B lowStep)) ∙ h .0),
-    low-same (next E B a) b (low-next B a ∙ h .1),
+    low-same (nextColumn E B a) b (low-next B a ∙ h .1),
     columns-up B b bs (h .2),
   )
 
@@ -137,7 +137,7 @@ module _ {G : Ops ℕ} {q : ℕ} (N : OnNumbers G q) where
   anything [] = tt
   anything (x ∷ a) = (tt, anything a)
 
-  values-low : (B : List (Step (Elem q))) → Right G (lowSteps B) → (f z : List (Elem q)) (columns : List (List (Elem q))) → All (λ c. c ≡ E .zero) z
+  values-low : (B : List (Step (Elem q))) → RightSteps G (lowSteps B) → (f z : List (Elem q)) (columns : List (List (Elem q))) → All (λ c. c ≡ E .zero) z
       → 2 ^ length B ≤ length z → Columns G (lowSteps B) (low N (E .one ∷ z)) (lows columns) → 1 ≤ length f → length f ≤ suc (length columns) → (c : Elem q)
       → transform G (mults G (levels G (lowSteps B)) (φ c)) (onCoset G (lowSteps B) (mix G (low N f) (lows ((E .one ∷ z) ∷ columns))) (φ c))
       ≡ map (eval G (low N f)) (points G (levels G (lowSteps B)) (φ c))
@@ -176,13 +176,13 @@ module _ {G : Ops ℕ} {q : ℕ} (N : OnNumbers G q) where
   low-zeros (x ∷ l) h = ap₂ _∷_ (sym (h .0)) (low-zeros l (h .1))
 
   -- ---- THE LAW over numbers: B the steps, zeros and columns the columns (the first is 1 and the zeros), c the coset
-  pub values : (B : List (Step ℕ)) → All (StepBelow q) B → Right G B → (f : List ℕ) → Below q f → (z : List ℕ) → All (λ c. c ≡ G .zero) z
+  pub transform-values : (B : List (Step ℕ)) → All (StepBelow q) B → RightSteps G B → (f : List ℕ) → Below q f → (z : List ℕ) → All (λ c. c ≡ G .zero) z
       → (columns : List (List ℕ)) → All (Below q) columns → 2 ^ length B ≤ length z → Columns G B (G .one ∷ z) columns
       → 1 ≤ length f → length f ≤ suc (length columns) → (c : ℕ) → c < q
       → transform G (mults G (levels G B) c) (onCoset G B (mix G f ((G .one ∷ z) ∷ columns)) c) ≡ map (eval G f) (points G (levels G B) c)
   unfolding lows
-  values B small ok f fs z zeros columns cols n cs some h c below =
-      subst (λ (B : List (Step ℕ)). Right G B → 2 ^ length B ≤ length z → Columns G B (G .one ∷ z) columns
+  transform-values B small ok f fs z zeros columns cols n cs some h c below =
+      subst (λ (B : List (Step ℕ)). RightSteps G B → 2 ^ length B ≤ length z → Columns G B (G .one ∷ z) columns
       → transform G (mults G (levels G B) c) (onCoset G B (mix G f ((G .one ∷ z) ∷ columns)) c) ≡ map (eval G f) (points G (levels G B) c))
       (low-liftSteps B small)
       (λ ok n cs.

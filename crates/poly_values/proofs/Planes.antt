@@ -2,7 +2,7 @@
 --   lane-sum, lane-product, lane-doubled   what a sum, a product and a doubling do in each lane
 --   lane-is-zero      a lane is 0 exactly if the word of occupied lanes says so
 --   butterfly-from, butterflies-turn   one butterfly as the code stores it, one more of them
---   Digits            the digits of a polynomial, each 0 or 1
+--   BinaryDigits            the digits of a polynomial, each 0 or 1
 -- Assumes nothing.
 use mathlib.Core.Path.{_≡_, refl, sym, ap, ap₂, _∙_, subst}
 use mathlib.Core.List.{List, [], _∷_, _++_, map}
@@ -19,20 +19,20 @@ use Rattle.field.proofs.Digits.{bit-cases}
 use Rattle.field.proofs.CarryFree.{carryFree-step, carryFree-zero-l}
 use Rattle.field.proofs.Reduce.{reduce-zero, reduce-step, reduce-xor, reduce-double, reduce-below}
 use lib.Seq.{drop-cons, paste}
-use Rattle.poly_values.specs.Planes.{digit, lane, occupied, number, sum, tapped, taps, doubled, rows, tapWord, foldTop, folded, product, tabulate, sumWords, wordsAt, butterflySum, butterflyAt, butterfliesAt, transformAt, fieldBy}
+use Rattle.poly_values.specs.Planes.{binaryDigit, lane, occupied, digitsNumber, sum, tapped, taps, doubled, carryFreeWords, tapWord, foldTop, folded, laneProduct, tabulate, sumWords, wordsAt, butterflySum, butterflyAt, butterfliesAt, transformAt, fieldBy}
 
 -- ---- digits
 
-digit-xor : (l x y : ℕ) → digit l (bitXor x y) ≡ bitXor (digit l x) (digit l y)
+digit-xor : (l x y : ℕ) → binaryDigit l (bitXor x y) ≡ bitXor (binaryDigit l x) (binaryDigit l y)
 digit-xor l x y = ap (λ (n : ℕ). n % 2) (xor-shr x y l) ∙ xor-mod (x / 2 ^ l) (y / 2 ^ l) 1
 
-digit-and : (l x y : ℕ) → digit l (bitAnd x y) ≡ digit l x * digit l y
+digit-and : (l x y : ℕ) → binaryDigit l (bitAnd x y) ≡ binaryDigit l x * binaryDigit l y
 digit-and l x y =
     ap (λ (n : ℕ). n % 2) (and-shr x y l) ∙ and-mod (x / 2 ^ l) (y / 2 ^ l) 1
-    ∙ bit-cases (λ (d : ℕ). bitAnd d (digit l y) ≡ d * digit l y) (sym (zero-mul (digit l y)))
+    ∙ bit-cases (λ (d : ℕ). bitAnd d (binaryDigit l y) ≡ d * binaryDigit l y) (sym (zero-mul (binaryDigit l y)))
     (bit-cases (λ (e : ℕ). bitAnd 1 e ≡ 1 * e) refl refl (y / 2 ^ l)) (x / 2 ^ l)
 
-digit-lt : (l w : ℕ) → digit l w < 2
+digit-lt : (l w : ℕ) → binaryDigit l w < 2
 digit-lt l w = mod-lt (w / 2 ^ l) (zero-lt-suc 1)
 
 -- ---- lanes
@@ -45,10 +45,10 @@ lane-lt l (w ∷ p) = omega (arith, lane-lt l p, digit-lt l w, pow-suc 2 (length
 pub lane-sum : (l : ℕ) (a b : List ℕ) → lane l (sum a b) ≡ bitXor (lane l a) (lane l b)
 unfolding lane sum
 lane-sum l [] b = refl
-lane-sum l (x ∷ a) [] = sym (xor-zero-r (lane l a * 2 + digit l x))
+lane-sum l (x ∷ a) [] = sym (xor-zero-r (lane l a * 2 + binaryDigit l x))
 lane-sum l (x ∷ a) (y ∷ b) =
     ap₂ (λ (s t : ℕ). s * 2 + t) (lane-sum l a b) (digit-xor l x y)
-    ∙ sym (xor-block 1 (lane l a) (lane l b) (digit l x) (digit l y) (digit-lt l x) (digit-lt l y))
+    ∙ sym (xor-block 1 (lane l a) (lane l b) (binaryDigit l x) (binaryDigit l y) (digit-lt l x) (digit-lt l y))
 
 -- a digit times a number and a digit
 digit-times : (n a d : ℕ) → n % 2 * (a * 2 + d) ≡ (n % 2 * a) * 2 + n % 2 * d
@@ -56,11 +56,11 @@ digit-times n a d =
     bit-cases (λ (e : ℕ). e * (a * 2 + d) ≡ (e * a) * 2 + e * d)
     (omega (arith, zero-mul (a * 2 + d), zero-mul a, zero-mul d)) (omega (arith, one-mul (a * 2 + d), one-mul a, one-mul d)) n
 
-pub lane-scaled : (l w : ℕ) (b : List ℕ) → lane l (map (bitAnd w) b) ≡ digit l w * lane l b
+pub lane-scaled : (l w : ℕ) (b : List ℕ) → lane l (map (bitAnd w) b) ≡ binaryDigit l w * lane l b
 unfolding lane
-lane-scaled l w [] = sym (mul-zero (digit l w))
+lane-scaled l w [] = sym (mul-zero (binaryDigit l w))
 lane-scaled l w (y ∷ b) =
-    ap₂ (λ (s t : ℕ). s * 2 + t) (lane-scaled l w b) (digit-and l w y) ∙ sym (digit-times (w / 2 ^ l) (lane l b) (digit l y))
+    ap₂ (λ (s t : ℕ). s * 2 + t) (lane-scaled l w b) (digit-and l w y) ∙ sym (digit-times (w / 2 ^ l) (lane l b) (binaryDigit l y))
 
 pub lane-zero : (l n : ℕ) → lane l (replicate n 0) ≡ 0
 unfolding lane
@@ -70,43 +70,43 @@ lane-zero l (suc n) = ap₂ (λ (s t : ℕ). s * 2 + t) (lane-zero l n) (ap (λ 
 -- ---- doubling
 
 -- digits, each 0 or 1
-abbrev pub Digits : List ℕ → Type 0
-Digits [] = Unit {0}
-Digits (d ∷ q) = (d < 2) × Digits q
+abbrev pub BinaryDigits : List ℕ → Type 0
+BinaryDigits [] = Unit {0}
+BinaryDigits (d ∷ q) = (d < 2) × BinaryDigits q
 
-number-lt : (q : List ℕ) → Digits q → number q < 2 ^ length q
-unfolding number
+number-lt : (q : List ℕ) → BinaryDigits q → digitsNumber q < 2 ^ length q
+unfolding digitsNumber
 number-lt [] ok = zero-lt-suc 0
 number-lt (d ∷ q) ok = omega (arith, number-lt q (ok .1), ok .0, pow-suc 2 (length q))
 
-digit-tapped : (l d t w : ℕ) → d < 2 → digit l (tapped d t w) ≡ bitXor (digit l t * d) (digit l w)
-digit-tapped l zero t w h = ap (λ (n : ℕ). bitXor n (digit l w)) (sym (mul-zero (digit l t)))
+digit-tapped : (l d t w : ℕ) → d < 2 → binaryDigit l (tapped d t w) ≡ bitXor (binaryDigit l t * d) (binaryDigit l w)
+digit-tapped l zero t w h = ap (λ (n : ℕ). bitXor n (binaryDigit l w)) (sym (mul-zero (binaryDigit l t)))
 digit-tapped l (suc zero) t w h =
-    digit-xor l w t ∙ xor-comm (digit l w) (digit l t) ∙ ap (λ (n : ℕ). bitXor n (digit l w)) (sym (mul-one (digit l t)))
+    digit-xor l w t ∙ xor-comm (binaryDigit l w) (binaryDigit l t) ∙ ap (λ (n : ℕ). bitXor n (binaryDigit l w)) (sym (mul-one (binaryDigit l t)))
 digit-tapped l (suc (suc d)) t w h = absurd (omega arith)
 
-lane-taps : (l t : ℕ) (q s : List ℕ) → Digits q → length q ≤ length s
-    → lane l (taps t q s) ≡ bitXor (digit l t * number q) (lane l (take (length q) s))
-unfolding lane taps number
-lane-taps l t [] s ok h = sym (ap (λ (n : ℕ). bitXor n 0) (mul-zero (digit l t)))
+lane-taps : (l t : ℕ) (q s : List ℕ) → BinaryDigits q → length q ≤ length s
+    → lane l (taps t q s) ≡ bitXor (binaryDigit l t * digitsNumber q) (lane l (take (length q) s))
+unfolding lane taps digitsNumber
+lane-taps l t [] s ok h = sym (ap (λ (n : ℕ). bitXor n 0) (mul-zero (binaryDigit l t)))
 lane-taps l t (d ∷ q) [] ok h = absurd (omega arith)
 lane-taps l t (d ∷ q) (w ∷ s) ok h =
     ap₂ (λ (x y : ℕ). x * 2 + y) (lane-taps l t q s (ok .1) (omega arith)) (digit-tapped l d t w (ok .0))
-    ∙ sym (xor-block 1 (digit l t * number q) (lane l (take (length q) s)) (digit l t * d) (digit l w) small (digit-lt l w))
-    ∙ ap (λ (n : ℕ). bitXor n (lane l (take (length q) s) * 2 + digit l w)) (sym (digit-times (t / 2 ^ l) (number q) d))
+    ∙ sym (xor-block 1 (binaryDigit l t * digitsNumber q) (lane l (take (length q) s)) (binaryDigit l t * d) (binaryDigit l w) small (digit-lt l w))
+    ∙ ap (λ (n : ℕ). bitXor n (lane l (take (length q) s) * 2 + binaryDigit l w)) (sym (digit-times (t / 2 ^ l) (digitsNumber q) d))
   where
-    small : digit l t * d < 2
+    small : binaryDigit l t * d < 2
     small = bit-cases (λ (e : ℕ). e * d < 2) (omega (arith, zero-mul d)) (omega (arith, one-mul d, ok .0)) (t / 2 ^ l)
 
 -- a lane by its last word and the rest
-lane-last : (l n : ℕ) (s : List ℕ) → length s ≡ suc n → lane l s ≡ digit l (getD s n 0) * 2 ^ n + lane l (take n s)
+lane-last : (l n : ℕ) (s : List ℕ) → length s ≡ suc n → lane l s ≡ binaryDigit l (getD s n 0) * 2 ^ n + lane l (take n s)
 unfolding lane
 lane-last l n [] h = absurd (omega arith)
-lane-last l zero (w ∷ []) h = omega (arith, mul-one (digit l w))
+lane-last l zero (w ∷ []) h = omega (arith, mul-one (binaryDigit l w))
 lane-last l zero (w ∷ y ∷ s) h = absurd (omega arith)
 lane-last l (suc n) (w ∷ s) h =
-    ap (λ (x : ℕ). x * 2 + digit l w) (lane-last l n s (omega arith))
-    ∙ omega (arith, ap (λ (x : ℕ). digit l (getD s n 0) * x) (pow-suc 2 n) ∙ sym (mul-assoc (digit l (getD s n 0)) (2 ^ n) 2))
+    ap (λ (x : ℕ). x * 2 + binaryDigit l w) (lane-last l n s (omega arith))
+    ∙ omega (arith, ap (λ (x : ℕ). binaryDigit l (getD s n 0) * x) (pow-suc 2 n) ∙ sym (mul-assoc (binaryDigit l (getD s n 0)) (2 ^ n) 2))
 
 -- ---- lengths
 
@@ -136,11 +136,11 @@ length-other [] (y ∷ b) h = absurd (omega arith)
 length-other (x ∷ a) [] h = refl
 length-other (x ∷ a) (y ∷ b) h = ap suc (length-other a b (omega arith))
 
-pub length-rows : (a b : List ℕ) → length (rows a b) ≡ length a + length b
-unfolding rows
-length-rows [] b = length-replicate (length b) 0 ∙ sym (zero-add (length b))
-length-rows (w ∷ a) b =
-    length-longer (map (bitAnd w) b) (0 ∷ rows a b) (omega (arith, length-map b (bitAnd w), length-rows a b)) ∙ omega (arith, length-rows a b)
+pub length-carryFreeWords : (a b : List ℕ) → length (carryFreeWords a b) ≡ length a + length b
+unfolding carryFreeWords
+length-carryFreeWords [] b = length-replicate (length b) 0 ∙ sym (zero-add (length b))
+length-carryFreeWords (w ∷ a) b =
+    length-longer (map (bitAnd w) b) (0 ∷ carryFreeWords a b) (omega (arith, length-map b (bitAnd w), length-carryFreeWords a b)) ∙ omega (arith, length-carryFreeWords a b)
 
 pub length-top : (q : List ℕ) (k : ℕ) (t : List ℕ) → length t ≡ suc (length q + k) → length (foldTop q k t) ≡ length q + k
 unfolding foldTop
@@ -156,20 +156,20 @@ unfolding folded
 length-folded q zero t h = h ∙ add-zero (length q)
 length-folded q (suc k) t h = length-folded q k (foldTop q k t) (length-top q k t (omega (arith, h)))
 
-pub length-product : (q a b : List ℕ) → length b ≡ length q → length (product q a b) ≡ length q
-unfolding product
-length-product q a b h = length-folded q (length a) (rows a b) (length-rows a b ∙ omega (arith, h))
+pub length-laneProduct : (q a b : List ℕ) → length b ≡ length q → length (laneProduct q a b) ≡ length q
+unfolding laneProduct
+length-laneProduct q a b h = length-folded q (length a) (carryFreeWords a b) (length-carryFreeWords a b ∙ omega (arith, h))
 
-module _ (q : List ℕ) (ok : Digits q) where
+module _ (q : List ℕ) (ok : BinaryDigits q) where
   pub lane-doubled : (l : ℕ) (r : List ℕ) → length r ≡ length q → lane l (doubled q r) ≡ cut (fieldBy q) (lane l r * 2)
   unfolding doubled cut lane
   lane-doubled l r h =
       lane-taps l t q (0 ∷ r) ok (omega arith)
-      ∙ sym (ap (λ (y : ℕ). bitXor (y / 2 ^ m % 2 * (2 ^ m + number q)) y) whole
-      ∙ ap (λ (e : ℕ). bitXor (e * (2 ^ m + number q)) (d * 2 ^ m + a)) (ap (λ (n : ℕ). n % 2) (digits-div d low) ∙ mod-eq-of-lt (digit-lt l t))
-      ∙ ap (λ (n : ℕ). bitXor n (d * 2 ^ m + a)) (mul-add d (2 ^ m) (number q))
-      ∙ xor-block m d d (d * number q) a small low ∙ ap (λ (n : ℕ). n * 2 ^ m + bitXor (d * number q) a) (xor-self d)
-      ∙ ap (λ (n : ℕ). n + bitXor (d * number q) a) (zero-mul (2 ^ m)) ∙ zero-add (bitXor (d * number q) a))
+      ∙ sym (ap (λ (y : ℕ). bitXor (y / 2 ^ m % 2 * (2 ^ m + digitsNumber q)) y) whole
+      ∙ ap (λ (e : ℕ). bitXor (e * (2 ^ m + digitsNumber q)) (d * 2 ^ m + a)) (ap (λ (n : ℕ). n % 2) (digits-div d low) ∙ mod-eq-of-lt (digit-lt l t))
+      ∙ ap (λ (n : ℕ). bitXor n (d * 2 ^ m + a)) (mul-add d (2 ^ m) (digitsNumber q))
+      ∙ xor-block m d d (d * digitsNumber q) a small low ∙ ap (λ (n : ℕ). n * 2 ^ m + bitXor (d * digitsNumber q) a) (xor-self d)
+      ∙ ap (λ (n : ℕ). n + bitXor (d * digitsNumber q) a) (zero-mul (2 ^ m)) ∙ zero-add (bitXor (d * digitsNumber q) a))
     where
       m : ℕ
       m = length q
@@ -178,7 +178,7 @@ module _ (q : List ℕ) (ok : Digits q) where
       t = getD (0 ∷ r) m 0
 
       d : ℕ
-      d = digit l t
+      d = binaryDigit l t
 
       a : ℕ
       a = lane l (take m (0 ∷ r))
@@ -186,10 +186,10 @@ module _ (q : List ℕ) (ok : Digits q) where
       low : a < 2 ^ m
       low = subst (λ (n : ℕ). a < 2 ^ n) (length-take m (0 ∷ r) ∙ omega (arith, h)) (lane-lt l (take m (0 ∷ r)))
 
-      small : d * number q < 2 ^ m
-      small = bit-cases (λ (e : ℕ). e * number q < 2 ^ m) (omega (arith, zero-mul (number q), pow-pos m)) (omega (arith, one-mul (number q), number-lt q ok)) (t / 2 ^ l)
+      small : d * digitsNumber q < 2 ^ m
+      small = bit-cases (λ (e : ℕ). e * digitsNumber q < 2 ^ m) (omega (arith, zero-mul (digitsNumber q), pow-pos m)) (omega (arith, one-mul (digitsNumber q), number-lt q ok)) (t / 2 ^ l)
 
-      nought : digit l 0 ≡ 0
+      nought : binaryDigit l 0 ≡ 0
       nought = ap (λ (n : ℕ). n % 2) (div-eq-of-lt (pow-pos l))
 
       whole : lane l r * 2 ≡ d * 2 ^ m + a
@@ -216,13 +216,13 @@ module _ (q : List ℕ) (ok : Digits q) where
   mul-none b = ap (reduce (fieldBy q)) (carryFree-zero-l b) ∙ reduce-zero (fieldBy q)
 
   -- x^m is what the polynomial has below its top
-  cut-top : cut (fieldBy q) (2 ^ length q) ≡ number q
+  cut-top : cut (fieldBy q) (2 ^ length q) ≡ digitsNumber q
   unfolding cut
   cut-top =
-      ap (λ (y : ℕ). bitXor (y / 2 ^ m % 2 * (2 ^ m + number q)) y) whole
-      ∙ ap (λ (e : ℕ). bitXor (e % 2 * (2 ^ m + number q)) (1 * 2 ^ m + 0)) (digits-div 1 (pow-pos m))
-      ∙ ap (λ (n : ℕ). bitXor n (1 * 2 ^ m + 0)) (mul-add 1 (2 ^ m) (number q) ∙ ap (λ (n : ℕ). 1 * 2 ^ m + n) (one-mul (number q)))
-      ∙ xor-block m 1 1 (number q) 0 (number-lt q ok) (pow-pos m) ∙ ap (λ (n : ℕ). n + bitXor (number q) 0) (zero-mul (2 ^ m)) ∙ zero-add (bitXor (number q) 0) ∙ xor-zero-r (number q)
+      ap (λ (y : ℕ). bitXor (y / 2 ^ m % 2 * (2 ^ m + digitsNumber q)) y) whole
+      ∙ ap (λ (e : ℕ). bitXor (e % 2 * (2 ^ m + digitsNumber q)) (1 * 2 ^ m + 0)) (digits-div 1 (pow-pos m))
+      ∙ ap (λ (n : ℕ). bitXor n (1 * 2 ^ m + 0)) (mul-add 1 (2 ^ m) (digitsNumber q) ∙ ap (λ (n : ℕ). 1 * 2 ^ m + n) (one-mul (digitsNumber q)))
+      ∙ xor-block m 1 1 (digitsNumber q) 0 (number-lt q ok) (pow-pos m) ∙ ap (λ (n : ℕ). n + bitXor (digitsNumber q) 0) (zero-mul (2 ^ m)) ∙ zero-add (bitXor (digitsNumber q) 0) ∙ xor-zero-r (digitsNumber q)
     where
       m : ℕ
       m = length q
@@ -230,7 +230,7 @@ module _ (q : List ℕ) (ok : Digits q) where
       whole : 2 ^ m ≡ 1 * 2 ^ m + 0
       whole = omega (arith, one-mul (2 ^ m))
 
-  reduce-top : reduce (fieldBy q) (2 ^ length q) ≡ number q
+  reduce-top : reduce (fieldBy q) (2 ^ length q) ≡ digitsNumber q
   reduce-top = at-top (length q) refl ∙ cut-top
     where
       at-top : (m : ℕ) → length q ≡ m → reduce (fieldBy q) (2 ^ m) ≡ cut (fieldBy q) (2 ^ m)
@@ -240,21 +240,21 @@ module _ (q : List ℕ) (ok : Digits q) where
           ∙ ap (λ (r : ℕ). cut (fieldBy q) (r * 2)) (reduce-below (fieldBy q) (2 ^ m) (subst (λ (n : ℕ). 2 ^ m < 2 ^ n) (sym e) (omega (arith, pow-suc 2 m, pow-pos m)))) ∙ ap (cut (fieldBy q)) (sym (pow-suc 2 m))
 
   -- the same, k places up
-  reduce-up : (k : ℕ) → reduce (fieldBy q) (2 ^ (length q + k)) ≡ reduce (fieldBy q) (number q * 2 ^ k)
-  reduce-up zero = ap (λ (n : ℕ). reduce (fieldBy q) (2 ^ n)) (add-zero (length q)) ∙ reduce-top ∙ sym (ap (reduce (fieldBy q)) (mul-one (number q)) ∙ reduce-below (fieldBy q) (number q) (number-lt q ok))
+  reduce-up : (k : ℕ) → reduce (fieldBy q) (2 ^ (length q + k)) ≡ reduce (fieldBy q) (digitsNumber q * 2 ^ k)
+  reduce-up zero = ap (λ (n : ℕ). reduce (fieldBy q) (2 ^ n)) (add-zero (length q)) ∙ reduce-top ∙ sym (ap (reduce (fieldBy q)) (mul-one (digitsNumber q)) ∙ reduce-below (fieldBy q) (digitsNumber q) (number-lt q ok))
   reduce-up (suc k) =
       ap (reduce (fieldBy q)) (ap (λ (n : ℕ). 2 ^ n) (add-suc (length q) k) ∙ pow-suc 2 (length q + k)) ∙ reduce-double (fieldBy q) (2 ^ (length q + k))
-      ∙ ap (λ (r : ℕ). cut (fieldBy q) (r * 2)) (reduce-up k) ∙ sym (reduce-double (fieldBy q) (number q * 2 ^ k))
-      ∙ ap (reduce (fieldBy q)) (mul-assoc (number q) (2 ^ k) 2 ∙ ap (λ (x : ℕ). number q * x) (sym (pow-suc 2 k)))
+      ∙ ap (λ (r : ℕ). cut (fieldBy q) (r * 2)) (reduce-up k) ∙ sym (reduce-double (fieldBy q) (digitsNumber q * 2 ^ k))
+      ∙ ap (reduce (fieldBy q)) (mul-assoc (digitsNumber q) (2 ^ k) 2 ∙ ap (λ (x : ℕ). digitsNumber q * x) (sym (pow-suc 2 k)))
 
   -- the words of the carry-free product
-  lane-rows : (l : ℕ) (a b : List ℕ) → lane l (rows a b) ≡ carryFree (lane l a) (lane l b)
-  unfolding rows lane
+  lane-rows : (l : ℕ) (a b : List ℕ) → lane l (carryFreeWords a b) ≡ carryFree (lane l a) (lane l b)
+  unfolding carryFreeWords lane
   lane-rows l [] b = lane-zero l (length b) ∙ sym (carryFree-zero-l (lane l b))
   lane-rows l (w ∷ a) b =
-      lane-sum l (map (bitAnd w) b) (0 ∷ rows a b)
-      ∙ ap₂ bitXor (lane-scaled l w b) (ap (λ (n : ℕ). lane l (rows a b) * 2 + n) (ap (λ (n : ℕ). n % 2) (div-eq-of-lt (pow-pos l))) ∙ add-zero (lane l (rows a b) * 2) ∙ ap (λ (n : ℕ). n * 2) (lane-rows l a b))
-      ∙ sym (carryFree-step (lane l a * 2 + digit l w) (lane l b)
+      lane-sum l (map (bitAnd w) b) (0 ∷ carryFreeWords a b)
+      ∙ ap₂ bitXor (lane-scaled l w b) (ap (λ (n : ℕ). lane l (carryFreeWords a b) * 2 + n) (ap (λ (n : ℕ). n % 2) (div-eq-of-lt (pow-pos l))) ∙ add-zero (lane l (carryFreeWords a b) * 2) ∙ ap (λ (n : ℕ). n * 2) (lane-rows l a b))
+      ∙ sym (carryFree-step (lane l a * 2 + binaryDigit l w) (lane l b)
       ∙ ap₂ (λ (x y : ℕ). bitXor (x * lane l b) (carryFree y (lane l b) * 2)) (digits-mod (lane l a) (digit-lt l w)) (digits-div (lane l a) (digit-lt l w)))
 
   lane-up : (l k : ℕ) (v : List ℕ) → lane l (replicate k 0 ++ v) ≡ lane l v * 2 ^ k
@@ -264,22 +264,22 @@ module _ (q : List ℕ) (ok : Digits q) where
       ap (λ (n : ℕ). lane l (replicate k 0 ++ v) * 2 + n) (ap (λ (n : ℕ). n % 2) (div-eq-of-lt (pow-pos l))) ∙ add-zero (lane l (replicate k 0 ++ v) * 2)
       ∙ ap (λ (n : ℕ). n * 2) (lane-up l k v) ∙ mul-assoc (lane l v) (2 ^ k) 2 ∙ ap (λ (x : ℕ). lane l v * x) (sym (pow-suc 2 k))
 
-  lane-taps-of : (l t : ℕ) (q : List ℕ) → Digits q → lane l (map (tapWord t) q) ≡ digit l t * number q
-  unfolding lane number
-  lane-taps-of l t [] ok = sym (mul-zero (digit l t))
+  lane-taps-of : (l t : ℕ) (q : List ℕ) → BinaryDigits q → lane l (map (tapWord t) q) ≡ binaryDigit l t * digitsNumber q
+  unfolding lane digitsNumber
+  lane-taps-of l t [] ok = sym (mul-zero (binaryDigit l t))
   lane-taps-of l t (d ∷ q) ok =
-      ap₂ (λ (x y : ℕ). x * 2 + y) (lane-taps-of l t q (ok .1)) (one d (ok .0)) ∙ sym (digit-times (t / 2 ^ l) (number q) d)
+      ap₂ (λ (x y : ℕ). x * 2 + y) (lane-taps-of l t q (ok .1)) (one d (ok .0)) ∙ sym (digit-times (t / 2 ^ l) (digitsNumber q) d)
     where
-      one : (d : ℕ) → d < 2 → digit l (tapWord t d) ≡ digit l t * d
-      one zero h = ap (λ (n : ℕ). n % 2) (div-eq-of-lt (pow-pos l)) ∙ sym (mul-zero (digit l t))
-      one (suc zero) h = sym (mul-one (digit l t))
+      one : (d : ℕ) → d < 2 → binaryDigit l (tapWord t d) ≡ binaryDigit l t * d
+      one zero h = ap (λ (n : ℕ). n % 2) (div-eq-of-lt (pow-pos l)) ∙ sym (mul-zero (binaryDigit l t))
+      one (suc zero) h = sym (mul-one (binaryDigit l t))
       one (suc (suc d)) h = absurd (omega arith)
 
   lane-top : (l k : ℕ) (t : List ℕ) → length t ≡ suc (length q + k) → reduce (fieldBy q) (lane l (foldTop q k t)) ≡ reduce (fieldBy q) (lane l t)
   unfolding foldTop
   lane-top l k t h =
       ap (reduce F) (lane-sum l low (replicate k 0 ++ map (tapWord top) q) ∙ ap (bitXor (lane l low)) (lane-up l k (map (tapWord top) q) ∙ ap (λ (x : ℕ). x * 2 ^ k) (lane-taps-of l top q ok)))
-      ∙ reduce-xor F (lane l low) (d * number q * 2 ^ k) ∙ xor-comm (reduce F (lane l low)) (reduce F (d * number q * 2 ^ k))
+      ∙ reduce-xor F (lane l low) (d * digitsNumber q * 2 ^ k) ∙ xor-comm (reduce F (lane l low)) (reduce F (d * digitsNumber q * 2 ^ k))
       ∙ ap (λ (x : ℕ). bitXor x (reduce F (lane l low))) same
       ∙ sym (ap (reduce F) (lane-last l (length q + k) t h ∙ sym (xor-shifted d (length q + k) (lane l low) small)) ∙ reduce-xor F (d * 2 ^ (length q + k)) (lane l low))
     where
@@ -293,16 +293,16 @@ module _ (q : List ℕ) (ok : Digits q) where
       top = getD t (length q + k) 0
 
       d : ℕ
-      d = digit l top
+      d = binaryDigit l top
 
       small : lane l low < 2 ^ (length q + k)
       small = subst (λ (n : ℕ). lane l low < 2 ^ n) (length-take (length q + k) t ∙ omega (arith, h)) (lane-lt l low)
 
-      same : reduce F (d * number q * 2 ^ k) ≡ reduce F (d * 2 ^ (length q + k))
+      same : reduce F (d * digitsNumber q * 2 ^ k) ≡ reduce F (d * 2 ^ (length q + k))
       same =
-          bit-cases (λ (e : ℕ). reduce F (e * number q * 2 ^ k) ≡ reduce F (e * 2 ^ (length q + k)))
-          (ap (reduce F) (ap (λ (x : ℕ). x * 2 ^ k) (zero-mul (number q)) ∙ zero-mul (2 ^ k) ∙ sym (zero-mul (2 ^ (length q + k)))))
-          (ap (reduce F) (ap (λ (x : ℕ). x * 2 ^ k) (one-mul (number q))) ∙ sym (reduce-up k) ∙ ap (reduce F) (sym (one-mul (2 ^ (length q + k))))) (top / 2 ^ l)
+          bit-cases (λ (e : ℕ). reduce F (e * digitsNumber q * 2 ^ k) ≡ reduce F (e * 2 ^ (length q + k)))
+          (ap (reduce F) (ap (λ (x : ℕ). x * 2 ^ k) (zero-mul (digitsNumber q)) ∙ zero-mul (2 ^ k) ∙ sym (zero-mul (2 ^ (length q + k)))))
+          (ap (reduce F) (ap (λ (x : ℕ). x * 2 ^ k) (one-mul (digitsNumber q))) ∙ sym (reduce-up k) ∙ ap (reduce F) (sym (one-mul (2 ^ (length q + k))))) (top / 2 ^ l)
 
   lane-folded : (l k : ℕ) (t : List ℕ) → length t ≡ length q + k → lane l (folded q k t) ≡ reduce (fieldBy q) (lane l t)
   unfolding folded
@@ -310,13 +310,13 @@ module _ (q : List ℕ) (ok : Digits q) where
   lane-folded l (suc k) t h = lane-folded l k (foldTop q k t) (length-top q k t (omega (arith, h))) ∙ lane-top l k t (omega (arith, h))
 
   -- the law of the product on planes: in every lane it is the field's product
-  pub lane-product : (l : ℕ) (a b : List ℕ) → length b ≡ length q → lane l (product q a b) ≡ mul (fieldBy q) (lane l a) (lane l b)
-  unfolding product mul
-  lane-product l a b h = lane-folded l (length a) (rows a b) (length-rows a b ∙ omega (arith, h)) ∙ ap (reduce (fieldBy q)) (lane-rows l a b)
+  pub lane-product : (l : ℕ) (a b : List ℕ) → length b ≡ length q → lane l (laneProduct q a b) ≡ mul (fieldBy q) (lane l a) (lane l b)
+  unfolding laneProduct mul
+  lane-product l a b h = lane-folded l (length a) (carryFreeWords a b) (length-carryFreeWords a b ∙ omega (arith, h)) ∙ ap (reduce (fieldBy q)) (lane-rows l a b)
 
 -- ---- the test for 0 in every lane
 
-digit-or : (l x y : ℕ) → digit l (bitOr x y) ≡ bitOr (digit l x) (digit l y)
+digit-or : (l x y : ℕ) → binaryDigit l (bitOr x y) ≡ bitOr (binaryDigit l x) (binaryDigit l y)
 digit-or l x y = ap (λ (n : ℕ). n % 2) (or-shr x y l) ∙ or-mod (x / 2 ^ l) (y / 2 ^ l) 1
 
 or-zero : (a b : ℕ) → bitOr (a % 2) (b % 2) ≡ 0 ↔ ((b % 2 ≡ 0) × (a % 2 ≡ 0))
@@ -325,7 +325,7 @@ or-zero a b =
     (bit-cases (λ (y : ℕ). bitOr 1 y ≡ 0 ↔ ((y ≡ 0) × (_≡_ {A = ℕ} 1 0))) (λ h. absurd (omega arith), λ h. absurd (omega arith)) (λ h. absurd (omega arith), λ h. absurd (omega arith)) b) a
 
 -- the element in lane l is 0 exactly where no plane has the digit l
-pub lane-is-zero : (l : ℕ) (v : List ℕ) → digit l (occupied v) ≡ 0 ↔ (lane l v ≡ 0)
+pub lane-is-zero : (l : ℕ) (v : List ℕ) → binaryDigit l (occupied v) ≡ 0 ↔ (lane l v ≡ 0)
 unfolding occupied lane
 lane-is-zero l [] = (λ h. refl, λ h. ap (λ (n : ℕ). n % 2) (div-eq-of-lt (pow-pos l)))
 lane-is-zero l (w ∷ v) = (
@@ -347,7 +347,7 @@ sum-words (suc n) (x ∷ a) (y ∷ b) h k = ap (λ l. bitXor x y ∷ l) (sum-wor
 
 -- the butterfly's steps, put together
 pub butterfly-from : (q e p : List ℕ) (up : ℕ) {a b c s t p₁ p₂ : List ℕ} → a ≡ wordsAt (length q) p 0 → b ≡ wordsAt (length q) p up
-    → c ≡ product q e b → s ≡ sumWords (length q) a c → t ≡ sumWords (length q) s b
+    → c ≡ laneProduct q e b → s ≡ sumWords (length q) a c → t ≡ sumWords (length q) s b
     → p₁ ≡ paste p 0 s (length q) → p₂ ≡ paste p₁ up t (length q) → p₂ ≡ butterflyAt q e up p
 unfolding butterflyAt
 butterfly-from q e p up {a} {b} {c} {s} {t} {p₁} ea eb ec es et e₁ e₂ =
@@ -355,7 +355,7 @@ butterfly-from q e p up {a} {b} {c} {s} {t} {p₁} ea eb ec es et e₁ e₂ =
     (et ∙ ap₂ (λ x y. sumWords (length q) x y) sum-is eb)
   where
     sum-is : s ≡ butterflySum q e up p
-    sum-is = es ∙ ap₂ (λ x y. sumWords (length q) x y) ea (ec ∙ ap (product q e) eb)
+    sum-is = es ∙ ap₂ (λ x y. sumWords (length q) x y) ea (ec ∙ ap (laneProduct q e) eb)
 
 -- one butterfly more
 pub butterflies-turn : (q e : List ℕ) (up w : ℕ) (p₀ : List ℕ) {p : List ℕ} → p ≡ butterfliesAt q e up w p₀

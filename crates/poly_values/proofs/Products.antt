@@ -14,7 +14,7 @@ use lib.Bits.{bitAnd, bitXor, xor-zero-r, and-zero-r}
 use lib.ListN.{getD, length, take, drop, set, replicate, length-set, length-take, length-map, drop-of-length-le}
 use lib.Seq.{take-all, ext-getD, getD-take, getD-set-same, getD-set-other, drop-cons, length-take-le}
 use Rattle.field.proofs.Xor.{xor-assoc}
-use Rattle.poly_values.specs.Planes.{sum, pairWords, wordsAt, rows, tapWord, foldTop, folded, product, taps11}
+use Rattle.poly_values.specs.Planes.{sum, pairWords, wordsAt, carryFreeWords, tapWord, foldTop, folded, laneProduct, taps11}
 use Rattle.poly_values.proofs.Lists.{length-tabulate, getD-tabulate, getD-zeros, getD-ended}
 use Rattle.poly_values.proofs.Planes.{length-longer, length-top}
 use Rattle.poly_values.proofs.Lanes.{take-words}
@@ -43,15 +43,15 @@ drop-zeros zero r = refl
 drop-zeros (suc j) r = drop-zeros j r
 
 -- a row more
-pub rows-turn : (a b : List ℕ) {t y : List ℕ} {i j : ℕ} → i ≡ suc j → j < length a → t ≡ replicate i 0 ++ rows (drop i a) b
-    → y ≡ sum (map (bitAnd (getD a j 0)) b) (drop j t) → take j t ++ y ≡ replicate j 0 ++ rows (drop j a) b
-unfolding rows
+pub rows-turn : (a b : List ℕ) {t y : List ℕ} {i j : ℕ} → i ≡ suc j → j < length a → t ≡ replicate i 0 ++ carryFreeWords (drop i a) b
+    → y ≡ sum (map (bitAnd (getD a j 0)) b) (drop j t) → take j t ++ y ≡ replicate j 0 ++ carryFreeWords (drop j a) b
+unfolding carryFreeWords
 rows-turn a b {t} {y} {i} {j} e h et ey =
-    ap₂ _++_ (ap (take j) shape ∙ take-zeros j (rows (drop (suc j) a) b))
-    (ey ∙ ap (λ s. sum (map (bitAnd (getD a j 0)) b) s) (ap (drop j) shape ∙ drop-zeros j (rows (drop (suc j) a) b)) ∙ ap (λ s. rows s b) (sym (drop-cons a j 0 h)))
+    ap₂ _++_ (ap (take j) shape ∙ take-zeros j (carryFreeWords (drop (suc j) a) b))
+    (ey ∙ ap (λ s. sum (map (bitAnd (getD a j 0)) b) s) (ap (drop j) shape ∙ drop-zeros j (carryFreeWords (drop (suc j) a) b)) ∙ ap (λ s. carryFreeWords s b) (sym (drop-cons a j 0 h)))
   where
-    shape : t ≡ replicate (suc j) 0 ++ rows (drop (suc j) a) b
-    shape = et ∙ ap (λ k. replicate k 0 ++ rows (drop k a) b) e
+    shape : t ≡ replicate (suc j) 0 ++ carryFreeWords (drop (suc j) a) b
+    shape = et ∙ ap (λ k. replicate k 0 ++ carryFreeWords (drop k a) b) e
 
 -- ---- two rows at once
 
@@ -97,30 +97,30 @@ pair-is n v w b h =
 
 -- two rows more
 pub rows-pair : (a b : List ℕ) {t y c : List ℕ} {i j : ℕ} → i ≡ suc (suc j) → suc j < length a → length b ≡ 11 → c ≡ 0 ∷ b ++ 0 ∷ []
-    → t ≡ replicate i 0 ++ rows (drop i a) b → y ≡ sum (pairWords 12 (getD a j 0) (getD a (suc j) 0) c) (drop j t)
-    → take j t ++ y ≡ replicate j 0 ++ rows (drop j a) b
-unfolding rows sum
+    → t ≡ replicate i 0 ++ carryFreeWords (drop i a) b → y ≡ sum (pairWords 12 (getD a j 0) (getD a (suc j) 0) c) (drop j t)
+    → take j t ++ y ≡ replicate j 0 ++ carryFreeWords (drop j a) b
+unfolding carryFreeWords sum
 rows-pair a b {t} {y} {c} {i} {j} e h hb ec et ey =
     ap₂ _++_ (ap (take j) shape ∙ take-zeros j (0 ∷ R))
     (ey ∙ ap₂ sum (ap (pairWords 12 (getD a j 0) (getD a (suc j) 0)) ec ∙ pair-is 11 (getD a j 0) (getD a (suc j) 0) b hb)
     (ap (drop j) shape ∙ drop-zeros j (0 ∷ R))
     ∙ sum-assoc (map (bitAnd (getD a j 0)) b) (0 ∷ map (bitAnd (getD a (suc j) 0)) b) (0 ∷ 0 ∷ R)
-    ∙ ap (λ s. sum (map (bitAnd (getD a j 0)) b) (0 ∷ rows s b)) (sym (drop-cons a (suc j) 0 h))
-    ∙ ap (λ s. rows s b) (sym (drop-cons a j 0 (omega arith))))
+    ∙ ap (λ s. sum (map (bitAnd (getD a j 0)) b) (0 ∷ carryFreeWords s b)) (sym (drop-cons a (suc j) 0 h))
+    ∙ ap (λ s. carryFreeWords s b) (sym (drop-cons a j 0 (omega arith))))
   where
     R : List ℕ
-    R = rows (drop (suc (suc j)) a) b
+    R = carryFreeWords (drop (suc (suc j)) a) b
 
     shape : t ≡ replicate (suc j) 0 ++ 0 ∷ R
-    shape = et ∙ ap (λ k. replicate k 0 ++ rows (drop k a) b) e ∙ zeros-behind (suc j)
+    shape = et ∙ ap (λ k. replicate k 0 ++ carryFreeWords (drop k a) b) e ∙ zeros-behind (suc j)
       where
         zeros-behind : (k : ℕ) → replicate (suc k) 0 ++ R ≡ replicate k 0 ++ 0 ∷ R
         zeros-behind zero = refl
         zeros-behind (suc k) = ap (λ l. 0 ∷ l) (zeros-behind k)
 
 -- a word of the vector at the front
-pub word-at : (n : ℕ) (e : List ℕ) (j : ℕ) → j < n → getD (wordsAt n e 0) j 0 ≡ getD e j 0
-word-at n e j h = getD-tabulate n (λ k. getD e (0 + k) 0) j h ∙ ap (λ k. getD e k 0) (zero-add j)
+pub vector-word-at : (n : ℕ) (e : List ℕ) (j : ℕ) → j < n → getD (wordsAt n e 0) j 0 ≡ getD e j 0
+vector-word-at n e j h = getD-tabulate n (λ k. getD e (0 + k) 0) j h ∙ ap (λ k. getD e k 0) (zero-add j)
 
 -- b between two zeros, and back
 pub padded-middle : (b c : List ℕ) → length b ≡ 11 → c ≡ 0 ∷ wordsAt 11 b 0 ++ 0 ∷ [] → (c ≡ 0 ∷ take 11 (drop 1 c) ++ 0 ∷ []) × (take 11 (drop 1 c) ≡ b)
@@ -199,11 +199,11 @@ fold-turn t j x n h ex =
         ∙ sym (ap (bitXor (getD t i 0)) (tap-other x j i e d) ∙ xor-zero-r (getD t i 0))
 
 -- before the first row
-pub rows-from : (a b : List ℕ) → length a ≡ 11 → length b ≡ 11 → replicate 22 0 ≡ replicate 11 0 ++ rows (drop 11 a) b
-unfolding rows
-rows-from a b ha hb = sym (ap (λ s. replicate 11 0 ++ rows s b) (drop-of-length-le a {i = 11} (omega arith)) ∙ ap (λ n. replicate 11 0 ++ replicate n 0) hb)
+pub rows-from : (a b : List ℕ) → length a ≡ 11 → length b ≡ 11 → replicate 22 0 ≡ replicate 11 0 ++ carryFreeWords (drop 11 a) b
+unfolding carryFreeWords
+rows-from a b ha hb = sym (ap (λ s. replicate 11 0 ++ carryFreeWords s b) (drop-of-length-le a {i = 11} (omega arith)) ∙ ap (λ n. replicate 11 0 ++ replicate n 0) hb)
 
 -- the whole
-pub product-from : (a b u : List ℕ) {t s : List ℕ} → length a ≡ 11 → t ≡ rows a b → take 11 u ≡ folded taps11 11 t → s ≡ take 11 u → s ≡ product taps11 a b
-unfolding product
+pub product-from : (a b u : List ℕ) {t s : List ℕ} → length a ≡ 11 → t ≡ carryFreeWords a b → take 11 u ≡ folded taps11 11 t → s ≡ take 11 u → s ≡ laneProduct taps11 a b
+unfolding laneProduct
 product-from a b u ha et eu es = es ∙ eu ∙ ap₂ (λ n x. folded taps11 n x) (sym ha) et

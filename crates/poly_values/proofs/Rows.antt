@@ -14,11 +14,11 @@ use lib.Seq.{length-take-le, take-at, drop-at, take-all, take-suc, drop-cons, pa
 use Rattle.algebra.specs.Field.{Ops}
 use Rattle.algebra.specs.Polynomial.{add}
 use Rattle.poly_values.specs.Transform.{Mults, leaf, node, width, scaled, lower, transform}
-use Rattle.poly_values.specs.Planes.{sum, product, tabulate, sumWords, wordsAt, butterflySum, butterflyAt, butterfliesAt, transformAt, planeOps, flat, treeOf}
+use Rattle.poly_values.specs.Planes.{sum, laneProduct, tabulate, sumWords, wordsAt, butterflySum, butterflyAt, butterfliesAt, transformAt, planeOps, flat, treeOf}
 use Rattle.algebra.specs.Trial.{All}
 use Rattle.poly_values.proofs.Image.{all-take, all-drop}
 use Rattle.poly_values.proofs.Lists.{tabulate-same}
-use Rattle.poly_values.proofs.Planes.{length-sum, length-product, sum-words}
+use Rattle.poly_values.proofs.Planes.{length-sum, length-laneProduct, sum-words}
 
 -- ---- one butterfly of a row
 
@@ -44,7 +44,7 @@ regroup a b c d = sym (append-assoc a (b ++ c) d) ∙ ap (λ l. l ++ d) (sym (ap
 module _ (q e : List ℕ) where
   -- the vectors a and b, with c between them and d behind
   butterfly-row : (a c b d : List ℕ) (up : ℕ) → length a ≡ length q → length b ≡ length q → length (a ++ c) ≡ up
-      → butterflyAt q e up (a ++ c ++ b ++ d) ≡ sum a (product q e b) ++ c ++ sum (sum a (product q e b)) b ++ d
+      → butterflyAt q e up (a ++ c ++ b ++ d) ≡ sum a (laneProduct q e b) ++ c ++ sum (sum a (laneProduct q e b)) b ++ d
   unfolding butterflyAt
   butterfly-row a c b d up ha hb hu =
       ap₂ (λ x y. paste (paste p 0 x m) up y m) sum-is (ap₂ (λ x y. sumWords m x y) sum-is upper ∙ sum-words m s b long hb)
@@ -58,18 +58,18 @@ module _ (q e : List ℕ) where
       p = a ++ c ++ b ++ d
 
       s : List ℕ
-      s = sum a (product q e b)
+      s = sum a (laneProduct q e b)
 
       long : length s ≡ m
-      long = length-sum a (product q e b) m ha (length-product q e b hb)
+      long = length-sum a (laneProduct q e b) m ha (length-laneProduct q e b hb)
 
       upper : wordsAt m p up ≡ b
       upper = words-at m (a ++ c) b d up hu hb
 
       sum-is : butterflySum q e up p ≡ s
       sum-is =
-          ap₂ (λ x y. sumWords m x (product q e y)) (ap (λ l. wordsAt m l 0) (sym (regroup a c b d)) ∙ words-at m [] a (c ++ b ++ d) 0 refl ha) upper
-          ∙ sum-words m a (product q e b) ha (length-product q e b hb)
+          ap₂ (λ x y. sumWords m x (laneProduct q e y)) (ap (λ l. wordsAt m l 0) (sym (regroup a c b d)) ∙ words-at m [] a (c ++ b ++ d) 0 refl ha) upper
+          ∙ sum-words m a (laneProduct q e b) ha (length-laneProduct q e b hb)
 
 -- ---- all butterflies of a row
 
@@ -88,12 +88,12 @@ module _ (q e : List ℕ) where
   lows : List (List ℕ) → List (List ℕ) → List (List ℕ)
   lows [] hi = []
   lows (x ∷ lo) [] = []
-  lows (x ∷ lo) (y ∷ hi) = sum x (product q e y) ∷ lows lo hi
+  lows (x ∷ lo) (y ∷ hi) = sum x (laneProduct q e y) ∷ lows lo hi
 
   ups : List (List ℕ) → List (List ℕ) → List (List ℕ)
   ups [] hi = []
   ups (x ∷ lo) [] = []
-  ups (x ∷ lo) (y ∷ hi) = sum (sum x (product q e y)) y ∷ ups lo hi
+  ups (x ∷ lo) (y ∷ hi) = sum (sum x (laneProduct q e y)) y ∷ ups lo hi
 
   abbrev Vectors : List (List ℕ) → Type 0
   Vectors = All (λ v. length v ≡ length q)
@@ -114,28 +114,28 @@ module _ (q e : List ℕ) where
   unfolding lows
   all-lows [] hi h k = tt
   all-lows (x ∷ lo) [] h k = tt
-  all-lows (x ∷ lo) (y ∷ hi) h k = (length-sum x (product q e y) (length q) (h .0) (length-product q e y (k .0)), all-lows lo hi (h .1) (k .1))
+  all-lows (x ∷ lo) (y ∷ hi) h k = (length-sum x (laneProduct q e y) (length q) (h .0) (length-laneProduct q e y (k .0)), all-lows lo hi (h .1) (k .1))
 
   all-ups : (lo hi : List (List ℕ)) → Vectors lo → Vectors hi → Vectors (ups lo hi)
   unfolding ups
   all-ups [] hi h k = tt
   all-ups (x ∷ lo) [] h k = tt
   all-ups (x ∷ lo) (y ∷ hi) h k =
-      (length-sum (sum x (product q e y)) y (length q) (length-sum x (product q e y) (length q) (h .0) (length-product q e y (k .0))) (k .0), all-ups lo hi (h .1) (k .1))
+      (length-sum (sum x (laneProduct q e y)) y (length q) (length-sum x (laneProduct q e y) (length q) (h .0) (length-laneProduct q e y (k .0))) (k .0), all-ups lo hi (h .1) (k .1))
 
-  lows-more : (lo hi : List (List ℕ)) (x y : List ℕ) → length lo ≡ length hi → lows (lo ++ x ∷ []) (hi ++ y ∷ []) ≡ lows lo hi ++ sum x (product q e y) ∷ []
+  lows-more : (lo hi : List (List ℕ)) (x y : List ℕ) → length lo ≡ length hi → lows (lo ++ x ∷ []) (hi ++ y ∷ []) ≡ lows lo hi ++ sum x (laneProduct q e y) ∷ []
   unfolding lows
   lows-more [] [] x y h = refl
   lows-more [] (w ∷ hi) x y h = absurd (omega arith)
   lows-more (w ∷ lo) [] x y h = absurd (omega arith)
-  lows-more (w ∷ lo) (u ∷ hi) x y h = ap (λ l. sum w (product q e u) ∷ l) (lows-more lo hi x y (omega arith))
+  lows-more (w ∷ lo) (u ∷ hi) x y h = ap (λ l. sum w (laneProduct q e u) ∷ l) (lows-more lo hi x y (omega arith))
 
-  ups-more : (lo hi : List (List ℕ)) (x y : List ℕ) → length lo ≡ length hi → ups (lo ++ x ∷ []) (hi ++ y ∷ []) ≡ ups lo hi ++ sum (sum x (product q e y)) y ∷ []
+  ups-more : (lo hi : List (List ℕ)) (x y : List ℕ) → length lo ≡ length hi → ups (lo ++ x ∷ []) (hi ++ y ∷ []) ≡ ups lo hi ++ sum (sum x (laneProduct q e y)) y ∷ []
   unfolding ups
   ups-more [] [] x y h = refl
   ups-more [] (w ∷ hi) x y h = absurd (omega arith)
   ups-more (w ∷ lo) [] x y h = absurd (omega arith)
-  ups-more (w ∷ lo) (u ∷ hi) x y h = ap (λ l. sum (sum w (product q e u)) u ∷ l) (ups-more lo hi x y (omega arith))
+  ups-more (w ∷ lo) (u ∷ hi) x y h = ap (λ l. sum (sum w (laneProduct q e u)) u ∷ l) (ups-more lo hi x y (omega arith))
 
   -- one butterfly more: lo and hi are those done, x and y the next, lo′ and hi′ the rest
   next-row : (lo hi lo′ hi′ : List (List ℕ)) (x y : List ℕ) (up : ℕ) → length lo ≡ length hi
@@ -221,14 +221,14 @@ module _ (q e : List ℕ) where
   lows-lower [] [] h = refl
   lows-lower [] (y ∷ hi) h = absurd (omega arith)
   lows-lower (x ∷ lo) [] h = absurd (omega arith)
-  lows-lower (x ∷ lo) (y ∷ hi) h = ap (λ l. sum x (product q e y) ∷ l) (lows-lower lo hi (omega arith))
+  lows-lower (x ∷ lo) (y ∷ hi) h = ap (λ l. sum x (laneProduct q e y) ∷ l) (lows-lower lo hi (omega arith))
 
   ups-upper : (lo hi : List (List ℕ)) → length lo ≡ length hi → ups lo hi ≡ add (planeOps q) (lows lo hi) hi
   unfolding lows ups add
   ups-upper [] [] h = refl
   ups-upper [] (y ∷ hi) h = absurd (omega arith)
   ups-upper (x ∷ lo) [] h = absurd (omega arith)
-  ups-upper (x ∷ lo) (y ∷ hi) h = ap (λ l. sum (sum x (product q e y)) y ∷ l) (ups-upper lo hi (omega arith))
+  ups-upper (x ∷ lo) (y ∷ hi) h = ap (λ l. sum (sum x (laneProduct q e y)) y ∷ l) (ups-upper lo hi (omega arith))
 
   butterflies-rows : (a : List (List ℕ)) (n : ℕ) → length a ≡ n + n → Vectors a
       → butterfliesAt q e (n * length q) n (flat a) ≡ flat (lows (take n a) (drop n a)) ++ flat (ups (take n a) (drop n a))

@@ -19,10 +19,10 @@ use lib.Seq.{drop-cons, drop-drop, getD-drop}
 use Rattle.algebra.specs.Polynomial.{Below}
 use Rattle.field.specs.Field.{Field, size, cut, mul}
 use Rattle.field.proofs.Digits.{bit-cases}
-use Rattle.field.proofs.Table.{both, both-left, both-right}
-use Rattle.poly_values.specs.Planes.{digit, lane, number, sum, tapped, taps, doubled, tabulate, sumWords, doubledWords, spreadWords, wordsAt, fieldBy, Multiple, Spread, Mixed, mixAt, taps11}
+use Rattle.field.proofs.Table.{bothTrue, bothTrue-left, bothTrue-right}
+use Rattle.poly_values.specs.Planes.{binaryDigit, lane, digitsNumber, sum, tapped, taps, doubled, tabulate, sumWords, doubledWords, spreadWords, wordsAt, fieldBy, Multiple, Spread, Mixed, mixAt, taps11}
 use Rattle.poly_values.proofs.Lists.{length-tabulate, tabulate-same}
-use Rattle.poly_values.proofs.Planes.{Digits, lane-lt, lane-sum, lane-zero, lane-doubled, mul-step, mul-none, sum-words}
+use Rattle.poly_values.proofs.Planes.{BinaryDigits, lane-lt, lane-sum, lane-zero, lane-doubled, mul-step, mul-none, sum-words}
 
 -- ---- an element in every lane
 
@@ -31,25 +31,25 @@ ones = 18446744073709551615
 
 onesTest : ℕ → Bool
 onesTest zero = true
-onesTest (suc n) = both (eqb (ones / 2 ^ n % 2) 1) (onesTest n)
+onesTest (suc n) = bothTrue (eqb (ones / 2 ^ n % 2) 1) (onesTest n)
 
-ones-digit : (n : ℕ) → T (onesTest n) → (l : ℕ) → l < n → digit l ones ≡ 1
+ones-digit : (n : ℕ) → T (onesTest n) → (l : ℕ) → l < n → binaryDigit l ones ≡ 1
 unfolding onesTest
 ones-digit zero t l h = absurd (omega arith)
-ones-digit (suc n) t l h = go (ℕ-discrete l n) (ones-digit n (both-right (eqb (ones / 2 ^ n % 2) 1) (onesTest n) t) l)
+ones-digit (suc n) t l h = go (ℕ-discrete l n) (ones-digit n (bothTrue-right (eqb (ones / 2 ^ n % 2) 1) (onesTest n) t) l)
   where
-    go : Dec (l ≡ n) → (l < n → digit l ones ≡ 1) → digit l ones ≡ 1
-    go (yes e) rec = ap (λ (i : ℕ). digit i ones) e ∙ eqb→eq (ones / 2 ^ n % 2) 1 (both-left (eqb (ones / 2 ^ n % 2) 1) (onesTest n) t)
+    go : Dec (l ≡ n) → (l < n → binaryDigit l ones ≡ 1) → binaryDigit l ones ≡ 1
+    go (yes e) rec = ap (λ (i : ℕ). binaryDigit i ones) e ∙ eqb→eq (ones / 2 ^ n % 2) 1 (bothTrue-left (eqb (ones / 2 ^ n % 2) 1) (onesTest n) t)
     go (no e) rec = rec (omega arith)
 
-pub all-ones : (l : ℕ) → l < 64 → digit l ones ≡ 1
+pub all-ones : (l : ℕ) → l < 64 → binaryDigit l ones ≡ 1
 unfolding onesTest
 all-ones l h = ones-digit 64 tt l h
 
 -- a digit on every lane
-digit-filled : (l : ℕ) → l < 64 → (n : ℕ) → digit l (n % 2 * ones) ≡ n % 2
+digit-filled : (l : ℕ) → l < 64 → (n : ℕ) → binaryDigit l (n % 2 * ones) ≡ n % 2
 digit-filled l h =
-    bit-cases (λ (d : ℕ). digit l (d * ones) ≡ d) (ap (λ (t : ℕ). t % 2) (div-eq-of-lt (pow-pos l))) (ap (digit l) (one-mul ones) ∙ all-ones l h)
+    bit-cases (λ (d : ℕ). binaryDigit l (d * ones) ≡ d) (ap (λ (t : ℕ). t % 2) (div-eq-of-lt (pow-pos l))) (ap (binaryDigit l) (one-mul ones) ∙ all-ones l h)
 
 spread-lane : (l : ℕ) → l < 64 → (n c : ℕ) → c < 2 ^ n → lane l (spreadWords n c) ≡ c
 unfolding lane
@@ -77,7 +77,7 @@ doubled-words : (q r : List ℕ) → length r ≡ length q → doubledWords q r 
 unfolding doubled
 doubled-words q r h = doubled-words-at (getD (0 ∷ r) (length q) 0) q (0 ∷ r) (omega arith)
 
-module _ (q : List ℕ) (ok : Digits q) (b : List ℕ) (long : length b ≡ length q) where
+module _ (q : List ℕ) (ok : BinaryDigits q) (b : List ℕ) (long : length b ≡ length q) where
   small : (l : ℕ) → lane l b < 2 ^ length q
   small l = subst (λ (n : ℕ). lane l b < 2 ^ n) long (lane-lt l b)
 
@@ -134,7 +134,7 @@ mix-zero F z l (x ∷ f) g h =
     ap₂ bitXor (ap (mul F x) (ap (λ (k : ℕ). lane l (wordsAt (F .degree) g k)) (sym (zero-mul (F .degree))) ∙ h 0 (omega arith)) ∙ z x)
     (mix-zero F z l f (drop (F .degree) g) (λ j k. ap (lane l) (words-next (F .degree) j g) ∙ h (suc j) (omega arith)))
 
-module _ (q : List ℕ) (ok : Digits q) (f g : List ℕ) where
+module _ (q : List ℕ) (ok : BinaryDigits q) (f g : List ℕ) where
   pub mixed-from : {r : List ℕ} → r ≡ replicate (length q) 0 → Mixed q (drop (length f) f) (drop (length f * length q) g) r
   unfolding mixAt
   mixed-from h = record {
@@ -156,11 +156,11 @@ module _ (q : List ℕ) (ok : Digits q) (f g : List ℕ) where
 
 -- ---- the digits of field 11's polynomial, and of a multiplier
 
-pub digits11 : Digits taps11
+pub digits11 : BinaryDigits taps11
 digits11 = (omega arith, (omega arith, (omega arith, (omega arith, (omega arith, (omega arith, (omega arith, (omega arith, (omega arith, (omega arith, (omega arith, tt)))))))))))
 
-pub digit-next : (c : ℕ) {i j : ℕ} → i ≡ suc j → c / 2 ^ j ≡ c / 2 ^ i * 2 + c / 2 ^ j % 2
-digit-next c {i} {j} e =
+pub binaryDigit-next : (c : ℕ) {i j : ℕ} → i ≡ suc j → c / 2 ^ j ≡ c / 2 ^ i * 2 + c / 2 ^ j % 2
+binaryDigit-next c {i} {j} e =
     let h : c / 2 ^ i ≡ c / 2 ^ j / 2 = ap (λ (n : ℕ). c / 2 ^ n) e ∙ ap (λ (t : ℕ). c / t) (pow-suc 2 j) ∙ sym (div-div-eq-div-mul c (2 ^ j) 2) in
     omega arith
 

@@ -13,7 +13,7 @@ use lib.Bits.{bitXor}
 use lib.ListN.{getD, length, take, drop, length-take, List·getD-append}
 use lib.Seq.{paste, length-paste, drop-paste, getD-take, getD-drop, length-take-le, take-all}
 use Rattle.field.specs.Field.{Field, mul}
-use Rattle.field.proofs.Ring.{Monic, mul-comm}
+use Rattle.field.proofs.Ring.{FullDegree, mul-comm}
 use Rattle.poly_values.specs.Planes.{lane, wordsAt, tabulate, sumWords, spreadWords, fieldBy, Multiple, Spread, First, Firsts}
 use Rattle.poly_values.proofs.Planes.{lane-sum, sum-words}
 use Rattle.poly_values.proofs.Rows.{words-at}
@@ -52,7 +52,7 @@ words-other m p v i k h e d = go (decLt k i)
         tabulate-below m (λ j. getD (paste p (i * m) v m) (k * m + j) 0) (λ j. getD p (k * m + j) 0)
         (λ j l. getD-behind p v (i * m) m (k * m + j) (omega arith) e (omega (arith, suc-mul i m)))
 
-module _ (q : List ℕ) (monic : Monic (fieldBy q)) where
+module _ (q : List ℕ) (monic : FullDegree (fieldBy q)) where
   pub first-from : {x y i j : ℕ} {e a b m s t p p₁ p₂ : List ℕ} → x < 2 ^ length q → y < 2 ^ length q → i < j → j * length q + length q ≤ length p
       → b ≡ spreadWords (length q) y → Multiple q y e m → a ≡ spreadWords (length q) x → s ≡ sumWords (length q) a m → t ≡ sumWords (length q) s b
       → p₁ ≡ paste p (i * length q) s (length q) → p₂ ≡ paste p₁ (j * length q) t (length q) → First q e x y i j p p₂

@@ -1,7 +1,7 @@
 -- The transform's law: it gives the values at the points of the coset, in order.
 --   take-add, take-map     sums and multiples of lists, taken apart
 --   value-add, value-scaled   the value of a sum and of a multiple
---   agree                  two functions that are equal where a map has one value, at the points of a coset
+--   transform-agree                  two functions that are equal where a map has one value, at the points of a coset
 --   transform-values       the law: the transform of coefficients gives the values at the points, in order
 -- Assumes nothing.
 use mathlib.Core.Path.{_≡_, refl, sym, ap, ap₂, _∙_}
@@ -78,13 +78,13 @@ module _ {K : Type 0} {F : Ops K} (laws : Laws F) where
 
   -- ---- a map that vanishes at the steps has one value on all points
 
-  pub agree : {e : K → K} (L : List (Level K)) → Additive F e → Vanishes F e L → (f g : K → K) (c : K)
+  pub transform-agree : {e : K → K} (L : List (Level K)) → Additive F e → Vanishes F e L → (f g : K → K) (c : K)
       → ((x : K) → e x ≡ e c → f x ≡ g x) → map f (points F L c) ≡ map g (points F L c)
   unfolding points
-  agree [] ad va f g c h = ap (λ y. y ∷ []) (h c refl)
-  agree {e} (v ∷ L) ad va f g c h =
+  transform-agree [] ad va f g c h = ap (λ y. y ∷ []) (h c refl)
+  transform-agree {e} (v ∷ L) ad va f g c h =
       map-append f (points F L c) (points F L (c ⊕ v .step))
-      ∙ ap₂ _++_ (agree L ad (va .1) f g c h) (agree L ad (va .1) f g (c ⊕ v .step) (λ x p. h x (p ∙ same)))
+      ∙ ap₂ _++_ (transform-agree L ad (va .1) f g c h) (transform-agree L ad (va .1) f g (c ⊕ v .step) (λ x p. h x (p ∙ same)))
       ∙ sym (map-append g (points F L c) (points F L (c ⊕ v .step)))
     where
       same : e (c ⊕ v .step) ≡ e c
@@ -124,9 +124,9 @@ module _ {K : Type 0} {F : Ops K} (laws : Laws F) where
       ap (λ w. transform F (mults F L c) (lower F e w a) ++ transform F (mults F L (c ⊕ v .step)) (add F (lower F e w a) (drop w a)))
       (width-mults L c)
       ∙ ap₂ _++_
-      (transform-values L (good .3) c u long ∙ agree L (good .0) (good .2) (value F L u) (value F (v ∷ L) a) c first)
+      (transform-values L (good .3) c u long ∙ transform-agree L (good .0) (good .2) (value F L u) (value F (v ∷ L) a) c first)
       (transform-values L (good .3) (c ⊕ v .step) (add F u (drop h a)) (length-add u (drop h a) h long (simp length-drop (omega (arith, double))))
-      ∙ agree L (good .0) (good .2) (value F L (add F u (drop h a))) (value F (v ∷ L) a) (c ⊕ v .step) second)
+      ∙ transform-agree L (good .0) (good .2) (value F L (add F u (drop h a))) (value F (v ∷ L) a) (c ⊕ v .step) second)
       ∙ sym (map-append (value F (v ∷ L) a) (points F L c) (points F L (c ⊕ v .step)))
     where
       e : K

@@ -12,10 +12,10 @@ use lib.Bits.{bitXor, xor-shifted}
 use lib.ListN.{getD, length, replicate, length-replicate}
 use lib.Seq.{paste, length-paste}
 use Rattle.field.specs.Field.{mul}
-use Rattle.field.proofs.Ring.{RingLaws, ring, Monic}
+use Rattle.field.proofs.Ring.{RingLaws, ring, FullDegree}
 use Rattle.poly_values.specs.Planes.{lane, tabulate, wordsAt, sumWords, doubledWords, fieldBy, Multiple, FourMultiples}
 use Rattle.poly_values.proofs.Lists.{length-tabulate, tabulate-same, getD-zeros}
-use Rattle.poly_values.proofs.Planes.{Digits, lane-lt, lane-sum, sum-words}
+use Rattle.poly_values.proofs.Planes.{BinaryDigits, lane-lt, lane-sum, sum-words}
 use Rattle.poly_values.proofs.Scalars.{multiple-from, multiple-double, multiple-more}
 use Rattle.poly_values.proofs.Starting.{words-same, words-other}
 
@@ -26,7 +26,7 @@ words-zeros m n at = tabulate-same m (λ k. getD (replicate n 0) (at + k) 0) (λ
     zeros zero = refl
     zeros (suc m) = ap (λ l. 0 ∷ l) (zeros m)
 
-module _ (q : List ℕ) (ok : Digits q) (monic : Monic (fieldBy q)) (b : List ℕ) (long : length b ≡ length q) where
+module _ (q : List ℕ) (ok : BinaryDigits q) (monic : FullDegree (fieldBy q)) (b : List ℕ) (long : length b ≡ length q) where
   open RingLaws (ring (fieldBy q) monic) using (mul-one-l, mul-xor-l)
 
   -- the multiples, stored one after the other over zeros

@@ -1,13 +1,13 @@
 -- The basis of the transform, and how a polynomial comes into it.
---   Step       a step of the space, the value of the vanishing map of the steps behind it there, and the inverse of that value
---   vanishing  the product of z + u over the sums u of the steps: an additive map
---   Right      what a list of steps says of itself is so
---   levels     the levels of a list of steps
---   raised     z times what stands in the basis: what stays in it, and the multiple of the vanishing map that falls out
---   whole      the value at z of coefficients in the basis, with one more behind them: that of the vanishing map
---   Columns    each list stands for z times what the one before it stands for
---   mix        the sum of the columns, each times its coefficient of f
---   onCoset    coefficients and the one more, brought together for the coset of c
+--   Step        a step of the space, the value of the vanishing map of the steps behind it there, and the inverse of that value
+--   vanishing   the product of z + u over the sums u of the steps: an additive map
+--   RightSteps  what a list of steps says of itself is so
+--   levels      the levels of a list of steps
+--   raisedIn    z times what stands in the basis: what stays in it, and the multiple of the vanishing map that falls out
+--   whole       the value at z of coefficients in the basis, with one more behind them: that of the vanishing map
+--   Columns     each list stands for z times what the one before it stands for
+--   mix         the sum of the columns, each times its coefficient of f
+--   onCoset     coefficients and the one more, brought together for the coset of c
 -- Nobody has to believe this file: it serves the inner contracts of this crate. What others cite is `Values` in Tables.
 -- Assumes nothing.
 use mathlib.Core.Path.{_≡_}
@@ -28,9 +28,9 @@ module _ {K : Type 0} (F : Ops K) where
   vanishing [] z = z
   vanishing (s ∷ S) z = F .mul (vanishing S z) (F .add (vanishing S z) (s .unit))
 
-  abbrev pub Right : List (Step K) → Type 0
-  Right [] = Unit {0}
-  Right (s ∷ S) = (vanishing S (s .step) ≡ s .unit) × (F .mul (s .unit) (s .back) ≡ F .one) × Right S
+  abbrev pub RightSteps : List (Step K) → Type 0
+  RightSteps [] = Unit {0}
+  RightSteps (s ∷ S) = (vanishing S (s .step) ≡ s .unit) × (F .mul (s .unit) (s .back) ≡ F .one) × RightSteps S
 
   abbrev pub levelOn : Step K → List (Step K) → Level K
   levelOn s S = record { step = s .step; part = λ z. F .mul (s .back) (vanishing S z) }
@@ -43,23 +43,23 @@ module _ {K : Type 0} (F : Ops K) where
   abbrev pub joinRaised : Step K → (List K × K) → (List K × K) → List K × K
   joinRaised s lo hi = (lo .0 ++ add F (hi .0) (F .mul (F .add (lo .1) (hi .1)) (s .unit) ∷ []), F .mul (hi .1) (s .back))
 
-  unfoldable pub raised : List (Step K) → List K → List K × K
+  unfoldable pub raisedIn : List (Step K) → List K → List K × K
   unfolding add
-  raised [] a = (F .zero ∷ [], getD a 0 (F .zero))
-  raised (s ∷ S) a = joinRaised s (raised S (take (2 ^ length S) a)) (raised S (drop (2 ^ length S) a))
+  raisedIn [] a = (F .zero ∷ [], getD a 0 (F .zero))
+  raisedIn (s ∷ S) a = joinRaised s (raisedIn S (take (2 ^ length S) a)) (raisedIn S (drop (2 ^ length S) a))
 
   -- one more coefficient behind the 2^k of the basis
   unfoldable pub whole : List (Step K) → List K → K → K
   whole S a z = F .add (value F (levels S) (take (2 ^ length S) a) z) (F .mul (getD a (2 ^ length S) (F .zero)) (vanishing S z))
 
   -- z times a column whose one more is 0
-  unfoldable pub next : List (Step K) → List K → List K
-  unfolding raised
-  next S a = raised S (take (2 ^ length S) a) .0 ++ raised S (take (2 ^ length S) a) .1 ∷ []
+  unfoldable pub nextColumn : List (Step K) → List K → List K
+  unfolding raisedIn
+  nextColumn S a = raisedIn S (take (2 ^ length S) a) .0 ++ raisedIn S (take (2 ^ length S) a) .1 ∷ []
 
   abbrev pub Columns : List (Step K) → List K → List (List K) → Type 0
   Columns S a [] = Unit {0}
-  Columns S a (b ∷ bs) = (getD a (2 ^ length S) (F .zero) ≡ F .zero) × (next S a ≡ b) × Columns S b bs
+  Columns S a (b ∷ bs) = (getD a (2 ^ length S) (F .zero) ≡ F .zero) × (nextColumn S a ≡ b) × Columns S b bs
 
   unfoldable pub mix : List K → List (List K) → List K
   mix [] columns = []

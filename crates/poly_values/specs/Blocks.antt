@@ -13,7 +13,7 @@ use Prim.Native.Nat.{ℕ}
 use Rattle.algebra.specs.Field.{Ops}
 use Rattle.algebra.specs.Polynomial.{add}
 use Rattle.poly_values.specs.Transform.{scaled, value}
-use Rattle.poly_values.specs.Basis.{Step, vanishing, levels, raised}
+use Rattle.poly_values.specs.Basis.{Step, vanishing, levels, raisedIn}
 
 module _ {K : Type 0} (F : Ops K) where
   unfoldable pub wholeOf : List (Step K) → List (List K) → K → K
@@ -22,7 +22,7 @@ module _ {K : Type 0} (F : Ops K) where
 
   unfoldable pub nextOf : List (Step K) → K → List (List K) → List (List K)
   nextOf S c [] = (c ∷ []) ∷ []
-  nextOf S c (b ∷ bs) = add F (raised F S b .0) (c ∷ []) ∷ nextOf S (raised F S b .1) bs
+  nextOf S c (b ∷ bs) = add F (raisedIn F S b .0) (c ∷ []) ∷ nextOf S (raisedIn F S b .1) bs
 
   abbrev pub ColumnsOf : List (Step K) → List (List K) → List (List (List K)) → Type 0
   ColumnsOf S a [] = Unit {0}

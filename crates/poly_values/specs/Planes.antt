@@ -1,16 +1,16 @@
 -- Elements of a field as bit planes: word i of a vector holds digit i of 64 elements at once, one in each lane. A row is vectors one behind the other.
---   digit            the binary digit l of a word;  lane  the element in lane l;  lanes  several lanes as a list
+--   binaryDigit            the binary digit l of a word;  lane  the element in lane l;  lanes  several lanes as a list
 --   sum              the sum in every lane;  doubled  twice the element in every lane
---   rows, folded     the words of the carry-free product, and the words at the top taken back by the field's polynomial
---   product          the product in every lane
+--   carryFreeWords, folded     the words of the carry-free product, and the words at the top taken back by the field's polynomial
+--   laneProduct          the product in every lane
 --   occupied         the word of the lanes that are not 0
 --   sumWords, pairWords, doubledWords, spreadWords, wordsAt   the same word by word, as the code writes them
 --   butterflyAt, butterfliesAt, transformAt, halvesAt   what the code leaves in a row
 --   planeOps         planes as values that are added and multiplied;  fieldBy  the field whose polynomial has the digits q below its top
 --   flat, treeOf     vectors in a row; the multipliers that a row holds
---   rowOf            one lane of a row;  columnsOf  vectors in a row as lists of lanes
+--   laneRow            one lane of a row;  columnsOf  vectors in a row as lists of lanes
 --   mixAt            one lane of the sum of vectors, each times its coefficient
---   Multiple, FourMultiples, Spread, Mixed, First, Firsts, Startable, Started   what the routines take and leave
+--   Multiple, FourMultiples, Spread, Mixed, First, Firsts, RowStartable, RowStarted   what the routines take and leave
 --   taps11           the polynomial of field 11 below its top
 -- Nobody has to believe this file: it serves the inner contracts of this crate. What others cite is `Values` in Tables.
 -- Assumes nothing.
@@ -26,18 +26,18 @@ use Rattle.field.specs.Field.{Field, fieldOf, mul, numbers}
 use Rattle.algebra.specs.Polynomial.{Below}
 use Rattle.poly_values.specs.Transform.{Mults, leaf, node, transform, mapMults}
 
-abbrev pub digit : ℕ → ℕ → ℕ
-digit l w = w / 2 ^ l % 2
+abbrev pub binaryDigit : ℕ → ℕ → ℕ
+binaryDigit l w = w / 2 ^ l % 2
 
 -- the number whose binary digits are the digits l of the words, the first word's lowest
 unfoldable pub lane : ℕ → List ℕ → ℕ
 lane l [] = 0
-lane l (w ∷ p) = lane l p * 2 + digit l w
+lane l (w ∷ p) = lane l p * 2 + binaryDigit l w
 
 -- the number of these digits, the lowest first
-unfoldable pub number : List ℕ → ℕ
-number [] = 0
-number (d ∷ q) = number q * 2 + d
+unfoldable pub digitsNumber : List ℕ → ℕ
+digitsNumber [] = 0
+digitsNumber (d ∷ q) = digitsNumber q * 2 + d
 
 unfoldable pub sum : List ℕ → List ℕ → List ℕ
 sum [] b = b
@@ -61,10 +61,10 @@ unfolding taps
 doubled q r = taps (getD (0 ∷ r) (length q) 0) q (0 ∷ r)
 
 -- the words of the carry-free product in every lane, digit by digit of the first factor
-unfoldable pub rows : List ℕ → List ℕ → List ℕ
+unfoldable pub carryFreeWords : List ℕ → List ℕ → List ℕ
 unfolding sum
-rows [] b = replicate (length b) 0
-rows (w ∷ a) b = sum (map (bitAnd w) b) (0 ∷ rows a b)
+carryFreeWords [] b = replicate (length b) 0
+carryFreeWords (w ∷ a) b = sum (map (bitAnd w) b) (0 ∷ carryFreeWords a b)
 
 abbrev pub tapWord : ℕ → ℕ → ℕ
 tapWord t zero = 0
@@ -82,9 +82,9 @@ folded q zero t = t
 folded q (suc k) t = folded q k (foldTop q k t)
 
 -- the product in every lane
-unfoldable pub product : List ℕ → List ℕ → List ℕ → List ℕ
-unfolding rows folded
-product q a b = folded q (length a) (rows a b)
+unfoldable pub laneProduct : List ℕ → List ℕ → List ℕ → List ℕ
+unfolding carryFreeWords folded
+laneProduct q a b = folded q (length a) (carryFreeWords a b)
 
 -- the word whose digit l says whether the element in lane l is not 0
 unfoldable pub occupied : List ℕ → ℕ
@@ -110,7 +110,7 @@ pairWords n v w b = tabulate n (λ k. bitXor (bitAnd v (getD b (k + 1) 0)) (bitA
 
 -- the butterfly of the vectors at 0 and at up, each of as many words as q has digits: (a, b) becomes (a + e b, a + e b + b)
 abbrev pub butterflySum : List ℕ → List ℕ → ℕ → List ℕ → List ℕ
-butterflySum q e up p = sumWords (length q) (wordsAt (length q) p 0) (product q e (wordsAt (length q) p up))
+butterflySum q e up p = sumWords (length q) (wordsAt (length q) p 0) (laneProduct q e (wordsAt (length q) p up))
 
 unfoldable pub butterflyAt : List ℕ → List ℕ → ℕ → List ℕ → List ℕ
 butterflyAt q e up p =
@@ -134,11 +134,11 @@ transformAt q (suc k) g p =
 -- planes as values that are added and multiplied (what else `Ops` names is not used)
 abbrev pub planeOps : List ℕ → Ops (List ℕ)
 planeOps q =
-    record { zero = []; one = []; add = sum; mul = product q; inv = λ v. v; isZero = λ v. true }
+    record { zero = []; one = []; add = sum; mul = laneProduct q; inv = λ v. v; isZero = λ v. true }
 
 -- the field whose polynomial has the digits q below its top
 abbrev pub fieldBy : List ℕ → Field
-fieldBy q = fieldOf (length q) (2 ^ length q + number q)
+fieldBy q = fieldOf (length q) (2 ^ length q + digitsNumber q)
 
 -- vectors in a row
 unfoldable pub flat : List (List ℕ) → List ℕ
@@ -163,10 +163,10 @@ columnsOf m n zero g = []
 columnsOf m n (suc c) g = lanes 0 n (wordsAt m g 0) ∷ columnsOf m n c (drop m g)
 
 -- lane l of n vectors of m words in a row
-unfoldable pub rowOf : ℕ → ℕ → ℕ → List ℕ → List ℕ
+unfoldable pub laneRow : ℕ → ℕ → ℕ → List ℕ → List ℕ
 unfolding lane
-rowOf m l zero p = []
-rowOf m l (suc n) p = lane l (wordsAt m p 0) ∷ rowOf m l n (drop m p)
+laneRow m l zero p = []
+laneRow m l (suc n) p = lane l (wordsAt m p 0) ∷ laneRow m l n (drop m p)
 
 -- lane l of the sum of the vectors of g, each times its coefficient of f
 unfoldable pub mixAt : Field → ℕ → List ℕ → List ℕ → ℕ
@@ -203,7 +203,7 @@ abbrev pub spreadWords : ℕ → ℕ → List ℕ
 spreadWords n c = tabulate n (λ k. c / 2 ^ k % 2 * 18446744073709551615)
 
 -- a row can be started: n = 2^k coefficients below 2^m, room for as many vectors, and the multipliers
-pub record Startable (q : List ℕ) (k n : ℕ) (g a p : List ℕ) : Type 0 where
+pub record RowStartable (q : List ℕ) (k n : ℕ) (g a p : List ℕ) : Type 0 where
   pub size : n ≡ 2 ^ k
   pub many : length a ≡ n
   pub small : Below (2 ^ length q) a
@@ -211,10 +211,10 @@ pub record Startable (q : List ℕ) (k n : ℕ) (g a p : List ℕ) : Type 0 wher
   pub table : n * length q ≤ length g + length q
 
 -- the row was transformed, with x for the first coefficient
-pub record Started (q : List ℕ) (k : ℕ) (g x a p p′ : List ℕ) : Type 0 where
+pub record RowStarted (q : List ℕ) (k : ℕ) (g x a p p′ : List ℕ) : Type 0 where
   pub long : length p′ ≡ length p
   pub rows : (l : ℕ) → l < 64
-      → rowOf (length q) l (2 ^ k) p′ ≡ transform (numbers (fieldBy q)) (mapMults (lane l) (treeOf q k g)) (lane l x ∷ drop 1 a)
+      → laneRow (length q) l (2 ^ k) p′ ≡ transform (numbers (fieldBy q)) (mapMults (lane l) (treeOf q k g)) (lane l x ∷ drop 1 a)
 
 -- one butterfly of two coefficients
 pub record First (q e : List ℕ) (x y i j : ℕ) (p p′ : List ℕ) : Type 0 where

@@ -18,10 +18,10 @@ ghost use mathlib.Core.List.{[], _∷_, _++_, map};
 ghost use lib.Bits.{bitAnd};
 ghost use lib.ListN.{length, take, replicate};
 ghost use Rattle.algebra.specs.Polynomial.{Below};
-ghost use Rattle.poly_values.specs.Planes.{sum, pairWords, FourMultiples, rows, folded, sumWords, product};
+ghost use Rattle.poly_values.specs.Planes.{sum, pairWords, FourMultiples, carryFreeWords, folded, sumWords, laneProduct};
 ghost use Rattle.poly_values.specs.Planes.{taps11, wordsAt, butterflyAt, butterfliesAt, transformAt, lane};
 ghost use Rattle.poly_values.specs.Planes.{lanes, occupied, doubledWords, spreadWords, Multiple, Mixed, First};
-ghost use Rattle.poly_values.specs.Planes.{Firsts, Startable, Started, halvesAt};
+ghost use Rattle.poly_values.specs.Planes.{Firsts, RowStartable, RowStarted, halvesAt};
 ghost use Rattle.poly_values.specs.Tables.{steps11, TreeTable, TopTable, ColumnTable, Values};
 
 mod tables;
@@ -50,7 +50,7 @@ fn sum(a: [u64; 11], b: [u64; 11]) -> [u64; 11]
 }
 
 // Adds b to the front of t where w has a digit.
-fn add_row(t: &mut [u64], w: u64, b: [u64; 11])
+fn add_masked(t: &mut [u64], w: u64, b: [u64; 11])
     requires { do ⌜ 11 ≤ (← ⟦t.len()⟧) ⌝ }
     ensures { λ _. ⌜ now (t .exit) ≡ sum (map (bitAnd w) b) (now (t .entry)) ⌝ }
 {
@@ -74,7 +74,7 @@ fn add_pair(t: &mut [u64], v: u64, w: u64, b: [u64; 13])
 }
 
 // b between two words that are 0.
-fn padded(b: [u64; 11]) -> [u64; 13]
+fn between_zeros(b: [u64; 11]) -> [u64; 13]
     ensures { λ c. ⌜ c ≡ 0 ∷ wordsAt 11 b 0 ++ 0 ∷ [] ⌝ }
 {
     [
@@ -98,11 +98,11 @@ fn padded(b: [u64; 11]) -> [u64; 13]
 // at a time, so that every store starts at an even place and the next turn's loads find it whole.
 fn add_rows(t: &mut [u64], e: &[u64], b: [u64; 11])
     requires { do ⌜ (now t ≡ replicate 22 0) × (11 ≤ (← ⟦e.len()⟧)) ⌝ }
-    ensures { λ _. ⌜ now (t .exit) ≡ rows (wordsAt 11 (now (e .entry)) 0) b ⌝ }
+    ensures { λ _. ⌜ now (t .exit) ≡ carryFreeWords (wordsAt 11 (now (e .entry)) 0) b ⌝ }
 {
-    let c = padded(b);
+    let c = between_zeros(b);
     let mut i: usize = 10;
-    add_row(&mut t[i..], e[i], b);
+    add_masked(&mut t[i..], e[i], b);
     while i > 0 {
         i -= 2;
         add_pair(&mut t[i..], e[i], e[i + 1], c);
@@ -124,9 +124,9 @@ fn fold(t: &mut [u64])
 }
 
 // The product in every lane of the vector at the front of e and b.
-fn product(e: &[u64], b: [u64; 11]) -> [u64; 11]
+fn lane_product(e: &[u64], b: [u64; 11]) -> [u64; 11]
     requires { do ⌜ 11 ≤ (← ⟦e.len()⟧) ⌝ }
-    ensures { λ s. ⌜ s ≡ product taps11 (wordsAt 11 (now (e .entry)) 0) b ⌝ }
+    ensures { λ s. ⌜ s ≡ laneProduct taps11 (wordsAt 11 (now (e .entry)) 0) b ⌝ }
 {
     let mut t: [u64; 22] = [0; 22];
     add_rows(&mut t, e, b);
@@ -155,7 +155,7 @@ fn vector(p: &[u64], at: usize) -> [u64; 11]
 }
 
 // A vector stored at a place of p.
-fn put(p: &mut [u64], at: usize, v: [u64; 11])
+fn put_vector(p: &mut [u64], at: usize, v: [u64; 11])
     requires { do ⌜ at + 11 ≤ (← ⟦p.len()⟧) ⌝ }
     ensures { λ _. ⌜ now (p .exit) ≡ paste (now (p .entry)) at v 11 ⌝ }
 {
@@ -172,12 +172,12 @@ fn butterfly(p: &mut [u64], g: &[u64], up: usize)
     ensures { λ _. ⌜ now (p .exit) ≡ butterflyAt taps11 (wordsAt 11 (now (g .entry)) 0) up (now (p .entry)) ⌝ }
 {
     let b = vector(p, up);
-    let c = product(g, b);
+    let c = lane_product(g, b);
     let a = vector(p, 0);
     let s = sum(a, c);
     let t = sum(s, b);
-    put(p, 0, s);
-    put(p, up, t);
+    put_vector(p, 0, s);
+    put_vector(p, up, t);
 }
 
 // The first n butterflies of vectors that stand up words apart, with the multiplier at the front of g.
@@ -194,7 +194,7 @@ fn butterflies(p: &mut [u64], g: &[u64], n: usize, up: usize)
 }
 
 // The transform of n = 2^k vectors, in place.
-fn run(g: &[u64], p: &mut [u64], k: usize, n: usize)
+fn fourier(g: &[u64], p: &mut [u64], k: usize, n: usize)
     requires { do ⌜ (n ≡ 2 ^ k) × (n * 11 ≡ (← ⟦p.len()⟧)) × (n * 11 ≤ (← ⟦g.len()⟧) + 11) ⌝ }
     ensures { λ _. ⌜ now (p .exit) ≡ transformAt taps11 k (now (g .entry)) (now (p .entry)) ⌝ }
 {
@@ -203,8 +203,8 @@ fn run(g: &[u64], p: &mut [u64], k: usize, n: usize)
         let mid = h * 11;
         let one: usize = 11;
         butterflies(p, g, h, mid);
-        run(&g[one..], &mut p[0..mid], k - 1, h);
-        run(&g[mid..], &mut p[mid..], k - 1, h);
+        fourier(&g[one..], &mut p[0..mid], k - 1, h);
+        fourier(&g[mid..], &mut p[mid..], k - 1, h);
     }
 }
 
@@ -256,9 +256,9 @@ fn four_multiples(b: [u64; 11]) -> [u64; 44]
     let d = doubled(b);
     let s = sum(d, b);
     let mut t: [u64; 44] = [0; 44];
-    put(&mut t, 11, b);
-    put(&mut t, 22, d);
-    put(&mut t, 33, s);
+    put_vector(&mut t, 11, b);
+    put_vector(&mut t, 22, d);
+    put_vector(&mut t, 33, s);
     t
 }
 
@@ -364,8 +364,8 @@ fn first(p: &mut [u64], e: [u64; 11], x: u16, y: u16, i: usize, j: usize)
     let a = spread(x);
     let s = sum(a, m);
     let t = sum(s, b);
-    put(p, i * 11, s);
-    put(p, j * 11, t);
+    put_vector(p, i * 11, s);
+    put_vector(p, j * 11, t);
 }
 
 // The butterflies of the coefficients that stand h apart, but for the first.
@@ -387,14 +387,14 @@ fn run_halves(g: &[u64], p: &mut [u64], k: usize, h: usize)
 {
     let mid = h * 11;
     let one: usize = 11;
-    run(&g[one..], &mut p[0..mid], k, h);
-    run(&g[mid..], &mut p[mid..], k, h);
+    fourier(&g[one..], &mut p[0..mid], k, h);
+    fourier(&g[mid..], &mut p[mid..], k, h);
 }
 
 // The transform of 2 h coefficients, x in the place of the first: their butterflies, then the transforms of the halves.
 fn full(g: &[u64], x: [u64; 11], a: &[u16], p: &mut [u64], k: usize, h: usize)
-    requires { ⌜ (h ≡ 2 ^ k) × Startable taps11 (k + 1) (h + h) (now g) (now a) (now p) ⌝ }
-    ensures { λ _. ⌜ Started taps11 (k + 1) (now (g .entry)) x (now (a .entry)) (now (p .entry)) (now (p .exit)) ⌝ }
+    requires { ⌜ (h ≡ 2 ^ k) × RowStartable taps11 (k + 1) (h + h) (now g) (now a) (now p) ⌝ }
+    ensures { λ _. ⌜ RowStarted taps11 (k + 1) (now (g .entry)) x (now (a .entry)) (now (p .entry)) (now (p .exit)) ⌝ }
 {
     let e = vector(g, 0);
     firsts(p, e, a, h);
@@ -403,16 +403,16 @@ fn full(g: &[u64], x: [u64; 11], a: &[u16], p: &mut [u64], k: usize, h: usize)
     let s = sum(x, c);
     let b = spread(y);
     let t = sum(s, b);
-    put(p, 0, s);
-    put(p, h * 11, t);
+    put_vector(p, 0, s);
+    put_vector(p, h * 11, t);
     run_halves(g, p, k, h);
 }
 
 // The transform of n = 2^k coefficients, x in the place of the first. Where nothing but one coefficient stands above the half,
 // it only changes the first coefficient of each half.
 fn start(g: &[u64], x: [u64; 11], a: &[u16], p: &mut [u64], k: usize, n: usize)
-    requires { ⌜ Startable taps11 k n (now g) (now a) (now p) ⌝ }
-    ensures { λ _. ⌜ Started taps11 k (now (g .entry)) x (now (a .entry)) (now (p .entry)) (now (p .exit)) ⌝ }
+    requires { ⌜ RowStartable taps11 k n (now g) (now a) (now p) ⌝ }
+    ensures { λ _. ⌜ RowStarted taps11 k (now (g .entry)) x (now (a .entry)) (now (p .entry)) (now (p .exit)) ⌝ }
 {
     if k > 0 {
         let h = n / 2;
@@ -432,7 +432,7 @@ fn start(g: &[u64], x: [u64; 11], a: &[u16], p: &mut [u64], k: usize, n: usize)
             full(g, x, a, p, k - 1, h);
         }
     } else {
-        put(p, 0, x);
+        put_vector(p, 0, x);
     }
 }
 

@@ -1,5 +1,5 @@
 -- Two outcomes that one contract admits coincide.
---   told          what a map with a way back gives for two is one only where the two are one
+--   way-back      what a map with a way back gives for two is one only where the two are one
 --   one-answer    two answers that one equation admits are one
 --   one-outcome   so with lent memory;  coincide  so where the equation is for what the answer tells
 -- Assumes nothing.
@@ -7,8 +7,8 @@ use mathlib.Core.Path.{_≡_, sym, ap, _∙_}
 use mathlib.Core.List.{List}
 use Prim.Native.Nat.{ℕ}
 
-pub told : {A B : Type 0} (there : A → B) (back : B → A) → ((a : A) → back (there a) ≡ a) → (a b : A) → there a ≡ there b → a ≡ b
-told there back returns a b e = sym (returns a) ∙ ap back e ∙ returns b
+pub way-back : {A B : Type 0} (there : A → B) (back : B → A) → ((a : A) → back (there a) ≡ a) → (a b : A) → there a ≡ there b → a ≡ b
+way-back there back returns a b e = sym (returns a) ∙ ap back e ∙ returns b
 
 pub one-answer : {A : Type 0} {o r s : A} → r ≡ o → s ≡ o → r ≡ s
 one-answer h k = h ∙ sym k

@@ -1,6 +1,6 @@
 -- What an entry's tests find.
---   Admits   all tests pass, or the refusal is that of the first that holds
---   behind   what is found with one test more, behind the others
+--   Admits     all tests pass, or the refusal is that of the first that holds
+--   withTest   what is found with one test more, behind the others
 -- Assumes nothing.
 use mathlib.Core.Bool.{Bool, cond}
 use mathlib.Core.List.{List}
@@ -16,6 +16,6 @@ Admits tests In = Passed tests
 Admits tests (Out k) = Given (numberOf k) tests
 
 -- a refusal stands; what was let in is turned away where the test holds
-abbrev pub behind : Admission → Bool → Refusal → Admission
-behind In holds k = cond holds (Out k) In
-behind (Out j) holds k = Out j
+abbrev pub withTest : Admission → Bool → Refusal → Admission
+withTest In holds k = cond holds (Out k) In
+withTest (Out j) holds k = Out j

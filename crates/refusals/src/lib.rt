@@ -1,7 +1,7 @@
 // What is turned away, under which number (docs/RULES.md section 8).
 ghost use mathlib.Core.Path.{_≡_};
 ghost use Rattle.refusals.specs.Numbers.{numberOf};
-ghost use Rattle.refusals.specs.Admitting.{behind};
+ghost use Rattle.refusals.specs.Admitting.{withTest};
 
 // Each reason to turn an input away.
 pub enum Refusal {
@@ -57,7 +57,7 @@ pub enum Admission {
 
 // One test more, behind those that `found` came from: where it holds, what was let in is turned away under k.
 pub fn also(found: Admission, holds: bool, k: Refusal) -> Admission
-    ensures { λ r. ⌜ r ≡ behind found holds k ⌝ }
+    ensures { λ r. ⌜ r ≡ withTest found holds k ⌝ }
 {
     match found {
         Admission::Out(j) => Admission::Out(j),

@@ -38,12 +38,12 @@ use Rattle.slices.proofs.Bounded.{allBelow-exactly}
 use Rattle.field.specs.Field.{fieldAt, G, rootsAt}
 use Rattle.field.proofs.Instance.{squared-size}
 use Rattle.poly.specs.Lent.{Lent}
-use Rattle.poly.specs.Monic.{front, MadeMonic}
+use Rattle.poly.specs.Monic.{monicLow, MadeMonic}
 use Rattle.poly_powers.specs.Powers.{Startable, powerRows}
 use Rattle.poly_gcd.specs.Euclid.{Turnable, GcdIs}
 use Rattle.poly.proofs.Logs.{field-of, numbers-of}
 use Rattle.table_rules.specs.Limit.{limit}
-use Rattle.table_begin.specs.SplitPart.{Residual, Residue, Splittable, SplitOff, Powered}
+use Rattle.table_begin.specs.SplitPart.{Residual, Residue, CanSplitOff, SplitOff, Powered}
 
 -- ---- z^(2^m) + z modulo p
 
@@ -141,7 +141,7 @@ module _ {m : ℕ} {ls ts p b rows : List ℕ} (g : Residual m ls ts p b rows) w
 
 -- ---- `split_part`
 
-module _ {m : ℕ} {cs ls ts out rows : List ℕ} (g : Splittable m cs ls ts out rows) {out₁ : List ℕ} (e : out₁ ≡ copied cs out) where
+module _ {m : ℕ} {cs ls ts out rows : List ℕ} (g : CanSplitOff m cs ls ts out rows) {out₁ : List ℕ} (e : out₁ ≡ copied cs out) where
   -- the coefficients stand in front
   copy-front : take (length cs) out₁ ≡ cs
   copy-front = ap (take (length cs)) e ∙ copied-front cs out refl
@@ -156,8 +156,8 @@ module _ {m : ℕ} {cs ls ts out rows : List ℕ} (g : Splittable m cs ls ts out
 
   module _ {j : ℕ} {y : List ℕ} (d : MadeMonic m (take (length cs) out₁) j y) where
     -- they were made monic
-    normed : norm (G m) (length cs) cs ≡ front j y
-    normed = subst (λ l. norm (G m) (length l) l ≡ front j y) copy-front (d .made)
+    normed : norm (G m) (length cs) cs ≡ monicLow j y
+    normed = subst (λ l. norm (G m) (length l) l ≡ monicLow j y) copy-front (d .made)
 
     -- with no more coefficients than there were
     within : j ≤ length cs
@@ -169,13 +169,13 @@ module _ {m : ℕ} {cs ls ts out rows : List ℕ} (g : Splittable m cs ls ts out
 
     -- a polynomial that is not 0 has a leading coefficient
     pub split-some : 0 < j
-    unfolding front
+    unfolding monicLow
     split-some = go (decLt 0 j)
       where
         go : Dec (0 < j) → 0 < j
         go (yes p) = p
         go (no n) =
-            let none-left : norm (G m) (length cs) cs ≡ none = normed ∙ ap (λ i. front i y) (let z : j ≡ 0 = omega arith in z) in
+            let none-left : norm (G m) (length cs) cs ≡ none = normed ∙ ap (λ i. monicLow i y) (let z : j ≡ 0 = omega arith in z) in
             let zeros : allZero cs ≡ true =
             allBelow-exactly 1 cs .1 (below-from 1 cs (λ i l. let z : getD cs i 0 ≡ 0 = norm-none (numbers-of (g .tables)) cs (g .polynomial .small) none-left i in omega arith)) in
             absurd (let b : _≡_ {A = Bool} true false = sym zeros ∙ g .polynomial .nonzero in let o : _≡_ {A = ℕ} 0 1 = cc in let x : ⊥ = omega arith in x)
@@ -186,10 +186,10 @@ module _ {m : ℕ} {cs ls ts out rows : List ℕ} (g : Splittable m cs ls ts out
 
     -- which the theory makes of all coefficients
     lead : norm (G m) (length cs) cs ≡ some p
-    unfolding front p
+    unfolding monicLow p
     lead =
         let back : suc (j - 1) ≡ j = omega (arith, split-some) in
-        normed ∙ ap (λ i. front i y) (sym back) ∙ ap some (sym (take-append-le (j - 1) y (drop (length cs) out₁) (omega (arith, within, long-y))))
+        normed ∙ ap (λ i. monicLow i y) (sym back) ∙ ap some (sym (take-append-le (j - 1) y (drop (length cs) out₁) (omega (arith, within, long-y))))
 
     -- the slice is as long as it was
     long-out : length (y ++ drop (length cs) out₁) ≡ length out

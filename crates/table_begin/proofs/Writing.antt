@@ -1,8 +1,8 @@
 -- A table is begun: what the parts ask, and what is left.
---   rows-room                         the room for the rows of the powers
---   begin-asks, begin-splittable      what the table asks, and what the part that splits asks
---   part-long, part-few, written-is   the part that splits, and what is left in the table
---   begin-room                        the table of what was let in
+--   rows-room                           the room for the rows of the powers
+--   begin-asks, begin-splittable        what the table asks, and what the part that splits asks
+--   split-long, split-few, written-is   the part that splits, and what is left in the table
+--   begin-room                          the table of what was let in
 -- Assumes nothing.
 use mathlib.Core.Path.{_≡_, sym, ap, _∙_}
 use mathlib.Core.Bool.{true}
@@ -23,7 +23,7 @@ use Rattle.table_rules.specs.Layout.{byFactor}
 use Rattle.table_rules.specs.Table.{encode}
 use Rattle.table_rules.specs.Splitting.{begunTable, slotsBegun}
 use Rattle.table_rules.specs.Limit.{limit, slots, widest}
-use Rattle.table_begin.specs.SplitPart.{Splittable, SplitOff, Beginnable}
+use Rattle.table_begin.specs.SplitPart.{CanSplitOff, SplitOff, Beginnable}
 use Rattle.table_rules.specs.Polynomials.{PolynomialIn}
 use Rattle.table_rules.proofs.Polynomials.{passed-rest}
 use Rattle.poly.proofs.Lending.{lent-at}
@@ -40,17 +40,17 @@ begin-asks {m} p t r e l a =
     record { polynomial = p; tables = lent-at e (p .field) l a; room = t; room-rows = rows-room m (p .field) r }
 
 -- what the part that splits asks
-pub begin-splittable : {m : ℕ} {cs ls ts table out rows : List ℕ} → Beginnable m cs ls ts table rows → length out ≡ suc limit → Splittable m cs ls ts out rows
+pub begin-splittable : {m : ℕ} {cs ls ts table out rows : List ℕ} → Beginnable m cs ls ts table rows → length out ≡ suc limit → CanSplitOff m cs ls ts out rows
 begin-splittable g h =
     record { polynomial = g .polynomial; tables = g .tables; room = omega (arith, g .polynomial .few); room-rows = g .room-rows }
 
 -- the part that splits is as long as it says
-pub part-long : {m k : ℕ} {cs out : List ℕ} → SplitOff m cs k out → length (take k out) ≡ k
-part-long {m} {k} {cs} s = ap length (s .low) ∙ length-monicRoots (G m) (rootsAt m cs) ∙ sym (s .count)
+pub split-long : {m k : ℕ} {cs out : List ℕ} → SplitOff m cs k out → length (take k out) ≡ k
+split-long {m} {k} {cs} s = ap length (s .low) ∙ length-monicRoots (G m) (rootsAt m cs) ∙ sym (s .count)
 
 -- and fits in
-pub part-few : {m k : ℕ} {cs ls ts table out rows : List ℕ} → Beginnable m cs ls ts table rows → SplitOff m cs k out → length (take k out) ≤ limit
-part-few g s = omega (arith, part-long s, s .fewer, g .polynomial .few)
+pub split-few : {m k : ℕ} {cs ls ts table out rows : List ℕ} → Beginnable m cs ls ts table rows → SplitOff m cs k out → length (take k out) ≤ limit
+split-few g s = omega (arith, split-long s, s .fewer, g .polynomial .few)
 
 -- what is left in the table
 pub written-is : (m c : ℕ) {cs out t : List ℕ} {k : ℕ} → SplitOff m cs k out → t ≡ encode byFactor slots (begunTable m c (take k out))

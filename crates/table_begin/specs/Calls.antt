@@ -1,7 +1,7 @@
 -- What begin answers, and what it leaves in the lent table, for every input (docs/RULES.md section 4.2).
 --   beginTests                 the tests of begin in their order, each behind its number: those of a polynomial, then 6 and 7
 --   beginOutcome, beginMemory  its outcome, and the lent table afterwards
---   paperBegun                 the number of each answer
+--   toldBegun                  the number of each answer
 --   Begins                     THE CONTRACT: the answers and tables that begin admits
 -- Assumes nothing.
 use mathlib.Core.Bool.{Bool, not}
@@ -28,11 +28,11 @@ beginOutcome m c cs table = outcome (beginTests m c cs table) []
 abbrev pub beginMemory : ℕ → ℕ → List ℕ → List ℕ → List ℕ
 beginMemory m c cs table = memory (beginTests m c cs table) (slotsBegun byFactor slots m (inForce c) cs) table
 
-abbrev pub paperBegun : Begun → ℕ × List ℕ
-paperBegun Ready = (0, [])
-paperBegun (NotBegun k) = (numberOf k, [])
+abbrev pub toldBegun : Begun → ℕ × List ℕ
+toldBegun Ready = (0, [])
+toldBegun (NotBegun k) = (numberOf k, [])
 
 -- the contract: an answer, and the lent table afterwards
 abbrev pub Begins : ℕ → ℕ → List ℕ → List ℕ → Begun → List ℕ → Type 0
 Begins m c cs table r after =
-    Answers (beginTests m c cs table) [] (slotsBegun byFactor slots m (inForce c) cs) table (paperBegun r) after
+    Answers (beginTests m c cs table) [] (slotsBegun byFactor slots m (inForce c) cs) table (toldBegun r) after

@@ -1,10 +1,10 @@
 -- What the routines of begin take for granted, and what they leave.
---   Residual    z^(2^m) + z can be reduced by the monic polynomial with the low coefficients p, into b
---   Residue     b took its place: it has the same greatest common divisor with that polynomial
---   Splittable  the part of a polynomial that splits can be written to out, and the powers of z modulo the polynomial to rows
---   SplitOff    k coefficients at the front of out are the product of (z + r) over all distinct roots
---   Powered     rows are z, z^2, z^4, .. , m of them, modulo the polynomial of degree d
---   Beginnable  the table of a polynomial can be written, with the field's tables lent
+--   Residual     z^(2^m) + z can be reduced by the monic polynomial with the low coefficients p, into b
+--   Residue      b took its place: it has the same greatest common divisor with that polynomial
+--   CanSplitOff  the part of a polynomial that splits can be written to out, and the powers of z modulo the polynomial to rows
+--   SplitOff     k coefficients at the front of out are the product of (z + r) over all distinct roots
+--   Powered      rows are z, z^2, z^4, .. , m of them, modulo the polynomial of degree d
+--   Beginnable   the table of a polynomial can be written, with the field's tables lent
 -- Assumes nothing.
 use mathlib.Core.Path.{_≡_}
 use mathlib.Core.Option.{some}
@@ -34,7 +34,7 @@ pub record Residue (m : ℕ) (p b : List ℕ) : Type 0 where
   pub same : gcd (G m) p b ≡ gcd (G m) p (fieldPoly (G m) m)
 
 -- a polynomial that was let in, and room for all of its coefficients
-pub record Splittable (m : ℕ) (cs ls ts out rows : List ℕ) : Type 0 where
+pub record CanSplitOff (m : ℕ) (cs ls ts out rows : List ℕ) : Type 0 where
   pub polynomial : PolynomialIn m cs
   pub tables : Lent m ls ts
   pub room : length cs ≤ length out

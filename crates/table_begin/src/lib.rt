@@ -13,7 +13,7 @@ ghost use Rattle.table_rules.specs.Splitting.{slotsBegun};
 ghost use Rattle.table_rules.specs.Limit.{slots};
 ghost use Rattle.table_rules.specs.Polynomials.{PolynomialIn};
 ghost use Rattle.table_begin.specs.Calls.{Begins};
-ghost use Rattle.table_begin.specs.SplitPart.{Residual, Residue, Splittable};
+ghost use Rattle.table_begin.specs.SplitPart.{Residual, Residue, CanSplitOff};
 ghost use Rattle.table_begin.specs.SplitPart.{SplitOff, Powered, Beginnable};
 use field_tables::constants::antilogs4;
 use field_tables::constants::antilogs8;
@@ -83,7 +83,7 @@ pub fn split_part(
     out: &mut [u16],
     rows: &mut [u16],
 ) -> Degrees
-    requires { ⌜ Splittable m (now coeffs) (now logs) (now antilogs) (now out) (now rows) ⌝ }
+    requires { ⌜ CanSplitOff m (now coeffs) (now logs) (now antilogs) (now out) (now rows) ⌝ }
     ensures { λ r. ⌜ SplitOff m (now (coeffs .entry)) (r .part) (now (out .exit))
         × Powered m (now (coeffs .entry)) (r .whole) (take (m * r .whole) (now (rows .exit))) ⌝ }
 {

@@ -28,7 +28,7 @@ use Rattle.table_slots.proofs.Finding.{seek-done, seek-at}
 use Rattle.table_check.specs.Verdicts.{Fit, Checks}
 use Rattle.table_check.specs.Verdicts.Checks.{short, unsound}
 use Rattle.table_check.specs.declared.Checked.the-variants.{Unfit}
-use Rattle.table_finish.specs.Calls.{finishOutcome, finishMemory, paperFinished}
+use Rattle.table_finish.specs.Calls.{finishOutcome, finishMemory, toldFinished}
 use Rattle.table_finish.specs.Finishing.{Lendable, ListedIn, Opens}
 use Rattle.table_finish.specs.Finishing.Opens.{closed, opened}
 use Rattle.table_finish.specs.declared.Opening.the-variants.{Closed, Open}
@@ -86,7 +86,7 @@ module _ (l list : List ℕ) where
 
 module _ {l list : List ℕ} where
   -- a refusal writes nothing
-  pub closed-is : {k : Refusal} → Opens l list (Closed k) → (paperFinished (NotFinished k) ≡ finishOutcome l list) × (list ≡ finishMemory l list)
+  pub closed-is : {k : Refusal} → Opens l list (Closed k) → (toldFinished (NotFinished k) ≡ finishOutcome l list) × (list ≡ finishMemory l list)
   closed-is (closed g) = (sym (order.refused _ g), sym (order.unwritten _ _ g))
 
   -- what the tests tell of the table and the list
@@ -107,5 +107,5 @@ module _ {l list : List ℕ} where
 
   -- the list is made
   pub opened-is : {k : ℕ} {list′ : List ℕ} → Opens l list Open → ListedIn l list k list′
-      → (paperFinished (Listed k) ≡ finishOutcome l list) × (list′ ≡ finishMemory l list)
+      → (toldFinished (Listed k) ≡ finishOutcome l list) × (list′ ≡ finishMemory l list)
   opened-is (opened p) h = (ap (λ n. (0, n ∷ [])) (h .count) ∙ sym (order.accepted _ p), h .slots ∙ sym (order.written _ _ p))

@@ -1,13 +1,13 @@
 -- The walk over the factors of a done table, whose roots are merged into one list.
---   solvable, roots-long, merge-asks, merge-is   one factor: its roots are found and merged
+--   small-solvable, roots-long, merge-asks, merge-is   one factor: its roots are found and merged
 --   table-long, table-known           a sound table has its slots, and its field is known
 --   head-there                        its head
 --   lent-on                           the tables of the field are lent
 --   Zero                              some factor is 0 at an element
 --   Finishing                         what holds at each turn: what lies ahead, and what has been merged
 --   finish-from, finish-on, finish-end  the start, a turn, the end
---   Here, here                        the factor in front, and the others
---   front-within, front-degree, front-is, front-stands, turn-asks   the factor in front, and what a turn asks
+--   FactorHere, factor-here                        the factor in front, and the others
+--   factor-within, front-degree, front-is, front-stands, turn-asks   the factor in front, and what a turn asks
 -- Assumes nothing.
 use mathlib.Core.Path.{_≡_, refl, sym, ap, ap₂, _∙_, subst}
 use mathlib.Core.Logic.{_↔_, _⊎_, inl, inr, ⊎-elim}
@@ -27,7 +27,7 @@ use Rattle.field.specs.Rows.{known}
 use Rattle.slices.specs.Ordered.{Merged}
 use Rattle.slices.proofs.Ordered.{merged-none, merged-append, merged-count, merged-kept}
 use Rattle.poly.specs.Lent.{Lent}
-use Rattle.poly_small.specs.Roots.{Solvable, RootsOut}
+use Rattle.poly_small.specs.Roots.{SmallSolvable, RootsOut}
 use Rattle.table_rules.specs.Entries.{above, done}
 use Rattle.table_rules.specs.Cutoff.{highestCutoff}
 use Rattle.table_rules.specs.Layout.{factorSlots, Factor, degreeSum, blocks, byFactor}
@@ -39,7 +39,7 @@ use Rattle.table_rules.proofs.Soundness.{Fair, Valid, sound-valid, sound-encode
 use Rattle.field.specs.Field.{fieldAt, G, rootsAt}
 use Rattle.field.specs.Tables.{Halves, Logs, Antilogs}
 use Rattle.table_rules.specs.Limit.{limit, slots}
-use Rattle.table_slots.specs.Slots.{widthOf, cutoffOf, countOf, degreeAt, factorAt, nextAt, Stands, Heads}
+use Rattle.table_slots.specs.Slots.{widthOf, cutoffOf, countOf, degreeAt, factorAt, nextAt, StandsWhole, Heads}
 use Rattle.table_slots.specs.declared.Head.{Head}
 use Rattle.table_finish.specs.Finishing.{Mergeable, RootsIn, Lendable, Listable, ListedIn}
 use Rattle.poly.proofs.Lending.{lent-at, halves-at}
@@ -48,8 +48,8 @@ use Rattle.poly.proofs.Lending.{lent-at, halves-at}
 
 module _ {m : ℕ} {ls ts hs p roots : List ℕ} {n : ℕ} (g : Mergeable m ls ts hs p roots n) where
   -- what the solver asks
-  pub solvable : (out : List ℕ) → length out ≡ 3 → Solvable m ls ts hs p out
-  solvable out e = record { tables = g .tables; halves = g .halves; small = g .small; low = g .low; room = omega arith }
+  pub small-solvable : (out : List ℕ) → length out ≡ 3 → SmallSolvable m ls ts hs p out
+  small-solvable out e = record { tables = g .tables; halves = g .halves; small = g .small; low = g .low; room = omega arith }
 
   module _ {k : ℕ} {out : List ℕ} (e : length out ≡ 3) (o : RootsOut m p k out) where
     -- as many as it says
@@ -221,66 +221,66 @@ module _ {ls ts hs l list : List ℕ} (g : Listable ls ts hs l list) where
 
     module _ (more : 0 < left) where
       -- the factor in front
-      pub record Here : Type 0 where
+      pub record FactorHere : Type 0 where
         pub first : Factor
         pub others : List Factor
         pub split : f .ahead ≡ first ∷ others
 
       -- there is one
-      pub here : Here
-      here = go (f .ahead) refl
+      pub factor-here : FactorHere
+      factor-here = go (f .ahead) refl
         where
-          go : (fs : List Factor) → f .ahead ≡ fs → Here
+          go : (fs : List Factor) → f .ahead ≡ fs → FactorHere
           go [] e = absurd (omega (arith, f .count, ap length e))
           go (e ∷ fs) s = record { first = e; others = fs; split = s }
 
       -- its coefficients
       abbrev pub p : List ℕ
-      p = here .first .1
+      p = factor-here .first .1
 
       -- where it stands
-      spread : l ≡ slotsAhead (here .first) (here .others) (f .pre) (f .after)
-      spread = f .slots ∙ ap (λ u. f .pre ++ (blocks u ++ f .after)) (here .split)
+      spread : l ≡ slotsAhead (factor-here .first) (factor-here .others) (f .pre) (f .after)
+      spread = f .slots ∙ ap (λ u. f .pre ++ (blocks u ++ f .after)) (factor-here .split)
 
       -- those ahead keep the rules
-      all-ahead : All (Fair (widthOf l)) (here .first ∷ here .others)
-      all-ahead = subst (All (Fair (widthOf l))) (here .split) (f .fair)
+      all-ahead : All (Fair (widthOf l)) (factor-here .first ∷ factor-here .others)
+      all-ahead = subst (All (Fair (widthOf l))) (factor-here .split) (f .fair)
 
       -- it is there, whole
-      pub front-within : at + factorSlots + length p ≤ length l
-      front-within = omega (arith, f .place, ap length spread, ahead-long (here .first) (here .others) (f .pre) (f .after))
+      pub factor-within : at + factorSlots + length p ≤ length l
+      factor-within = omega (arith, f .place, ap length spread, ahead-long (factor-here .first) (factor-here .others) (f .pre) (f .after))
 
       -- its degree stands before it
       pub front-degree : degreeAt l at ≡ length p
-      front-degree = ap₂ (λ u j. getD u (j + 1) 0) spread (f .place) ∙ ahead-degree (here .first) (here .others) (f .pre) (f .after)
+      front-degree = ap₂ (λ u j. getD u (j + 1) 0) spread (f .place) ∙ ahead-degree (factor-here .first) (factor-here .others) (f .pre) (f .after)
 
       -- its coefficients stand there
       pub front-is : factorAt l at ≡ p
       front-is =
           ap (λ n. take n (drop (at + 2) l)) front-degree ∙ ap₂ (λ u j. take (length p) (drop (j + 2) u)) spread (f .place)
-          ∙ ahead-coefficients (here .first) (here .others) (f .pre) (f .after)
+          ∙ ahead-coefficients (factor-here .first) (factor-here .others) (f .pre) (f .after)
 
       -- it stands in the slots
-      pub front-stands : Stands l at
-      front-stands = omega (arith, front-within, front-degree)
+      pub front-stands : StandsWhole l at
+      front-stands = omega (arith, factor-within, front-degree)
 
       -- it is not above the cutoff, nor are the others
-      both : (not (above (cutoffOf l) (here .first)) ≡ true) × (done (cutoffOf l) (here .others) ≡ true)
+      both : (not (above (cutoffOf l) (factor-here .first)) ≡ true) × (done (cutoffOf l) (factor-here .others) ≡ true)
       unfolding done
-      both = and-eq-true-iff _ _ .0 (subst (λ u. done (cutoffOf l) u ≡ true) (here .split) (f .low))
+      both = and-eq-true-iff _ _ .0 (subst (λ u. done (cutoffOf l) u ≡ true) (factor-here .split) (f .low))
 
       -- so its degree is at most that
       degree-low : length p ≤ highestCutoff
-      degree-low = omega (arith, ltb-false (cutoffOf l) (length (here .first .1)) (unflip (above (cutoffOf l) (here .first)) (both .0)), cutoff-small)
+      degree-low = omega (arith, ltb-false (cutoffOf l) (length (factor-here .first .1)) (unflip (above (cutoffOf l) (factor-here .first)) (both .0)), cutoff-small)
         where
           unflip : (b : Bool) → not b ≡ true → b ≡ false
           unflip true e = sym e
           unflip false e = refl
 
       -- the sum of degrees, without it
-      sum-split : degreeSum (f .ahead) ≡ length p + degreeSum (here .others)
+      sum-split : degreeSum (f .ahead) ≡ length p + degreeSum (factor-here .others)
       unfolding degreeSum
-      sum-split = ap degreeSum (here .split)
+      sum-split = ap degreeSum (factor-here .split)
 
       -- what a turn asks
       pub turn-asks : {m : ℕ} {q : List ℕ} → m ≡ widthOf l → q ≡ factorAt l at → Mergeable m ls ts hs q list′ k
@@ -306,13 +306,13 @@ module _ {ls ts hs l list : List ℕ} (g : Listable ls ts hs l list) where
           let s = sum-split in
           let old = f .exact in
           record {
-            ahead = here .others;
-            pre = f .pre ++ (here .first .0 ∷ length p ∷ p);
+            ahead = factor-here .others;
+            pre = f .pre ++ (factor-here .first .0 ∷ length p ∷ p);
             after = f .after;
             seen = f .seen ++ r .roots;
-            count = omega (arith, f .count, ap length (here .split));
-            slots = spread ∙ ahead-again (here .first) (here .others) (f .pre) (f .after);
-            place = omega (arith, f .place, front-degree, ahead-next (here .first) (here .others) (f .pre) (f .after));
+            count = omega (arith, f .count, ap length (factor-here .split));
+            slots = spread ∙ ahead-again (factor-here .first) (factor-here .others) (f .pre) (f .after);
+            place = omega (arith, f .place, front-degree, ahead-next (factor-here .first) (factor-here .others) (f .pre) (f .after));
             long = h ∙ f .long;
             room = f .room;
             merged = merged-append (f .merged) (r .merged);
@@ -320,9 +320,9 @@ module _ {ls ts hs l list : List ℕ} (g : Listable ls ts hs l list) where
             fair = all-ahead .1;
             low = both .1;
             exact = λ x.
-                let step = zero-split m (here .first) (here .others) x in
+                let step = zero-split m (factor-here .first) (factor-here .others) x in
                 let mem : List·Memᴰ x (r .roots) ↔ List·Memᴰ x (rootsAt m (monic (G m) p)) = subst (λ u. List·Memᴰ x (r .roots) ↔ List·Memᴰ x (rootsAt m (monic (G m) u))) e (r .members x) in
-                let ahead : Zero m (f .ahead) x ↔ Zero m (here .first ∷ here .others) x = subst (λ u. Zero m (f .ahead) x ↔ Zero m u x) (here .split) (λ z. z, λ z. z) in (
+                let ahead : Zero m (f .ahead) x ↔ Zero m (factor-here .first ∷ factor-here .others) x = subst (λ u. Zero m (f .ahead) x ↔ Zero m u x) (factor-here .split) (λ z. z, λ z. z) in (
                   λ z. ⊎-elim (λ u. inl (Memᴰ·append-left (r .roots) u))
                       (λ u. ⊎-elim (λ v. inl (Memᴰ·append-right (f .seen) (mem .1 v))) (λ v. inr v) (step .0 (ahead .0 u))) (old x .0 z),
                   λ o. old x .1 (⊎-elim (λ u. ⊎-elim (λ v. inl v) (λ v. inr (ahead .1 (step .1 (inl (mem .0 v))))) (List·Memᴰ·append-cases (f .seen) u))

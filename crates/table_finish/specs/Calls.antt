@@ -2,7 +2,7 @@
 --   finishTests     its tests in their order, each behind its number
 --   finishOutcome   its outcome: the number of roots
 --   finishMemory    the list afterwards: the roots fill its front
---   paperFinished   the number and the value of its answer
+--   toldFinished    the number and the value of its answer
 --   Finishes        THE CONTRACT: the answers and lists that finish admits
 -- Assumes nothing.
 use mathlib.Core.Bool.{Bool, not, _||_}
@@ -29,11 +29,11 @@ finishOutcome table list = outcome (finishTests table list) (length (slotsRoots 
 abbrev pub finishMemory : List ℕ → List ℕ → List ℕ
 finishMemory table list = memory (finishTests table list) (copied (slotsRoots byFactor table) list) list
 
-abbrev pub paperFinished : Finished → ℕ × List ℕ
-paperFinished (Listed s) = (0, s ∷ [])
-paperFinished (NotFinished k) = (numberOf k, [])
+abbrev pub toldFinished : Finished → ℕ × List ℕ
+toldFinished (Listed s) = (0, s ∷ [])
+toldFinished (NotFinished k) = (numberOf k, [])
 
 -- the contract: an answer, and the lent list afterwards
 abbrev pub Finishes : List ℕ → List ℕ → Finished → List ℕ → Type 0
 Finishes table list r after =
-    Answers (finishTests table list) (length (slotsRoots byFactor table) ∷ []) (copied (slotsRoots byFactor table) list) list (paperFinished r) after
+    Answers (finishTests table list) (length (slotsRoots byFactor table) ∷ []) (copied (slotsRoots byFactor table) list) list (toldFinished r) after

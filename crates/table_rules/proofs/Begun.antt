@@ -34,9 +34,9 @@ use Rattle.table_rules.specs.Layout.{degreeSum}
 use Rattle.table_rules.specs.Cutoff.{highestCutoff}
 use Rattle.table_rules.specs.Table.{Table, limitOf}
 use Rattle.table_rules.specs.Splitting.{traceBit, traceHalving, isDone, firstFactor, stuck, stepTable, tableAfter, begunTable, groupedTable}
-use Rattle.table_rules.proofs.Lists.{decide, all-append, all-of-map, all-mapped}
+use Rattle.table_rules.proofs.Lists.{true-or-false, all-append, all-of-map, all-mapped}
 use Rattle.table_rules.proofs.Cut.{Cut, whole, first-above}
-use Rattle.table_rules.proofs.Grouped.{Told, allMembers, cut-grouped, cut-length, nonempty, told}
+use Rattle.table_rules.proofs.Grouped.{Told, allMembers, cut-grouped, cut-length, nonempty, groups-told}
 use Rattle.table_rules.proofs.Steps as S
 use Rattle.table_rules.proofs.Carry.{Commutes, carry-entry, carry-first, carry-done, carry-steps, steps-more}
 use Rattle.table_rules.proofs.Soundness.{Fair, Valid}
@@ -129,7 +129,7 @@ module _ {G : Ops ℕ} {m a : ℕ} (B : BinaryField G m a) (c : ℕ) (positive :
 
   -- no two elements have the same trace bits
   pub alone : Told bit m roots
-  alone = told bit m (λ x. x < 2 ^ m) (bits-apart B) roots below distinct
+  alone = groups-told bit m (λ x. x < 2 ^ m) (bits-apart B) roots below distinct
 
   -- begin's table is that of the groups after no step
   pub begin-is : begunTable m c (monicRoots G roots) ≡ table 0
@@ -162,7 +162,7 @@ module _ {G : Ops ℕ} {m a : ℕ} (B : BinaryField G m a) (c : ℕ) (positive :
       one : (s : List ℕ) → All (λ e. e .0 ≤ m) (unlessEmpty 0 s)
       one [] = tt
       one (x ∷ s) = (omega arith, tt)
-  group-levels (suc n) = rw (steps-more (byBit bit) c n (begun bit roots)) (go (decide (done c (at n))) (group-levels n))
+  group-levels (suc n) = rw (steps-more (byBit bit) c n (begun bit roots)) (go (true-or-false (done c (at n))) (group-levels n))
     where
       go : (done c (at n) ≡ true) ⊎ (done c (at n) ≡ false) → All (λ e. e .0 ≤ m) (at n) → All (λ e. e .0 ≤ m) (step (byBit bit) c (at n))
       go (inl d) h = rw (S.done-stays (byBit bit) c (at n) d) h

@@ -16,7 +16,7 @@ use native.Mathlib.Omega.{arith}
 use lib.Dec.{ltb}
 use lib.ListN.{length, length-append}
 use Rattle.algebra.specs.Trial.{keep}
-use Rattle.table_rules.specs.Groups.{words, sumBelow, largerThan, agrees, groupsAt, groupCount}
+use Rattle.table_rules.specs.Groups.{bitWords, sumBelow, largerThan, agrees, groupsAt, groupCount}
 use Rattle.algebra.proofs.Trial.{length-keep}
 use Rattle.table_rules.proofs.Lists.{Test, less, least, test, keep-all, keep-append, keep-keep, keep-both, map-append}
 
@@ -75,18 +75,18 @@ module _ {A : Type 0} (bit : ℕ → A → Bool) where
       → members i s (map (λ w. b ∷ w) ws) ≡ members (suc i) (keep (λ r. cond b (bit i r) (not (bit i r))) s) ws
   members-first i b s ws = map-map (λ w. keep (agrees bit i w) s) (λ w. b ∷ w) ws ∙ ap (λ f. map f ws) (fun-ext λ w. agrees-first i b w s)
 
-  sharing-words : (c n i : ℕ) (s : List A) → length (largerThan c (members i s (words n))) ≡ sharing c n i s
-  unfolding words sharing
+  sharing-words : (c n i : ℕ) (s : List A) → length (largerThan c (members i s (bitWords n))) ≡ sharing c n i s
+  unfolding bitWords sharing
   sharing-words c zero i s = ap (λ l. length (largerThan c (l ∷ []))) (agrees-none i s) ∙ go (ltb c (length s))
     where
       go : (b : Bool) → length (cond b (s ∷ []) []) ≡ cond b 1 0
       go true = refl
       go false = refl
   sharing-words c (suc n) i s =
-      ap (λ l. length (largerThan c l)) (map-append _ (map (λ w. false ∷ w) (words n)) (map (λ w. true ∷ w) (words n))
-      ∙ ap₂ _++_ (members-first i false s (words n)) (members-first i true s (words n)))
-      ∙ ap length (keep-append _ (members (suc i) (zeros i s) (words n)) (members (suc i) (ones i s) (words n)))
-      ∙ length-append (largerThan c (members (suc i) (zeros i s) (words n))) (largerThan c (members (suc i) (ones i s) (words n)))
+      ap (λ l. length (largerThan c l)) (map-append _ (map (λ w. false ∷ w) (bitWords n)) (map (λ w. true ∷ w) (bitWords n))
+      ∙ ap₂ _++_ (members-first i false s (bitWords n)) (members-first i true s (bitWords n)))
+      ∙ ap length (keep-append _ (members (suc i) (zeros i s) (bitWords n)) (members (suc i) (ones i s) (bitWords n)))
+      ∙ length-append (largerThan c (members (suc i) (zeros i s) (bitWords n))) (largerThan c (members (suc i) (ones i s) (bitWords n)))
       ∙ ap₂ _+_ (sharing-words c n (suc i) (zeros i s)) (sharing-words c n (suc i) (ones i s))
 
   -- more than c is more than 0
@@ -101,7 +101,7 @@ module _ {A : Type 0} (bit : ℕ → A → Bool) where
 
   pub groups-counted : (c i : ℕ) (roots : List A) → length (largerThan c (groupsAt bit i roots)) ≡ sharing c i 0 roots
   unfolding groupsAt
-  groups-counted c i roots = ap length (nonempty-larger c (members 0 roots (words i))) ∙ sharing-words c i 0 roots
+  groups-counted c i roots = ap length (nonempty-larger c (members 0 roots (bitWords i))) ∙ sharing-words c i 0 roots
 
   -- ---- all levels
 

@@ -20,7 +20,7 @@ use Rattle.field.specs.Field.{rootsAt, G}
 use Rattle.table_rules.specs.Layout.{Layout, Lawful}
 use Rattle.table_rules.specs.Cutoff.{highestCutoff}
 use Rattle.table_rules.specs.Table.{Table, slotsFor, encode, sound}
-use Rattle.table_rules.specs.Splitting.{isDone, stepTable, bitAt, halvingAt, slotsStepped, slotsAfter, slotsBegun}
+use Rattle.table_rules.specs.Splitting.{isDone, stepTable, traceBitAt, halvingAt, slotsStepped, slotsAfter, slotsBegun}
 use Rattle.table_rules.specs.Demand.{groupsAfter, stepCount, Demand3}
 use Rattle.table_rules.proofs.Counting.{count-bound}
 use Rattle.table_rules.proofs.Soundness.{Valid, encode-sound, decode-encode, length-encode}
@@ -74,7 +74,7 @@ module _ (m : ℕ) (field : known m ≡ true) (c : ℕ) (positive : 1 ≤ c) (f 
     level = T.factor-levels B c positive roots below distinct;
     before = λ n l. (T.not-done-before B c positive roots below distinct n l, T.never-stuck B c positive roots below distinct n l);
     end = T.done-at B c positive roots below distinct;
-    bound = count-bound (bitAt m) c m roots;
+    bound = count-bound (traceBitAt m) c m roots;
     finish = λ n. finish-is m 2 (B .numbers) c n roots below (rootsOf-ascending (G m) (2 ^ m) f);
     sounds = λ L limit most few n h. encode-sound L known limit (groupsAfter m c roots n) (valid limit most few n h);
     slots = slots-after;

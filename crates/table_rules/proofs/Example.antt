@@ -15,19 +15,19 @@ use Rattle.field.specs.Rows.{known, knownIn, polyIn}
 use Rattle.slices.specs.Bounded.{allBelow}
 use Rattle.field.specs.Field as F
 use Rattle.table_rules.specs.Entries.{unlessEmpty, parts, splitAt, firstAbove, step, steps}
-use Rattle.table_rules.specs.Groups.{words, sumBelow, agrees, groupsAt, groupCount}
+use Rattle.table_rules.specs.Groups.{bitWords, sumBelow, agrees, groupsAt, groupCount}
 use Rattle.table_rules.specs.Layout.{statedSum, blocks, readBlocks, restBlocks, byFactor}
 use Rattle.table_rules.specs.Table.{padded, every, encode, sound}
 use Rattle.table_rules.specs.Demand.{groupsAfter, stepCount}
 
 -- roots 1, 2, 3: steps 4, 3, 0 at cutoffs 1, 2, 3
 counts-three : map (λ c. stepCount 4 c (1 ∷ 2 ∷ 3 ∷ [])) (1 ∷ 2 ∷ 3 ∷ []) ≡ 4 ∷ 3 ∷ 0 ∷ []
-unfolding power trace F.mul polyIn words sumBelow agrees groupsAt groupCount
+unfolding power trace F.mul polyIn bitWords sumBelow agrees groupsAt groupCount
 counts-three = refl
 
 -- all 16 elements: 15, 7, 7
 counts-all : map (λ c. stepCount 4 c (upFrom 0 16)) (1 ∷ 2 ∷ 3 ∷ []) ≡ 15 ∷ 7 ∷ 7 ∷ []
-unfolding power trace F.mul polyIn words sumBelow agrees groupsAt groupCount upFrom
+unfolding power trace F.mul polyIn bitWords sumBelow agrees groupsAt groupCount upFrom
 counts-all = refl
 
 -- at cutoff 1 the table after step 3 begins 4,1,2,3, 3,1,1, 3,2,6,1

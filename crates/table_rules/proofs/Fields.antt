@@ -16,7 +16,7 @@ use Rattle.algebra.specs.Routines.{monicRoots}
 use Rattle.algebra.proofs.StaysBelow.{power-below}
 use Rattle.algebra.proofs.NumberSteps.{step-gcd, step-cofactor}
 use Rattle.algebra.proofs.NumberTrace.{tests-apart}
-use Rattle.field.specs.Rows.{known, Listed, polyOf}
+use Rattle.field.specs.Rows.{known, ListedRow, polyOf}
 use Rattle.field.proofs.Known.{listed}
 use Rattle.field.specs.Field.{numbers, fieldAt, G}
 use Rattle.field.proofs.Generator.{Generated, generated, small}
@@ -39,7 +39,7 @@ pub record BinaryField (G : Ops ℕ) (m a : ℕ) : Type 0 where
 -- each row has it
 pub known-field : (m : ℕ) → known m ≡ true → BinaryField (G m) m 2
 known-field m k =
-    let l : Listed m (polyOf m) = listed m k in
+    let l : ListedRow m (polyOf m) = listed m k in
     let gen : Generated (fieldAt m) = generated l in
     record {
       numbers = on-numbers (fieldAt m) gen;

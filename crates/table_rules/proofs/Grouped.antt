@@ -1,12 +1,12 @@
 -- A cut by trace bits is a list of groups: which groups, in which order, and that no root is lost or doubled.
---   words-ascend, words-complete   the words of n bits ascend, and they are all of them
+--   bitWords-ascend, bitWords-complete   the words of n bits ascend, and they are all of them
 --   nonempty       no entry of a cut is empty
 --   Grouped i s l  l holds, for ascending words, the members of s whose bits from level i on are the word
 --   CUT-GROUPED    every cut by trace bits is such a list
 --   allMembers     all members, entry by entry
 --   cut-length     it has as many members as there are roots;  cut-member  and they are the roots
 --   Told m         m bits tell the roots apart: a group of level m or more has at most one member
---   told           where m bits tell elements apart, a group of level m or more has at most one member
+--   groups-told           where m bits tell elements apart, a group of level m or more has at most one member
 -- Assumes nothing.
 use mathlib.Core.Path.{_≡_, refl, sym, ap, ap₂, _∙_, fun-ext, subst}
 use mathlib.Core.Logic.{_↔_, ⊎-elim}
@@ -21,7 +21,7 @@ use Rattle.algebra.specs.Trial.{keep}
 use Rattle.algebra.specs.Trial.{All, Distinct}
 use Rattle.algebra.proofs.Trial.{all-keep, distinct-keep, keep-passed, kept-member}
 use Rattle.table_rules.specs.Entries.{Entry, Halving, unlessEmpty}
-use Rattle.table_rules.specs.Groups.{words, precedes, InOrder, agrees, group, byBit}
+use Rattle.table_rules.specs.Groups.{bitWords, precedes, InOrder, agrees, group, byBit}
 use Rattle.table_rules.proofs.Lists.{keep-both, all-append, all-mapped, all-to-map, map-append}
 use Rattle.table_rules.proofs.Counting.{agrees-first, agrees-none}
 use Rattle.table_rules.proofs.Cut.{Cut, whole, parted}
@@ -53,17 +53,17 @@ ascending-join (v ∷ vs) ws h k = (
 )
 
 -- all words of n bits, as `groupsAt` takes them, ascend
-pub words-ascend : (n : ℕ) → InOrder (words n)
-unfolding words
-words-ascend zero = (tt, tt)
-words-ascend (suc n) = ascending-join (words n) (words n) (words-ascend n) (words-ascend n)
+pub bitWords-ascend : (n : ℕ) → InOrder (bitWords n)
+unfolding bitWords
+bitWords-ascend zero = (tt, tt)
+bitWords-ascend (suc n) = ascending-join (bitWords n) (bitWords n) (bitWords-ascend n) (bitWords-ascend n)
 
 -- and they are all of them
-pub words-complete : (w : List Bool) → List·Memᴰ w (words (length w))
-unfolding words
-words-complete [] = List·Memᴰ·head refl
-words-complete (false ∷ w) = Memᴰ·append-left (under true (words (length w))) (Memᴰ·map (λ v. false ∷ v) (words-complete w))
-words-complete (true ∷ w) = Memᴰ·append-right (under false (words (length w))) (Memᴰ·map (λ v. true ∷ v) (words-complete w))
+pub bitWords-complete : (w : List Bool) → List·Memᴰ w (bitWords (length w))
+unfolding bitWords
+bitWords-complete [] = List·Memᴰ·head refl
+bitWords-complete (false ∷ w) = Memᴰ·append-left (under true (bitWords (length w))) (Memᴰ·map (λ v. false ∷ v) (bitWords-complete w))
+bitWords-complete (true ∷ w) = Memᴰ·append-right (under false (bitWords (length w))) (Memᴰ·map (λ v. true ∷ v) (bitWords-complete w))
 
 -- ---- no entry of a cut is empty
 
@@ -177,8 +177,8 @@ module _ {A : Type 0} (bit : ℕ → A → Bool) where
       go false true true eu ev h g k l rec = absurd h
 
   module _ (m : ℕ) (Is : A → Type 0) (apart : (x y : A) → Is x → Is y → ((i : ℕ) → i < m → bit i x ≡ bit i y) → x ≡ y) where
-    pub told : (roots : List A) → All Is roots → Distinct roots → Told m roots
-    told roots h d w l =
+    pub groups-told : (roots : List A) → All Is roots → Distinct roots → Told m roots
+    groups-told roots h d w l =
         go (group bit w roots) (all-keep Is (agrees bit 0 w) roots h) (distinct-keep (agrees bit 0 w) roots d) (keep-passed (agrees bit 0 w) roots)
       where
         go : (s : List A) → All Is s → Distinct s → All (λ x. T (agrees bit 0 w x)) s → length s ≤ 1

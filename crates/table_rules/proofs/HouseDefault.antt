@@ -15,7 +15,7 @@ use borrow.Author.Tests.{eq-eqb, eqb-false, ne-eqb}
 use lib.Dec.{eqb}
 use Rattle.field.specs.Rows.{known}
 use Rattle.field.specs.Field.{rootsAt, G}
-use Rattle.table_rules.specs.Splitting.{finished, bitAt}
+use Rattle.table_rules.specs.Splitting.{finished, traceBitAt}
 use Rattle.table_rules.specs.Cutoff.{highestCutoff, houseDefault, inForceBy, inForce}
 use Rattle.table_rules.proofs.Counting.{count-falls}
 use Rattle.table_rules.specs.Demand.{groupsAfter, stepCount}
@@ -60,7 +60,7 @@ inForce-rises d e c h = go (eqb c 0)
 
 -- STEP NUMBERS fall or stay equal
 pub default-steps : (m d e c : ℕ) (roots : List ℕ) → d ≤ e → stepCount m (inForceBy e c) roots ≤ stepCount m (inForceBy d c) roots
-default-steps m d e c roots h = count-falls (bitAt m) (inForceBy d c) (inForceBy e c) m roots (inForce-rises d e c h)
+default-steps m d e c roots h = count-falls (traceBitAt m) (inForceBy d c) (inForceBy e c) m roots (inForce-rises d e c h)
 
 -- whatever steps were taken under each
 pub default-roots : (m : ℕ) → known m ≡ true → (d e c : ℕ) → 1 ≤ d → 1 ≤ e → (f : List ℕ) (n k : ℕ)

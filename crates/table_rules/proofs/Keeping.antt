@@ -1,11 +1,11 @@
 -- A step that is taken keeps every sound table sound, begun or not: degrees add up, coefficients stay in the field, levels and slot 3 stay within their limits.
---   Halves         a halving whose two parts have, together, the degree of the whole, and coefficients below 2^m;  trace-halves  the one by trace polynomials
---   stuck-exactly  refusal 9 is given exactly where some factor is above the cutoff, and the first such has level m or slot 3 is at its limit
---   stuck-order    on a valid table that is "or more" in both
---   Free, free     a table that is neither done nor refused by 9: the first factor above the cutoff is below level m, and slot 3 below its limit
---   step-valid     a step keeps a table valid
---   STEP-SOUND     a step keeps slots sound
---   step-slots     the slots after a step hold the table after it
+--   LosslessHalving  a halving whose two parts have, together, the degree of the whole, and coefficients below 2^m;  trace-halves  the one by trace polynomials
+--   stuck-exactly    refusal 9 is given exactly where some factor is above the cutoff, and the first such has level m or slot 3 is at its limit
+--   stuck-order      on a valid table that is "or more" in both
+--   Free, free       a table that is neither done nor refused by 9: the first factor above the cutoff is below level m, and slot 3 below its limit
+--   step-valid       a step keeps a table valid
+--   STEP-SOUND       a step keeps slots sound
+--   step-slots       the slots after a step hold the table after it
 -- Assumes nothing.
 use mathlib.Core.Path.{_≡_, refl, sym, ap, ap₂, _∙_, subst}
 use mathlib.Core.Logic.{_↔_, _⊎_, inl, inr}
@@ -94,13 +94,13 @@ free t v d s =
 -- ---- one split
 
 -- nothing is lost
-pub record Halves (H : Halving ℕ) (m i : ℕ) (p : List ℕ) : Type 0 where
+pub record LosslessHalving (H : Halving ℕ) (m i : ℕ) (p : List ℕ) : Type 0 where
   pub sum : length (H .low i p) + length (H .high i p) ≡ length p
   pub low : Below (2 ^ m) (H .low i p)
   pub high : Below (2 ^ m) (H .high i p)
 
 -- gcd and cofactor share out the degree
-pub trace-halves : {G : Ops ℕ} {m a : ℕ} → BinaryField G m a → (i : ℕ) (p : List ℕ) → Below (2 ^ m) p → Halves (traceHalving G m a) m i p
+pub trace-halves : {G : Ops ℕ} {m a : ℕ} → BinaryField G m a → (i : ℕ) (p : List ℕ) → Below (2 ^ m) p → LosslessHalving (traceHalving G m a) m i p
 trace-halves {G} {m} {a} B i p h =
     let t : List ℕ = traceOf G m (power G a i) in
     let small : Below (2 ^ m) t = traceOf-below (B .numbers) m (power G a i) (level-below B i) in
@@ -125,7 +125,7 @@ unfolding unlessEmpty
 entry-fair m i [] h k = tt
 entry-fair m i (x ∷ s) h k = (record { level = h; degree = omega arith; coefficients = k }, tt)
 
-module _ (H : Halving ℕ) (m : ℕ) (halves : (i : ℕ) (p : List ℕ) → Below (2 ^ m) p → Halves H m i p) where
+module _ (H : Halving ℕ) (m : ℕ) (halves : (i : ℕ) (p : List ℕ) → Below (2 ^ m) p → LosslessHalving H m i p) where
   -- the parts of a factor have its degree
   pub parts-sum : (e : Factor) → Fair m e → degreeSum (parts H e) ≡ length (e .1)
   unfolding parts
@@ -156,7 +156,7 @@ module _ (H : Halving ℕ) (m : ℕ) (halves : (i : ℕ) (p : List ℕ) → Belo
 
 -- ---- a step
 
-module _ (H : Halving ℕ) {fields : ℕ → Bool} {limit : ℕ} (t : Table) (halves : (i : ℕ) (p : List ℕ) → Below (2 ^ t .width) p → Halves H (t .width) i p) where
+module _ (H : Halving ℕ) {fields : ℕ → Bool} {limit : ℕ} (t : Table) (halves : (i : ℕ) (p : List ℕ) → Below (2 ^ t .width) p → LosslessHalving H (t .width) i p) where
   -- A STEP keeps a table valid
   pub step-valid : Valid fields limit t → isDone t ≡ false → stuck t ≡ false → Valid fields limit (stepTable H t)
   unfolding step

@@ -10,7 +10,7 @@ use Prim.Native.Nat.{ℕ, zero, suc, _+_, _*_, _≤_}
 use native.Mathlib.Omega.{arith}
 use lib.ListN.{length, take, drop, length-append, length-drop, take-append-drop}
 use lib.Seq.{length-take-le, take-append-seam, drop-append-seam}
-use Rattle.table_rules.specs.Layout.{Factor, degreeSum, Stated, stated, factorOf, statedSum, Read, Lawful, blocks, readBlocks, restBlocks, byFactor}
+use Rattle.table_rules.specs.Layout.{Factor, degreeSum, StatedFactor, stated, factorOf, statedSum, ReadsBack, Lawful, blocks, readBlocks, restBlocks, byFactor}
 
 -- ---- each factor in turn
 
@@ -37,7 +37,7 @@ read-blocks : (fs : List Factor) (l : List ℕ) → readBlocks (length fs) (bloc
 unfolding readBlocks blocks
 read-blocks [] l = refl
 read-blocks (e ∷ fs) l =
-    ap₂ (λ (p : List ℕ) (k : List Stated). record { level = e .0; degree = length (e .1); coefficients = p } ∷ k) (take-first (e .1) (blocks fs) l)
+    ap₂ (λ (p : List ℕ) (k : List StatedFactor). record { level = e .0; degree = length (e .1); coefficients = p } ∷ k) (take-first (e .1) (blocks fs) l)
     (ap (readBlocks (length fs)) (drop-first (e .1) (blocks fs) l) ∙ read-blocks fs l)
 
 rest-blocks : (fs : List Factor) (l : List ℕ) → restBlocks (length fs) (blocks fs ++ l) ≡ l
@@ -45,18 +45,18 @@ unfolding restBlocks blocks
 rest-blocks [] l = refl
 rest-blocks (e ∷ fs) l = ap (restBlocks (length fs)) (drop-first (e .1) (blocks fs) l) ∙ rest-blocks fs l
 
-write-blocks : (n : ℕ) (l : List ℕ) → 2 * n + statedSum (readBlocks n l) ≤ length l → Read byFactor n l
+write-blocks : (n : ℕ) (l : List ℕ) → 2 * n + statedSum (readBlocks n l) ≤ length l → ReadsBack byFactor n l
 unfolding readBlocks restBlocks blocks statedSum
 write-blocks zero l h = record { whole = refl; exact = refl; count = refl }
 write-blocks (suc n) [] h = absurd (omega arith)
 write-blocks (suc n) (i ∷ []) h = absurd (omega arith)
 write-blocks (suc n) (i ∷ d ∷ l) h =
     let long : length (take d l) ≡ d = length-take-le d l (omega arith) in
-    let r : Read byFactor n (drop d l) = write-blocks n (drop d l) (omega (arith, length-drop d l)) in
+    let r : ReadsBack byFactor n (drop d l) = write-blocks n (drop d l) (omega (arith, length-drop d l)) in
     record {
       whole = ap₂ (λ (j : ℕ) (u : List ℕ). i ∷ j ∷ u) long
           (append-assoc (take d l) (blocks (map factorOf (readBlocks n (drop d l)))) (restBlocks n (drop d l)) ∙ ap (λ u. take d l ++ u) (r .whole) ∙ take-append-drop d l);
-      exact = ap₂ (λ (j : ℕ) (u : List Stated). record { level = i; degree = j; coefficients = take d l } ∷ u) long (r .exact);
+      exact = ap₂ (λ (j : ℕ) (u : List StatedFactor). record { level = i; degree = j; coefficients = take d l } ∷ u) long (r .exact);
       count = ap suc (r .count);
     }
 

@@ -1,6 +1,6 @@
 -- Laws of lists that the other files share.
 --   Test, test                          what a test a < b has found
---   decide                              a test is true or false
+--   true-or-false                       a test is true or false
 --   keep-all, keep-append, keep-keep    of what a test keeps
 --   keep-both                           those that pass a test and those that do not
 --   all-append, all-of-map, all-to-map  of what holds of each element
@@ -31,9 +31,9 @@ test a b = go (ltb a b) refl
     go false e = least (ltb-false a b e)
 
 -- one of both
-pub decide : (b : Bool) → (b ≡ true) ⊎ (b ≡ false)
-decide true = inl refl
-decide false = inr refl
+pub true-or-false : (b : Bool) → (b ≡ true) ⊎ (b ≡ false)
+true-or-false true = inl refl
+true-or-false false = inr refl
 
 module _ {A : Type 0} where
   pub keep-all : (s : List A) → keep (λ r. true) s ≡ s

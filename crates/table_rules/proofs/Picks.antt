@@ -26,7 +26,7 @@ use Rattle.field.specs.Field.{G, rootsAt}
 use Rattle.table_rules.specs.Entries.{Entry, Halving, unlessEmpty, parts, splitAt, above, entryAt, done, carry}
 use Rattle.table_rules.specs.Groups.{byBit, begun, reached, groupCount}
 use Rattle.table_rules.specs.Layout.{Factor}
-use Rattle.table_rules.specs.Splitting.{begunTable, bitAt, halvingAt}
+use Rattle.table_rules.specs.Splitting.{begunTable, traceBitAt, halvingAt}
 use Rattle.table_rules.proofs.Counting.{count-bound}
 use Rattle.table_rules.proofs.Cut.{Cut, whole, parted, cut-split, split-right}
 use Rattle.table_rules.proofs.Grouped.{Told}
@@ -156,8 +156,8 @@ module _ (m : ℕ) (field : known m ≡ true) (c : ℕ) (positive : 1 ≤ c) (f 
       let B = known-field m field in
       let below = rootsOf-below (G m) (2 ^ m) f in
       let distinct = rootsOf-distinct (G m) (2 ^ m) f in
-      let found = picks-carried (monicRoots (G m)) (length-monicRoots (G m)) (byBit (bitAt m)) (halvingAt m) c (cut-commutes B c roots below distinct)
-      q (begun (bitAt m) roots) (carry-entry (monicRoots (G m)) (length-monicRoots (G m)) 0 roots) whole in
+      let found = picks-carried (monicRoots (G m)) (length-monicRoots (G m)) (byBit (traceBitAt m)) (halvingAt m) c (cut-commutes B c roots below distinct)
+      q (begun (traceBitAt m) roots) (carry-entry (monicRoots (G m)) (length-monicRoots (G m)) 0 roots) whole in
       let d′ : done c (found .0) ≡ true = sym (carry-done (monicRoots (G m)) (length-monicRoots (G m)) c (found .0)) ∙ ap (done c) (sym (found .2)) ∙ d in
-      let end = any-order (bitAt m) c m positive roots (alone B c positive roots below distinct) (found .1) d′ in
+      let end = any-order (traceBitAt m) c m positive roots (alone B c positive roots below distinct) (found .1) d′ in
       (end .0, found .2 ∙ ap (map (carry (monicRoots (G m)))) (end .1))

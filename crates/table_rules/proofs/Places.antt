@@ -27,7 +27,7 @@ use Rattle.table_rules.proofs.Cut.{within, first-above}
 use Rattle.table_rules.proofs.Steps.{at-above}
 use Rattle.table_rules.proofs.Layouts.{blocks-append, length-blocks}
 use Rattle.table_rules.proofs.Soundness.{Fair, Valid, fair-count}
-use Rattle.table_rules.proofs.Keeping.{Halves, parts-sum}
+use Rattle.table_rules.proofs.Keeping.{LosslessHalving, parts-sum}
 
 module _ {A : Type 0} (H : Halving A) where
   -- the others are untouched
@@ -68,7 +68,7 @@ fewer-factors m (e ∷ l) zero h a = omega (arith, ltb-true 1 (length (e .1)) a,
 fewer-factors m (e ∷ l) (suc k) h a = omega (arith, h .0 .degree, fewer-factors m l k (h .1) a)
 
 -- not both parts are constant
-pub parts-some : (H : Halving ℕ) (m : ℕ) → ((i : ℕ) (p : List ℕ) → Below (2 ^ m) p → Halves H m i p) → (e : Factor) → Fair m e → 1 ≤ length (parts H e)
+pub parts-some : (H : Halving ℕ) (m : ℕ) → ((i : ℕ) (p : List ℕ) → Below (2 ^ m) p → LosslessHalving H m i p) → (e : Factor) → Fair m e → 1 ≤ length (parts H e)
 parts-some H m halves e h = some-degree (parts H e) (omega (arith, parts-sum H m halves e h, h .degree))
 
 -- ---- around the first factor above the cutoff
@@ -128,7 +128,7 @@ module _ {fields : ℕ → Bool} {limit : ℕ} (t : Table) (v : Valid fields lim
       let large : above 1 (firstFactor t) ≡ true = lt-ltb 1 (length (firstFactor t .1)) (omega (arith, first-large, v .cutoff-least)) in
       omega (arith, length-blocks (t .factors), fewer-factors (t .width) (t .factors) (firstAbove (t .cutoff) (t .factors)) (v .factors) large, v .sum)
 
-  module _ (H : Halving ℕ) (halves : (i : ℕ) (p : List ℕ) → Below (2 ^ t .width) p → Halves H (t .width) i p) where
+  module _ (H : Halving ℕ) (halves : (i : ℕ) (p : List ℕ) → Below (2 ^ t .width) p → LosslessHalving H (t .width) i p) where
     -- the new slots of the factor, and how many they are
     abbrev new : List ℕ
     new = blocks (parts H (firstFactor t))

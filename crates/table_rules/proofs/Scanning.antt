@@ -1,7 +1,7 @@
 -- Soundness in one pass over the slots of a table (RULES 4.1), as code goes: factor by factor, each test where its slots are.
 --   Scanned          what a pass over n factors and the slots behind them has found;  scan-exactly  it is what `fairBlocks` tests
 --   count-follows    "slot 2 is at most the limit" follows from the rules for degrees, so a pass need not test it
---   Passed           the tests of the code
+--   ScanPassed       the tests of the code
 --   SOUND-BY-PASS    they pass exactly where the slots are sound
 -- Assumes nothing.
 use mathlib.Core.Path.{_≡_, refl, ap}
@@ -14,7 +14,7 @@ use borrow.Author.Tests.{leb-true, le-leb}
 use lib.Dec.{leb}
 use lib.ListN.{length, getD, take, drop}
 use Rattle.slices.specs.Bounded.{allBelow, allZero}
-use Rattle.table_rules.specs.Layout.{Stated, statedSum, behind, readBlocks, restBlocks, byFactor, fairBlocks}
+use Rattle.table_rules.specs.Layout.{StatedFactor, statedSum, behindFactor, readBlocks, restBlocks, byFactor, fairBlocks}
 use Rattle.table_rules.specs.Cutoff.{highestCutoff}
 use Rattle.table_rules.specs.Table.{stepLimit, slotsFor, every, sound}
 use Rattle.table_rules.proofs.Soundness.{tests, Tests, Rules, sound-rules}
@@ -31,14 +31,14 @@ record Front (m left n : ℕ) (l : List ℕ) : Type 0 where
   least : 1 ≤ getD l 1 0
   most : getD l 1 0 ≤ left
   coefficients : allBelow (2 ^ m) (take (getD l 1 0) (drop 2 l)) ≡ true
-  more : fairBlocks m (left - getD l 1 0) n (behind l) ≡ true
+  more : fairBlocks m (left - getD l 1 0) n (behindFactor l) ≡ true
 
 front-told : (m left n : ℕ) (l : List ℕ) → fairBlocks m left (suc n) l ≡ true → Front m left n l
 unfolding fairBlocks
 front-told m left n l h = go (simp tests at h)
   where
     go : ((((getD l 0 0 ≤ m) × (1 ≤ getD l 1 0)) × (getD l 1 0 ≤ left)) × (allBelow (2 ^ m) (take (getD l 1 0) (drop 2 l)) ≡ true))
-        × (fairBlocks m (left - getD l 1 0) n (behind l) ≡ true) → Front m left n l
+        × (fairBlocks m (left - getD l 1 0) n (behindFactor l) ≡ true) → Front m left n l
     go v = record { level = v .0 .0 .0 .0; least = v .0 .0 .0 .1; most = v .0 .0 .1; coefficients = v .0 .1; more = v .1 }
 
 front-holds : (m left n : ℕ) (l : List ℕ) → Front m left n l → fairBlocks m left (suc n) l ≡ true
@@ -50,7 +50,7 @@ unfolding readBlocks restBlocks statedSum every fairBlocks
 scan-told m left zero l h = record { factors = record { levels = refl; degrees = refl; coefficients = refl }; sum = omega arith; rest = h }
 scan-told m left (suc n) l h =
     let f : Front m left n l = front-told m left n l h in
-    let s : Scanned m (left - getD l 1 0) n (behind l) = scan-told m (left - getD l 1 0) n (behind l) (f .more) in
+    let s : Scanned m (left - getD l 1 0) n (behindFactor l) = scan-told m (left - getD l 1 0) n (behindFactor l) (f .more) in
     record {
       factors = record {
         levels = and-eq-true-iff _ _ .1 (le-leb (getD l 0 0) m (f .level), s .factors .levels);
@@ -65,15 +65,15 @@ scan-holds : (m left n : ℕ) (l : List ℕ) → Scanned m left n l → fairBloc
 unfolding readBlocks restBlocks statedSum every fairBlocks
 scan-holds m left zero l s = s .rest
 scan-holds m left (suc n) l s =
-    let a = and-eq-true-iff (leb (getD l 0 0) m) (every (λ f. leb (f .level) m) (readBlocks n (behind l))) .0 (s .factors .levels) in
-    let b = and-eq-true-iff (leb 1 (getD l 1 0)) (every (λ f. leb 1 (f .degree)) (readBlocks n (behind l))) .0 (s .factors .degrees) in
-    let c = and-eq-true-iff (allBelow (2 ^ m) (take (getD l 1 0) (drop 2 l))) (every (λ f. allBelow (2 ^ m) (f .coefficients)) (readBlocks n (behind l))) .0 (s .factors .coefficients) in
+    let a = and-eq-true-iff (leb (getD l 0 0) m) (every (λ f. leb (f .level) m) (readBlocks n (behindFactor l))) .0 (s .factors .levels) in
+    let b = and-eq-true-iff (leb 1 (getD l 1 0)) (every (λ f. leb 1 (f .degree)) (readBlocks n (behindFactor l))) .0 (s .factors .degrees) in
+    let c = and-eq-true-iff (allBelow (2 ^ m) (take (getD l 1 0) (drop 2 l))) (every (λ f. allBelow (2 ^ m) (f .coefficients)) (readBlocks n (behindFactor l))) .0 (s .factors .coefficients) in
     front-holds m left n l (record {
       level = leb-true (getD l 0 0) m (a .0);
       least = leb-true 1 (getD l 1 0) (b .0);
       most = omega (arith, s .sum);
       coefficients = c .0;
-      more = scan-holds m (left - getD l 1 0) n (behind l) (record { factors = record { levels = a .1; degrees = b .1; coefficients = c .1 }; sum = omega (arith, s .sum); rest = s .rest });
+      more = scan-holds m (left - getD l 1 0) n (behindFactor l) (record { factors = record { levels = a .1; degrees = b .1; coefficients = c .1 }; sum = omega (arith, s .sum); rest = s .rest });
     })
 
 -- the pass tests just that
@@ -81,7 +81,7 @@ pub scan-exactly : (m left n : ℕ) (l : List ℕ) → (fairBlocks m left n l �
 scan-exactly m left n l = (scan-told m left n l, scan-holds m left n l)
 
 -- degrees of at least 1
-count-stated : (fs : List Stated) → every (λ f. leb 1 (f .degree)) fs ≡ true → length fs ≤ statedSum fs
+count-stated : (fs : List StatedFactor) → every (λ f. leb 1 (f .degree)) fs ≡ true → length fs ≤ statedSum fs
 unfolding every statedSum
 count-stated [] h = omega arith
 count-stated (f ∷ fs) h =
@@ -91,7 +91,7 @@ count-stated (f ∷ fs) h =
 length-read : (n : ℕ) (l : List ℕ) → length (readBlocks n l) ≡ n
 unfolding readBlocks
 length-read zero l = refl
-length-read (suc n) l = ap suc (length-read n (behind l))
+length-read (suc n) l = ap suc (length-read n (behindFactor l))
 
 -- each of the n degrees is at least 1
 pub count-follows : (m left n : ℕ) (l : List ℕ) → fairBlocks m left n l ≡ true → n ≤ left
@@ -100,7 +100,7 @@ count-follows m left n l h =
     omega (arith, count-stated (readBlocks n l) (s .factors .degrees), length-read n l, s .sum)
 
 -- no test of slot 2
-pub record Passed (known : ℕ → Bool) (limit : ℕ) (l : List ℕ) : Type 0 where
+pub record ScanPassed (known : ℕ → Bool) (limit : ℕ) (l : List ℕ) : Type 0 where
   pub size : length l ≡ slotsFor limit
   pub field : known (getD l 0 0) ≡ true
   pub cutoff-least : 1 ≤ getD l 1 0
@@ -109,7 +109,7 @@ pub record Passed (known : ℕ → Bool) (limit : ℕ) (l : List ℕ) : Type 0 w
   pub steps : getD l 3 0 ≤ stepLimit (getD l 0 0) (getD l 1 0) (statedSum (readBlocks (getD l 2 0) (drop 4 l)))
 
 -- THE PASS decides soundness
-pub sound-by-pass : (known : ℕ → Bool) (limit : ℕ) (l : List ℕ) → (sound byFactor known limit l ≡ true) ↔ Passed known limit l
+pub sound-by-pass : (known : ℕ → Bool) (limit : ℕ) (l : List ℕ) → (sound byFactor known limit l ≡ true) ↔ ScanPassed known limit l
 sound-by-pass known limit l = (
   λ h.
       let r : Rules byFactor known limit l = sound-rules byFactor known limit l .0 h in

@@ -24,7 +24,7 @@ use Rattle.algebra.specs.Polynomial.{Below}
 use Rattle.slices.specs.Bounded.{allBelow, allZero}
 use Rattle.slices.proofs.Bounded.{allBelow-exactly, allZero-exactly}
 use Rattle.field.specs.Field.{G}
-use Rattle.table_rules.specs.Layout.{Factor, Stated, stated, factorOf, statedSum, Layout, degreeSum, Lawful, Read}
+use Rattle.table_rules.specs.Layout.{Factor, StatedFactor, stated, factorOf, statedSum, Layout, degreeSum, Lawful, ReadsBack}
 use Rattle.table_rules.specs.Cutoff.{highestCutoff}
 use Rattle.table_rules.specs.Table.{Table, stepLimit, limitOf, slotsFor, every, encode, decode, sound}
 use Rattle.table_rules.specs.Splitting.{isDone, stuck, finished, slotsDone, slotsStuck, slotsRoots}
@@ -63,7 +63,7 @@ stated-sum [] = refl
 stated-sum (e ∷ fs) = ap (λ n. length (e .1) + n) (stated-sum fs)
 
 -- the tests of what is stated of factors
-pub record Tests (m : ℕ) (fs : List Stated) : Type 0 where
+pub record Tests (m : ℕ) (fs : List StatedFactor) : Type 0 where
   pub levels : every (λ f. leb (f .level) m) fs ≡ true
   pub degrees : every (λ f. leb 1 (f .degree)) fs ≡ true
   pub coefficients : every (λ f. allBelow (2 ^ m) (f .coefficients)) fs ≡ true
@@ -144,19 +144,19 @@ count-within {t = t} v = omega (arith, fair-count (t .width) (t .factors) (v .fa
 
 module _ {Y : Layout} (L : Lawful Y) where
   -- the slots of a table before the zeros
-  abbrev pub front : Table → List ℕ
-  front t = t .width ∷ Y .mark (t .cutoff) ∷ length (t .factors) ∷ t .taken ∷ Y .write (t .factors)
+  abbrev pub filledSlots : Table → List ℕ
+  filledSlots t = t .width ∷ Y .mark (t .cutoff) ∷ length (t .factors) ∷ t .taken ∷ Y .write (t .factors)
 
   -- a valid table fits
-  pub front-within : {known : ℕ → Bool} {limit : ℕ} {t : Table} → Valid known limit t → length (front t) ≤ slotsFor limit
-  front-within {t = t} v = omega (arith, L .length-write (t .factors), fair-count (t .width) (t .factors) (v .factors), v .sum)
+  pub filledSlots-within : {known : ℕ → Bool} {limit : ℕ} {t : Table} → Valid known limit t → length (filledSlots t) ≤ slotsFor limit
+  filledSlots-within {t = t} v = omega (arith, L .length-write (t .factors), fair-count (t .width) (t .factors) (v .factors), v .sum)
 
   -- so its slots are as many as there should be
   pub length-encode : {known : ℕ → Bool} {limit : ℕ} {t : Table} → Valid known limit t → length (encode Y (slotsFor limit) t) ≡ slotsFor limit
   unfolding encode
   length-encode {limit = limit} {t = t} v =
-      length-append (front t) (replicate (slotsFor limit - length (front t)) 0)
-      ∙ omega (arith, front-within v, length-replicate {A = ℕ} (slotsFor limit - length (front t)) 0)
+      length-append (filledSlots t) (replicate (slotsFor limit - length (filledSlots t)) 0)
+      ∙ omega (arith, filledSlots-within v, length-replicate {A = ℕ} (slotsFor limit - length (filledSlots t)) 0)
 
   -- ---- the slots tell the table
 
@@ -166,7 +166,7 @@ module _ {Y : Layout} (L : Lawful Y) where
     width = t .width;
     cutoff = L .unmark-mark (t .cutoff) i;
     taken = t .taken;
-    factors = (ap (map factorOf) (L .read-write (t .factors) (replicate (slots - length (front t)) 0)) ∙ map-map factorOf stated (t .factors) ∙ same (t .factors)) i;
+    factors = (ap (map factorOf) (L .read-write (t .factors) (replicate (slots - length (filledSlots t)) 0)) ∙ map-map factorOf stated (t .factors) ∙ same (t .factors)) i;
   }
     where
       same : (fs : List Factor) → map (λ e. factorOf (stated e)) fs ≡ fs
@@ -195,9 +195,9 @@ module _ {Y : Layout} (L : Lawful Y) where
   sound-holds known limit (m ∷ c ∷ []) v = absurd (omega (arith, v .size))
   sound-holds known limit (m ∷ c ∷ k ∷ []) v = absurd (omega (arith, v .size))
   sound-holds known limit (m ∷ c ∷ k ∷ n ∷ l) v =
-      let ks : List Stated = Y .read k l in
+      let ks : List StatedFactor = Y .read k l in
       let fs : List Factor = map factorOf ks in
-      let r : Read Y k l = L .write-read k l (omega (arith, v .size, v .count, v .sum)) in
+      let r : ReadsBack Y k l = L .write-read k l (omega (arith, v .size, v .count, v .sum)) in
       let sum : statedSum ks ≡ degreeSum fs = ap statedSum (sym (r .exact)) ∙ stated-sum fs in
       let zeros : Y .rest k l ≡ replicate (length (Y .rest k l)) 0 = allZero-exactly (Y .rest k l) .0 (v .rest) in
       let written : length l ≡ length (Y .write fs) + length (Y .rest k l) = ap length (sym (r .whole)) ∙ length-append (Y .write fs) (Y .rest k l) in
@@ -229,12 +229,12 @@ module _ {Y : Layout} (L : Lawful Y) where
   unfolding encode
   encode-sound known limit t v =
       let fs : List Factor = t .factors in
-      let z : ℕ = slotsFor limit - length (front t) in
+      let z : ℕ = slotsFor limit - length (filledSlots t) in
       let e : Y .unmark (Y .mark (t .cutoff)) ≡ t .cutoff = L .unmark-mark (t .cutoff) in
       let read : Y .read (length fs) (Y .write fs ++ replicate z 0) ≡ map stated fs = L .read-write fs (replicate z 0) in
       let rest : Y .rest (length fs) (Y .write fs ++ replicate z 0) ≡ replicate z 0 = L .rest-write fs (replicate z 0) in
-      sound-rules Y known limit (front t ++ replicate z 0) .1 (record {
-        size = length-append (front t) (replicate z 0) ∙ omega (arith, length-replicate {A = ℕ} z 0, front-within v);
+      sound-rules Y known limit (filledSlots t ++ replicate z 0) .1 (record {
+        size = length-append (filledSlots t) (replicate z 0) ∙ omega (arith, length-replicate {A = ℕ} z 0, filledSlots-within v);
         field = v .field;
         cutoff-least = rw e (v .cutoff-least);
         cutoff-most = rw e (v .cutoff-most);

@@ -21,7 +21,7 @@ use Rattle.algebra.specs.Trial.{keep}
 use Rattle.algebra.specs.Trial.{All}
 use Rattle.table_rules.specs.Entries.{Entry, Halving, unlessEmpty, parts, splitAt, above, entryAt, firstAbove, done, step, steps}
 use Rattle.table_rules.specs.Groups.{group, groupCount, byBit, begun, reached}
-use Rattle.table_rules.proofs.Lists.{Test, least, test, decide, all-mapped}
+use Rattle.table_rules.proofs.Lists.{Test, least, test, true-or-false, all-mapped}
 use Rattle.table_rules.proofs.Counting.{left, left-none, left-large, count-left, count-bound}
 use Rattle.table_rules.proofs.Cut.{Cut, whole, cut-split, first-above}
 use Rattle.table_rules.proofs.Grouped.{Told, cut-grouped}
@@ -54,7 +54,7 @@ module _ {A : Type 0} where
 
   pub step-cut : (H : Halving A) (c : ℕ) {i : ℕ} {s : List A} {l : List (Entry A)} → Cut H c i s l → Cut H c i s (step H c l)
   unfolding step
-  step-cut H c {i} {s} {l} p = go (decide (done c l))
+  step-cut H c {i} {s} {l} p = go (true-or-false (done c l))
     where
       go : (done c l ≡ true) ⊎ (done c l ≡ false) → Cut H c i s (splitAt H (firstAbove c l) l)
       go (inl d) = rw (done-stays H c l d) p
@@ -131,7 +131,7 @@ module _ {A : Type 0} (bit : ℕ → A → Bool) (c m : ℕ) where
         work-falls l (firstAbove c l) h (at-above c _ l (firstAbove c l) (below-last p) h h)
 
     work-done-iff : {l : List (Entry A)} → Cut (byBit bit) c 0 roots l → work l ≡ 0 → done c l ≡ true
-    work-done-iff {l} p e = go (decide (done c l))
+    work-done-iff {l} p e = go (true-or-false (done c l))
       where
         go : (done c l ≡ true) ⊎ (done c l ≡ false) → done c l ≡ true
         go (inl d) = d
@@ -140,7 +140,7 @@ module _ {A : Type 0} (bit : ℕ → A → Bool) (c m : ℕ) where
     after : (n : ℕ) {l : List (Entry A)} → Cut (byBit bit) c 0 roots l → n ≤ work l → work l ≡ n + work (steps (byBit bit) c n l)
     unfolding steps
     after zero p h = omega arith
-    after (suc n) {l} p h = go (decide (done c l)) (after n (step-cut (byBit bit) c p))
+    after (suc n) {l} p h = go (true-or-false (done c l)) (after n (step-cut (byBit bit) c p))
       where
         go : (done c l ≡ true) ⊎ (done c l ≡ false) → (n ≤ work (step (byBit bit) c l) → work (step (byBit bit) c l) ≡ n + work (steps (byBit bit) c n (step (byBit bit) c l)))
             → work l ≡ suc n + work (steps (byBit bit) c n (step (byBit bit) c l))
@@ -152,7 +152,7 @@ module _ {A : Type 0} (bit : ℕ → A → Bool) (c m : ℕ) where
 
     -- THE STEPS TO "DONE" are the groups above c: after fewer the list is not done
     pub not-done-before : (n : ℕ) → n < groupCount bit c m roots → done c (reached bit c roots n) ≡ false
-    not-done-before n h = go (decide (done c (reached bit c roots n)))
+    not-done-before n h = go (true-or-false (done c (reached bit c roots n)))
       where
         go : (done c (reached bit c roots n) ≡ true) ⊎ (done c (reached bit c roots n) ≡ false) → done c (reached bit c roots n) ≡ false
         go (inl d) =

@@ -20,13 +20,13 @@ use Rattle.table_rules.specs.Groups.{InOrder, group, groupCount}
 use Rattle.table_rules.specs.Layout.{Layout, Lawful, byFactor}
 use Rattle.table_rules.specs.Table.{Table, slotsFor, encode, sound}
 use Rattle.table_rules.specs.Limit.{slots}
-use Rattle.table_rules.specs.Splitting.{isDone, stuck, tableAfter, begunTable, groupedTable, finished, bitAt, halvingAt, slotsAfter}
+use Rattle.table_rules.specs.Splitting.{isDone, stuck, tableAfter, begunTable, groupedTable, finished, traceBitAt, halvingAt, slotsAfter}
 
 abbrev pub groupsAfter : ℕ → ℕ → List ℕ → ℕ → Table
 groupsAfter m c roots n = groupedTable (G m) m 2 c roots n
 
 abbrev pub stepCount : ℕ → ℕ → List ℕ → ℕ
-stepCount m c roots = groupCount (bitAt m) c m roots
+stepCount m c roots = groupCount (traceBitAt m) c m roots
 
 -- of a polynomial, at the cutoff that is asked for
 abbrev pub stepsAt : ℕ → ℕ → List ℕ → ℕ
@@ -42,8 +42,8 @@ pub record Demand3 (m c : ℕ) (roots : List ℕ) : Type 0 where
   pub each : (n : ℕ) → tableAfter (halvingAt m) n (begunTable m c (monicRoots (G m) roots)) ≡ groupsAfter m c roots n
   -- its factors are the products over groups, in ascending order of trace bits, each at the level of its group
   pub order : (n : ℕ)
-      → (ws : List (List Bool)) × InOrder ws × All (λ w. 0 < length (group (bitAt m) w roots)) ws
-      × (groupsAfter m c roots n .factors ≡ map (λ w. (length w, monicRoots (G m) (group (bitAt m) w roots))) ws)
+      → (ws : List (List Bool)) × InOrder ws × All (λ w. 0 < length (group (traceBitAt m) w roots)) ws
+      × (groupsAfter m c roots n .factors ≡ map (λ w. (length w, monicRoots (G m) (group (traceBitAt m) w roots))) ws)
   -- level m is never passed
   pub level : (n : ℕ) → All (λ e. e .0 ≤ m) (groupsAfter m c roots n .factors)
   -- THE STEPS TO "DONE" are as many as there are groups above c: after fewer the table is not done, and 9 is not met; after as many it is done

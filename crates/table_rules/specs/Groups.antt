@@ -1,6 +1,6 @@
 -- Groups (docs/RULES.md section 4.6): a group at level i is a nonempty set of all roots that share their first i trace
 -- bits. `bit i r` is the trace bit of r at level i.
---   words n       the words of n bits, ascending
+--   bitWords n    the words of n bits, ascending
 --   precedes      v comes before w: at the first place where they differ v has 0 and w has 1
 --   InOrder       each word of a list comes before all behind it
 --   sumBelow n f  f 0 + .. + f (n - 1)
@@ -21,9 +21,9 @@ use lib.ListN.{length}
 use Rattle.algebra.specs.Trial.{keep, All}
 use Rattle.table_rules.specs.Entries.{Entry, Halving, unlessEmpty, steps}
 
-unfoldable pub words : ℕ → List (List Bool)
-words zero = [] ∷ []
-words (suc n) = map (λ w. false ∷ w) (words n) ++ map (λ w. true ∷ w) (words n)
+unfoldable pub bitWords : ℕ → List (List Bool)
+bitWords zero = [] ∷ []
+bitWords (suc n) = map (λ w. false ∷ w) (bitWords n) ++ map (λ w. true ∷ w) (bitWords n)
 
 unfoldable pub precedes : List Bool → List Bool → Bool
 precedes [] w = false
@@ -53,7 +53,7 @@ module _ {A : Type 0} (bit : ℕ → A → Bool) where
   group w = keep (agrees 0 w)
 
   unfoldable pub groupsAt : ℕ → List A → List (List A)
-  groupsAt i roots = largerThan 0 (map (λ w. group w roots) (words i))
+  groupsAt i roots = largerThan 0 (map (λ w. group w roots) (bitWords i))
 
   unfoldable pub groupCount : ℕ → ℕ → List A → ℕ
   groupCount c m roots = sumBelow m (λ i. length (largerThan c (groupsAt i roots)))

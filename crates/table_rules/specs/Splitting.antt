@@ -11,7 +11,7 @@
 --   someZero      is some factor 0 at x?
 --   finished      the list that finish makes: every element at which some factor is 0, ascending and once each
 -- and on slots, over the layout:
---   bitAt, halvingAt   the trace bits and the halving in the field of degree m
+--   traceBitAt, halvingAt   the trace bits and the halving in the field of degree m
 --   slotsDone, slotsStuck       the tests of a step;  slotsStepped  the slots after one;  slotsAfter  after n
 --   slotsBegun                  the slots that begin writes for a polynomial;  slotsRoots  the list that finish makes
 -- Assumes nothing.
@@ -79,8 +79,8 @@ finished G t = keep (someZero G (t .factors)) (upFrom 0 (2 ^ t .width))
 
 -- ---- in the known fields, on slots
 
-abbrev pub bitAt : ℕ → ℕ → ℕ → Bool
-bitAt m = traceBit (G m) m 2
+abbrev pub traceBitAt : ℕ → ℕ → ℕ → Bool
+traceBitAt m = traceBit (G m) m 2
 
 abbrev pub halvingAt : ℕ → Halving ℕ
 halvingAt m = traceHalving (G m) m 2

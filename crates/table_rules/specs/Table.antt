@@ -15,7 +15,7 @@ use lib.Dec.{leb, eqb}
 use lib.ListN.{length, getD, drop, replicate}
 use Rattle.slices.specs.Bounded.{allBelow, allZero}
 use Rattle.table_rules.specs.Cutoff.{highestCutoff}
-use Rattle.table_rules.specs.Layout.{factorSlots, Factor, Stated, factorOf, degreeSum, statedSum, Layout}
+use Rattle.table_rules.specs.Layout.{factorSlots, Factor, StatedFactor, factorOf, degreeSum, statedSum, Layout}
 
 pub record Table : Type 0 where
   pub width : ℕ
@@ -57,7 +57,7 @@ module _ (Y : Layout) where
       let m : ℕ = getD l 0 0 in
       let c : ℕ = Y .unmark (getD l 1 0) in
       let n : ℕ = getD l 2 0 in
-      let fs : List Stated = Y .read n (drop headSlots l) in
+      let fs : List StatedFactor = Y .read n (drop headSlots l) in
       let s : ℕ = statedSum fs in
       eqb (length l) (slotsFor limit)
       && known m

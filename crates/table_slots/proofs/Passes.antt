@@ -1,7 +1,7 @@
 -- The loops that pass over slots: the answer for all of them is the answer for what lies ahead.
 --   rest               `&s[at..]` is what lies ahead
---   front-constant, front-short, Front, front-tells, front-fails          the factor at the front
---   Walking, Taken, walk-from, walk-room, walk-taken, walk-on, walk-stop, walk-end   the loop that adds up the degrees
+--   front-constant, front-short, FairFactor, front-tells, front-fails          the factor at the front
+--   Walking, WalkTaken, walk-from, walk-room, walk-taken, walk-on, walk-stop, walk-end   the loop that adds up the degrees
 --   Seeking, seek-from, seek-cut, seek-hit, seek-on, seek-end             the loop that looks for a degree above c
 -- Assumes nothing.
 use mathlib.Core.Path.{_≡_, refl, sym, ap, ap₂, _∙_}
@@ -16,7 +16,7 @@ use lib.Dec.{leb}
 use lib.ListN.{length, getD, take, drop, length-drop}
 use lib.Seq.{drop-drop, take-all}
 use Rattle.slices.specs.Bounded.{allBelow, allZero}
-use Rattle.table_rules.specs.Layout.{statedSum, behind, readBlocks, fairFront, fairBlocks}
+use Rattle.table_rules.specs.Layout.{statedSum, behindFactor, readBlocks, fairFront, fairBlocks}
 use Rattle.table_slots.specs.Walk.{frontSlots, tally, seek}
 use Rattle.table_slots.specs.declared.Sum.the-variants.{Of, Unsound}
 use Rattle.table_slots.specs.declared.Spot.the-variants.{At, Nowhere}
@@ -47,18 +47,18 @@ front-short m room (x ∷ []) h = front-constant m room (x ∷ []) (omega arith)
 front-short m room (x ∷ y ∷ s) h = absurd (omega arith)
 
 -- what is known of a factor within the rules
-pub record Front (m room : ℕ) (s : List ℕ) : Type 0 where
+pub record FairFactor (m room : ℕ) (s : List ℕ) : Type 0 where
   pub fair : fairFront m room s ≡ true
   pub least : 1 ≤ getD s 1 0
   pub most : getD s 1 0 ≤ room
   pub slots : frontSlots m room s ≡ getD s 1 0 + 2
 
 -- an answer other than 0 tells that
-pub front-tells : {m room : ℕ} {s : List ℕ} → frontSlots m room s ≢ 0 → Front m room s
+pub front-tells : {m room : ℕ} {s : List ℕ} → frontSlots m room s ≢ 0 → FairFactor m room s
 unfolding frontSlots
 front-tells {m} {room} {s} n = go (fairFront m room s) refl
   where
-    go : (b : Bool) → fairFront m room s ≡ b → Front m room s
+    go : (b : Bool) → fairFront m room s ≡ b → FairFactor m room s
     go false e = absurd (n (rw e))
     go true e =
         let d : ℕ = getD s 1 0 in
@@ -90,7 +90,7 @@ pub walk-from : (s : List ℕ) (m count limit : ℕ) → 3 * limit ≤ length s 
 walk-from s m count limit h = record { enough = h; within = omega arith; small = omega arith; same = ap (λ k. fairBlocks m k count s) (sym (sub-zero limit)); sums = omega arith }
 
 -- the front's slots, as the loop sees them
-pub record Taken (s : List ℕ) (limit sum at n : ℕ) : Type 0 where
+pub record WalkTaken (s : List ℕ) (limit sum at n : ℕ) : Type 0 where
   pub two : 2 ≤ n
   pub within : at + n ≤ 3 * (sum + (n - 2))
   pub small : sum + (n - 2) ≤ limit
@@ -106,11 +106,11 @@ module _ {s : List ℕ} {m count limit left sum at : ℕ} (w : Walking s m count
     slots-ahead = answer ∙ ap (frontSlots m (limit - sum)) (rest s at)
 
     -- where it is not 0, a factor stands there
-    tells : n ≢ 0 → Front m (limit - sum) (drop at s)
+    tells : n ≢ 0 → FairFactor m (limit - sum) (drop at s)
     tells h = front-tells (λ z. h (slots-ahead ∙ z))
 
     -- its slots are within the list, and its degree within the limit
-    pub walk-taken : n ≢ 0 → Taken s limit sum at n
+    pub walk-taken : n ≢ 0 → WalkTaken s limit sum at n
     walk-taken h =
         let f = tells h in
         let e = slots-ahead in
@@ -130,7 +130,7 @@ module _ {s : List ℕ} {m count limit left sum at : ℕ} (w : Walking s m count
         let p : left ≡ suc (left - 1) = omega arith in
         let k : n ≡ 2 + d = slots-ahead ∙ f .slots ∙ omega arith in
         let j : limit - sum - d ≡ limit - (sum + (n - 2)) = omega (arith, k) in
-        let b : behind (drop at s) ≡ drop (at + n) s = drop-drop d 2 (drop at s) ∙ drop-drop (2 + d) at s ∙ ap (λ i. drop (at + i) s) (sym k) in
+        let b : behindFactor (drop at s) ≡ drop (at + n) s = drop-drop d 2 (drop at s) ∙ drop-drop (2 + d) at s ∙ ap (λ i. drop (at + i) s) (sym k) in
         let q : sum + (d + statedSum (readBlocks (left - 1) (drop (at + n) s))) ≡ sum + (n - 2) + statedSum (readBlocks (left - 1) (drop (at + n) s)) = omega (arith, k) in
         record {
           enough = w .enough;

@@ -11,15 +11,15 @@ use native.Mathlib.Omega.{arith}
 use lib.ListN.{length, take, drop, replicate, length-drop}
 use Rattle.field.specs.Rows.{known, IsRow, rowAt}
 use Rattle.field.specs.declared.rows.Row.{Row}
-use Rattle.field.specs.declared.rows.Found.{Found}
-use Rattle.field.specs.declared.rows.Found.the-variants.{At, Unknown}
+use Rattle.field.specs.declared.rows.FoundRow.{FoundRow}
+use Rattle.field.specs.declared.rows.FoundRow.the-variants.{At, Unknown}
 use Rattle.field.proofs.Known.{row-known, row-unknown}
 use Rattle.table_rules.specs.Cutoff.{highestCutoff}
 use Rattle.table_rules.specs.Layout.{factorSlots, degreeSum, statedSum, readBlocks, byFactor, fairBlocks}
 use Rattle.table_rules.specs.Table.{Table, headSlots, stepLimit, encode, decode}
 use Rattle.table_rules.proofs.Layouts.{byFactor-lawful}
 use Rattle.table_rules.proofs.Soundness.{stated-sum, sound-encoded}
-use Rattle.table_rules.proofs.Scanning.{Passed, scan-exactly, sound-by-pass}
+use Rattle.table_rules.proofs.Scanning.{ScanPassed, scan-exactly, sound-by-pass}
 use Rattle.table_rules.specs.Places.{spare}
 use Rattle.table_rules.specs.Limit.{limit, slots, isSound}
 use Rattle.table_slots.specs.Slots.{widthOf, cutoffOf, countOf, takenOf}
@@ -38,7 +38,7 @@ module _ (l : List ℕ) where
   stated-degrees = statedSum (readBlocks (countOf l) (drop headSlots l))
 
   -- a table that is not sound
-  deny : (Passed known limit l → ⊥) → Unsound ≡ summed l
+  deny : (ScanPassed known limit l → ⊥) → Unsound ≡ summed l
   unfolding summed
   deny n = go (isSound l) refl
     where
@@ -54,7 +54,7 @@ module _ (l : List ℕ) where
       ∙ ap statedSum (byFactor-lawful .read-write (t .factors) (replicate (spare slots t) 0)) ∙ stated-sum (t .factors)
 
   -- the field is not known
-  pub deny-field : {r : Found} → r ≡ rowAt (widthOf l) → r ≡ Unknown → Unsound ≡ summed l
+  pub deny-field : {r : FoundRow} → r ≡ rowAt (widthOf l) → r ≡ Unknown → Unsound ≡ summed l
   deny-field e u = deny (λ s. true≢false (sym (s .field) ∙ row-unknown (widthOf l) (sym e ∙ u)))
 
   -- the cutoff is 0
@@ -65,7 +65,7 @@ module _ (l : List ℕ) where
   pub deny-high : highestCutoff < cutoffOf l → Unsound ≡ summed l
   deny-high h = deny (λ s. omega (arith, s .cutoff-most))
 
-  module _ {f : Found} (e : f ≡ rowAt (widthOf l)) {row : Row} (at : f ≡ At row) where
+  module _ {f : FoundRow} (e : f ≡ rowAt (widthOf l)) {row : Row} (at : f ≡ At row) where
     -- the row is that of slot 0
     is-row : IsRow (widthOf l) row
     is-row = row-known (widthOf l) (sym e ∙ at)

@@ -3,7 +3,7 @@
 --   Heads        it is told
 --   levelAt, degreeAt, factorAt   the level, the degree and the coefficients of the factor at o
 --   nextAt       the place behind it
---   Stands       it is within the slots, whole
+--   StandsWhole       it is within the slots, whole
 --   Appended     a factor was written to w at `at` unless it is constant, and r is the place behind it
 --   Replaceable  the factor at o can give way to parts whose slots are `new`, one or two of them
 --   replacedAt   the slots after that: the parts in its place, the factors counted again, and the step counted
@@ -53,8 +53,8 @@ factorAt l o = take (degreeAt l o) (drop (o + factorSlots) l)
 abbrev pub nextAt : List ℕ → ℕ → ℕ
 nextAt l o = o + factorSlots + degreeAt l o
 
-abbrev pub Stands : List ℕ → ℕ → Type 0
-Stands l o = nextAt l o ≤ length l
+abbrev pub StandsWhole : List ℕ → ℕ → Type 0
+StandsWhole l o = nextAt l o ≤ length l
 
 -- ---- what is written
 

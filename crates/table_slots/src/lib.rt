@@ -8,10 +8,10 @@ ghost use Rattle.table_rules.specs.Layout.{factorSlots, byFactor};
 ghost use Rattle.table_rules.specs.Table.{headSlots, encode};
 ghost use Rattle.table_rules.specs.Splitting.{begunTable};
 ghost use Rattle.table_rules.specs.Limit.{limit, slots};
-ghost use Rattle.table_slots.specs.Slots.{Heads, Stands, levelAt, factorAt, nextAt};
+ghost use Rattle.table_slots.specs.Slots.{Heads, StandsWhole, levelAt, factorAt, nextAt};
 ghost use Rattle.table_slots.specs.Slots.{Appended, Replaceable, replacedAt};
 ghost use Rattle.table_slots.specs.Walk.{frontSlots, tally, soughtIn, summed};
-use field::rows::Found;
+use field::rows::FoundRow;
 use field::rows::row_of;
 use table_rules::HIGHEST_CUTOFF;
 use table_rules::LIMIT;
@@ -82,7 +82,7 @@ pub fn level_at(table: &[u16], o: usize) -> u16
 
 // The place behind the factor at o.
 pub fn next_at(table: &[u16], o: usize) -> usize
-    requires { ⌜ Stands (now table) o ⌝ }
+    requires { ⌜ StandsWhole (now table) o ⌝ }
     ensures { λ r. ⌜ r ≡ nextAt (now (table .entry)) o ⌝ }
 {
     o + LOW + table[o + DEGREE] as usize
@@ -90,7 +90,7 @@ pub fn next_at(table: &[u16], o: usize) -> usize
 
 // The coefficients of the factor at o, below the leading 1.
 pub fn low_at(table: &[u16], o: usize) -> &[u16]
-    requires { ⌜ Stands (now table) o ⌝ }
+    requires { ⌜ StandsWhole (now table) o ⌝ }
     ensures { λ r. ⌜ now r ≡ factorAt (now (table .entry)) o ⌝ }
 {
     let b = o + LOW;
@@ -228,7 +228,7 @@ pub fn degrees(table: &[u16]) -> Sum
 {
     let m = table[WIDTH];
     let c = table[CUTOFF];
-    let Found::At(row) = row_of(m) else {
+    let FoundRow::At(row) = row_of(m) else {
         return Sum::Unsound;
     };
     if c < 1 {

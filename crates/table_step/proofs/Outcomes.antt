@@ -20,7 +20,7 @@ use Rattle.table_rules.specs.Splitting.{slotsDone, slotsStuck, slotsStepped}
 use Rattle.table_rules.specs.Limit.{limit, slots, isSound}
 use Rattle.table_rules.proofs.Layouts.{byFactor-lawful}
 use Rattle.table_rules.proofs.Keeping.{sound-length}
-use Rattle.table_step.specs.Calls.{stepTests, stepOutcome, stepMemory, paperStepped}
+use Rattle.table_step.specs.Calls.{stepTests, stepOutcome, stepMemory, toldStepped}
 use Rattle.table_check.specs.Verdicts.{Checks, Chosen, Judged}
 use Rattle.table_check.specs.Verdicts.Checks.{short, unsound}
 use Rattle.table_check.specs.Verdicts.Judged.{unfit, stuck, over, split}
@@ -31,7 +31,7 @@ use Rattle.table_check.specs.declared.Verdict.the-variants.{Refused, Over, Spli
 
 -- what a step promises of its answer and of the slots that it leaves
 abbrev Promise : List ℕ → Stepped → List ℕ → Type 0
-Promise l r l′ = (paperStepped r ≡ stepOutcome l) × (l′ ≡ stepMemory l)
+Promise l r l′ = (toldStepped r ≡ stepOutcome l) × (l′ ≡ stepMemory l)
 
 -- a step that passes its tests, by whether the table is done
 passed-memory : (l : List ℕ) (b : Bool) → slotsDone byFactor l ≡ b → cond (slotsDone byFactor l) l (slotsStepped byFactor l) ≡ cond b l (slotsStepped byFactor l)

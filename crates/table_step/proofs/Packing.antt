@@ -19,14 +19,14 @@ use Rattle.table_rules.specs.Layout.{blocks}
 use Rattle.table_rules.specs.Splitting.{halvingAt}
 use Rattle.table_rules.proofs.Layouts.{blocks-append}
 use Rattle.table_rules.proofs.Fields.{known-field}
-use Rattle.table_rules.proofs.Keeping.{Halves, trace-halves}
+use Rattle.table_rules.proofs.Keeping.{LosslessHalving, trace-halves}
 use Rattle.table_slots.specs.Slots.{Appended}
 use Rattle.table_slots.proofs.Appending.{some-slots}
 use Rattle.table_step.specs.Parting.{Splittable, Restable, IsCommon, Parted}
 
 module _ {m : ℕ} {ls ts p : List ℕ} {i : ℕ} (s : Splittable m ls ts p i) {k : ℕ} {g : List ℕ} (c : IsCommon m i p k g) where
   -- the two parts have, together, the factor's degree
-  halves : Halves (halvingAt m) m i p
+  halves : LosslessHalving (halvingAt m) m i p
   halves = trace-halves (known-field m (s .tables .degree)) i p (s .small)
 
   -- the first has at most that

@@ -1,9 +1,9 @@
 -- What a step reads around the factor to split, and what it leaves.
---   Reads, reads                      where the factor stands;  head-there, level-there, stands  so that it can be read
+--   SlotsRead, slots-read                      where the factor stands;  head-there, level-there, stands  so that it can be read
 --   factor-is, level-is, level-below-width   it is the first above the cutoff
 --   known-at, lent-here               the field that the head names
 --   split-asks, part-asks             it can be split, and by what is lent;  trace-within, trace-ready  as by the trace sum modulo it
---   Sizes, sizes, new-fits            how many slots the parts take
+--   SlotSizes, slot-sizes, new-fits            how many slots the parts take
 --   replace-asks, replaced            it can give way to its parts, and the slots are then those of a step
 -- Assumes nothing.
 use mathlib.Core.Path.{_≡_, refl, sym, ap, ap₂, subst, _∙_}
@@ -29,14 +29,14 @@ use Rattle.table_rules.specs.Splitting.{isDone, firstFactor, halvingAt, slotsDo
 use Rattle.table_rules.proofs.Layouts.{byFactor-lawful}
 use Rattle.table_rules.proofs.Soundness.{Valid, sound-valid, sound-encoded, count-within}
 use Rattle.table_rules.proofs.Fields.{known-field}
-use Rattle.table_rules.proofs.Keeping.{Free, free, Halves, trace-halves, sound-length, step-slots}
+use Rattle.table_rules.proofs.Keeping.{Free, free, LosslessHalving, trace-halves, sound-length, step-slots}
 use Rattle.table_rules.specs.Places.{beyond, leading, place, slotsOf, spare}
 use Rattle.table_rules.proofs.Places.{encode-around, level-at, degree-at, coefficients-at, first-fair, room, parts-few, parts-some, length-new, step-spliced}
 use Rattle.table_rules.specs.Limit.{limit, slots, twoFactors, widest}
-use Rattle.table_slots.specs.Slots.{widthOf, countOf, takenOf, Heads, levelAt, degreeAt, factorAt, nextAt, Stands, Replaceable, replacedAt}
+use Rattle.table_slots.specs.Slots.{widthOf, countOf, takenOf, Heads, levelAt, degreeAt, factorAt, nextAt, StandsWhole, Replaceable, replacedAt}
 use Rattle.table_slots.specs.declared.Head.{Head}
 use Rattle.table_check.specs.Verdicts.{Chosen}
-use Rattle.table_step.specs.Parting.{Splittable, Partable, Parted, Ready}
+use Rattle.table_step.specs.Parting.{Splittable, Partable, Parted, StepReady}
 use Rattle.table_step.proofs.Commons.{traced-long, trace-small, traced-same}
 
 -- the known degrees are small
@@ -57,7 +57,7 @@ some-factor c [] d = absurd (true≢false d)
 some-factor c (e ∷ l) d = omega arith
 
 -- where the factor to split stands
-pub record Reads (l : List ℕ) (o : ℕ) : Type 0 where
+pub record SlotsRead (l : List ℕ) (o : ℕ) : Type 0 where
   pub long : length l ≡ slots
   pub room : nextAt l o + factorSlots ≤ slots
   pub few : degreeAt l o ≤ limit
@@ -136,8 +136,8 @@ module _ (l : List ℕ) {o : ℕ} (c : Chosen l o) where
   taken-is = refl
 
   -- where it stands
-  pub reads : Reads l o
-  reads = record {
+  pub slots-read : SlotsRead l o
+  slots-read = record {
     long = sound-length byFactor-lawful limit l (c .sound);
     room = omega (arith, degree-is, c .at, around-long);
     few = omega (arith, degree-is, entry-most (t .factors) (firstAbove (t .cutoff) (t .factors)), valid .sum);
@@ -145,14 +145,14 @@ module _ (l : List ℕ) {o : ℕ} (c : Chosen l o) where
 
   -- there is a head
   pub head-there : headSlots ≤ length l
-  head-there = omega (arith, reads .long)
+  head-there = omega (arith, slots-read .long)
 
   -- the factor's level is one of the slots, and the factor stands in them
   pub level-there : o < length l
-  level-there = let r = reads in omega (arith, r .long, r .room)
+  level-there = let r = slots-read in omega (arith, r .long, r .room)
 
-  pub stands : Stands l o
-  stands = let r = reads in omega (arith, r .long, r .room)
+  pub stands : StandsWhole l o
+  stands = let r = slots-read in omega (arith, r .long, r .room)
 
   -- it has as many coefficients as its degree
   factor-long : length (factorAt l o) ≡ degreeAt l o
@@ -169,7 +169,7 @@ module _ (l : List ℕ) {o : ℕ} (c : Chosen l o) where
   module _ {h : Head} (k : Heads l h) {i : ℕ} (e : i ≡ levelAt l o) {p : List ℕ} (q : p ≡ factorAt l o) where
     -- it is at most as long as the limit
     pub read-few : length p ≤ limit
-    read-few = let r = reads in omega (arith, ap length q, factor-long, r .few)
+    read-few = let r = slots-read in omega (arith, ap length q, factor-long, r .few)
 
     -- it can be split
     pub split-asks : {ls ts : List ℕ} → Lent (widthOf l) ls ts → Splittable (h .m) ls ts p i
@@ -182,7 +182,7 @@ module _ (l : List ℕ) {o : ℕ} (c : Chosen l o) where
     }
 
     -- and can be parted by what is lent
-    pub part-asks : {ls ts u : List ℕ} → Ready l ls ts o u → Partable (h .m) ls ts p i u
+    pub part-asks : {ls ts u : List ℕ} → StepReady l ls ts o u → Partable (h .m) ls ts p i u
     part-asks r = record {
       splittable = split-asks (r .tables);
       small = rw (k .width) (r .small);
@@ -200,7 +200,7 @@ module _ (l : List ℕ) {o : ℕ} (c : Chosen l o) where
       trace-within = omega (arith, length-append u z, traced-fits)
 
       -- and parts the factor, at the front of its room
-      pub trace-ready : Ready l ls ts o (take (length p) (u ++ z))
+      pub trace-ready : StepReady l ls ts o (take (length p) (u ++ z))
       trace-ready =
           let s = split-asks a in
           let f : take (length p) (u ++ z) ≡ u = take-at u z (length p) traced-fits in
@@ -223,7 +223,7 @@ module _ (l : List ℕ) {o : ℕ} (c : Chosen l o) where
   H = halvingAt (t .width)
 
   -- each factor is parted in two that have its degree together
-  halves : (i : ℕ) (p : List ℕ) → Below (2 ^ t .width) p → Halves H (t .width) i p
+  halves : (i : ℕ) (p : List ℕ) → Below (2 ^ t .width) p → LosslessHalving H (t .width) i p
   halves = trace-halves (known-field (t .width) (valid .field))
 
   module _ {h : Head} (k : Heads l h) {i : ℕ} (e : i ≡ levelAt l o) {p : List ℕ} (g : p ≡ factorAt l o) {q : ℕ} {w : List ℕ} (r : Parted (h .m) i p q w) where
@@ -245,26 +245,26 @@ module _ (l : List ℕ) {o : ℕ} (c : Chosen l o) where
     new-long = r .count ∙ ap length parts-are ∙ length-new t valid open-still H halves ∙ ap (λ n. factorSlots * length (parts H P) + n) (sym degree-is)
 
     -- one part or two: two or four slots more than coefficients
-    pub record Sizes : Type 0 where
+    pub record SlotSizes : Type 0 where
       pub least : degreeAt l o + factorSlots ≤ q
       pub most : q ≤ degreeAt l o + 2 * factorSlots
 
     -- as they are
-    pub sizes : Sizes
-    sizes = record {
+    pub slot-sizes : SlotSizes
+    slot-sizes = record {
       least = omega (arith, new-long, parts-some H (t .width) halves P (first-fair t valid open-still));
       most = omega (arith, new-long, parts-few H P);
     }
 
     -- they fit in the room of two factors
     pub new-fits : q ≤ twoFactors
-    new-fits = let z = sizes in let s = reads in omega (arith, z .most, s .few)
+    new-fits = let z = slot-sizes in let s = slots-read in omega (arith, z .most, s .few)
 
     -- the factor can give way to them
     pub replace-asks : Replaceable l o (take q w)
     replace-asks =
-        let z = sizes in
-        let s = reads in
+        let z = slot-sizes in
+        let s = slots-read in
         record {
           some = omega (arith, count-is, some-factor (t .cutoff) (t .factors) open-still);
           count = omega (arith, count-is, count-within valid);

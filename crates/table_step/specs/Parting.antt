@@ -5,7 +5,7 @@
 --   IsCommon     the first r coefficients of g are the first part's: the monic greatest common divisor of p and Tr(a^i z)
 --   Parted       the parts of the factor p stand at the front of w, in r slots
 --   Steppable    the factor at o of a table is the one that a step splits, and the field's tables are lent
---   Ready        the same with such a polynomial t lent
+--   StepReady    the same with such a polynomial t lent
 -- Assumes nothing.
 use mathlib.Core.Path.{_≡_}
 use mathlib.Core.List.{List}
@@ -61,7 +61,7 @@ pub record Steppable (l ls ts : List ℕ) (o : ℕ) : Type 0 where
   pub tables : Lent (widthOf l) ls ts
 
 -- the level is that of the factor
-pub record Ready (l ls ts : List ℕ) (o : ℕ) (t : List ℕ) : Type 0 where
+pub record StepReady (l ls ts : List ℕ) (o : ℕ) (t : List ℕ) : Type 0 where
   pub chosen : Chosen l o
   pub tables : Lent (widthOf l) ls ts
   pub small : Below (2 ^ widthOf l) t

@@ -13,7 +13,7 @@ ghost use Rattle.table_rules.specs.Limit.{twoFactors};
 ghost use Rattle.table_step.specs.Calls.{Steps};
 ghost use Rattle.table_check.specs.Verdicts.{Chosen};
 ghost use Rattle.table_step.specs.Parting.{Splittable, Partable, Restable, IsCommon};
-ghost use Rattle.table_step.specs.Parting.{Parted, Steppable, Ready};
+ghost use Rattle.table_step.specs.Parting.{Parted, Steppable, StepReady};
 use field_tables::constants::antilogs4;
 use field_tables::constants::antilogs8;
 use field_tables::constants::antilogs11;
@@ -126,7 +126,7 @@ fn parts_of(
 
 // Replaces the factor at o by its parts, and counts the step, over lent tables and with a polynomial t that stands for Tr(a^i z).
 pub fn step_lent(table: &mut [u16], logs: &[u16], antilogs: &[u16], o: usize, t: &[u16])
-    requires { ⌜ Ready (now table) (now logs) (now antilogs) o (now t) ⌝ }
+    requires { ⌜ StepReady (now table) (now logs) (now antilogs) o (now t) ⌝ }
     ensures { λ _. ⌜ now (table .exit) ≡ slotsStepped byFactor (now (table .entry)) ⌝ }
 {
     let h = head_of(table);

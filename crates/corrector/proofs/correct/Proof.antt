@@ -6,7 +6,7 @@ use Rattle.corrector.proofs.Blocks.{make-block, last-small}
 use borrow.Author.Needs.{needs}
 use Rattle.corrector.proofs.correct.Statement.{statement}
 use Rattle.corrector.proofs.correct.Tie as tie
-use Rattle.corrector.proofs.mend.Reads as mend-reads
+use Rattle.corrector.proofs.mend_block.Reads as mend-block-reads
 
 returns : tie.Need-returns
 returns c = no-block (λ b. c .if1 .taken (b .long))
@@ -33,8 +33,8 @@ returns-4 c =
     (make-block (e .before .before .if1 .left) (λ k. omega (arith, u .slice-known .given k)) (let h = e .if2 .left in omega arith))
     (λ s. let l = s .most in let h = c .if4 .taken in let z : ⊥ = omega arith in z)
 
-mend-requires : tie.Need-mend-requires
-mend-requires c κs =
+mend-block-requires : tie.Need-mend-block-requires
+mend-block-requires c κs =
     let e = c .before .before .before in
     let u = e .before .before .before in (
       make-block (e .before .before .if1 .left) (λ k. omega (arith, u .slice-known .given k)) (let h = e .if2 .left in omega arith),
@@ -56,6 +56,6 @@ correct-spec =
     returns-2
     returns-3
     returns-4
-    mend-requires
+    mend-block-requires
     same-length
     returns-5)

@@ -2,7 +2,7 @@
 -- Assumes nothing.
 use native.Mathlib.Omega.{arith}
 use Rattle.field.proofs.Known.{row11}
-use Rattle.corrector.proofs.Calling.{keyed, fits, located-many, located-few, located-other}
+use Rattle.corrector.proofs.Calling.{keyed, places-fit, located-many, located-few, located-other}
 use Rattle.corrector.proofs.Outcomes.{tells-yes, tells-no}
 use borrow.Author.Needs.{needs}
 use Rattle.corrector.proofs.locate.Statement.{statement}
@@ -67,7 +67,7 @@ agree-requires c κs =
     let v = c .before .before .before .before .before .before .before .before .before .before .all-sums in
     let g = c .before .before .before .before .before .before .key in
     let p = c .before .before .spots-of in
-    (c .before .before .before .before .before .before .before .before .before .before .before .before .before .antilogs11 .ensures, fits (a .args .odd) (v .result) (a .args .t) (v .ensures) (g .result .locator) (keyed (v .result) (a .args .t) (g .result) (g .ensures)) (p .result) (p .ensures) (c .before .if1 .taken), a .pre .1)
+    (c .before .before .before .before .before .before .before .before .before .before .before .before .before .antilogs11 .ensures, places-fit (a .args .odd) (v .result) (a .args .t) (v .ensures) (g .result .locator) (keyed (v .result) (a .args .t) (g .result) (g .ensures)) (p .result) (p .ensures) (c .before .if1 .taken), a .pre .1)
 
 returns : tie.Need-returns
 returns c =

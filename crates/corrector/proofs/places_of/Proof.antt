@@ -7,7 +7,7 @@ use Rattle.corrector.proofs.Walking.{Storing, store-from, store-on}
 use borrow.Author.Needs.{needs}
 use Rattle.corrector.proofs.places_of.Statement.{statement}
 use Rattle.corrector.proofs.places_of.Tie as tie
-use Rattle.corrector.proofs.place.Reads as place-reads
+use Rattle.corrector.proofs.place_of.Reads as place-of-reads
 
 abbrev Inv-loop : tie.InvT-loop
 Inv-loop logs roots n at₀ i₀ at i = Storing roots n at i
@@ -18,14 +18,14 @@ abbrev μ-loop : tie.MeasureT-loop
 loop-holds : tie.Need-loop-holds Inv-loop μ-loop
 loop-holds c = store-from _ _
 
-mul-place : tie.Need-mul-place Inv-loop μ-loop
-mul-place c = let s = c .before .before .before .before .pre .1 in let a = s .few in omega arith
+mul-place-of : tie.Need-mul-place-of Inv-loop μ-loop
+mul-place-of c = let s = c .before .before .before .before .pre .1 in let a = s .few in omega arith
 
-shared-slice-read-place : tie.Need-shared-slice-read-place Inv-loop μ-loop
-shared-slice-read-place c = let s = c .before .before .before .before .before .pre .1 in let a = s .room in omega arith
+shared-slice-read-place-of : tie.Need-shared-slice-read-place-of Inv-loop μ-loop
+shared-slice-read-place-of c = let s = c .before .before .before .before .before .pre .1 in let a = s .room in omega arith
 
-place-requires : tie.Need-place-requires Inv-loop μ-loop
-place-requires c κs =
+place-of-requires : tie.Need-place-of-requires Inv-loop μ-loop
+place-of-requires c κs =
     let a = c .before .before .before .before .before in
     let h = a .pre .1 .nonzero (c .before .before .loop .i) (omega arith) in
     (a .pre .0, h .0, h .1)
@@ -43,7 +43,7 @@ loop-less : tie.Need-loop-less Inv-loop μ-loop
 loop-less c = search needs
 
 loop-again : tie.Need-loop-again Inv-loop μ-loop
-loop-again c = let s = c .before .before .before .before .before .before .pre .1 in store-on _ (c .before .before .before .loop .inv) (omega arith) (s .few) (c .place .ensures)
+loop-again c = let s = c .before .before .before .before .before .before .pre .1 in store-on _ (c .before .before .before .loop .inv) (omega arith) (s .few) (c .place-of .ensures)
 
 returns : tie.Need-returns Inv-loop μ-loop
 returns c = let v = c .before .loop .inv in record { count = refl; good = refl; long = v .long; places = λ k h. v .done k (omega arith) }
@@ -55,9 +55,9 @@ places-of-spec =
     Inv-loop
     μ-loop
     loop-holds
-    mul-place
-    shared-slice-read-place
-    place-requires
+    mul-place-of
+    shared-slice-read-place-of
+    place-of-requires
     mul-at
     array-write-at
     add-i

@@ -2,13 +2,13 @@
 -- Assumes nothing.
 use Prim.Native.Nat.{_-_}
 use native.Mathlib.Omega.{arith}
-use Rattle.corrector.proofs.Walking.{Summing, sum-from, sum-on, sum-end, power-at, product-small}
+use Rattle.corrector.proofs.Walking.{SummingPlaces, sum-places-from, sum-places-on, sum-places-end, power-at, product-small}
 use borrow.Author.Needs.{needs}
 use Rattle.corrector.proofs.power_sum.Statement.{statement}
 use Rattle.corrector.proofs.power_sum.Tie as tie
 
 abbrev Inv-loop : tie.InvT-loop
-Inv-loop antilogs k at n sum₀ i₀ sum i = Summing at k n sum i
+Inv-loop antilogs k at n sum₀ i₀ sum i = SummingPlaces at k n sum i
 
 abbrev μ-loop : tie.MeasureT-loop
 μ-loop antilogs k at n sum₀ i₀ sum i = n - i
@@ -17,7 +17,7 @@ cast-n : tie.Need-cast-n Inv-loop μ-loop
 cast-n c = search needs
 
 loop-holds : tie.Need-loop-holds Inv-loop μ-loop
-loop-holds c = sum-from _ _ _
+loop-holds c = sum-places-from _ _ _
 
 mul-e : tie.Need-mul-e Inv-loop μ-loop
 mul-e c = let f = c .before .before .before .before .pre .1 in let a = f .few in omega arith
@@ -47,10 +47,10 @@ loop-less : tie.Need-loop-less Inv-loop μ-loop
 loop-less c = search needs
 
 loop-again : tie.Need-loop-again Inv-loop μ-loop
-loop-again c = let s = c .before .before .before .before .before .pre in sum-on _ (c .before .before .loop .inv) (omega arith) (let a = s .1 .few in let b = s .1 .long in omega arith) (power-at (s .0) _ _)
+loop-again c = let s = c .before .before .before .before .before .pre in sum-places-on _ (c .before .before .loop .inv) (omega arith) (let a = s .1 .few in let b = s .1 .long in omega arith) (power-at (s .0) _ _)
 
 returns : tie.Need-returns Inv-loop μ-loop
-returns c = sum-end (c .before .loop .inv) (omega arith)
+returns c = sum-places-end (c .before .loop .inv) (omega arith)
 
 pub power-sum-spec : {M : Type 1} → statement M
 power-sum-spec =

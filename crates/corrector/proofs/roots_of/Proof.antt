@@ -3,7 +3,7 @@
 use mathlib.Core.Path.{sym}
 use native.Mathlib.Omega.{arith}
 use lib.Seq.{length-take-le}
-use Rattle.corrector.proofs.Finding.{leading, within, one-front, low-asks, low-front, low-few, front-copied}
+use Rattle.corrector.proofs.Finding.{leading-there, low-within, one-front, low-asks, low-front, low-few, front-copied}
 use borrow.Author.Needs.{needs}
 use Rattle.corrector.proofs.roots_of.Statement.{statement}
 use Rattle.corrector.proofs.roots_of.Tie as tie
@@ -19,7 +19,7 @@ make-monic-requires : tie.Need-make-monic-requires
 make-monic-requires c κs = search needs
 
 sub-d : tie.Need-sub-d
-sub-d c = leading (c .before .before .before .before .before .before .pre .1) (c .before .make-monic .ensures)
+sub-d c = leading-there (c .before .before .before .before .before .before .pre .1) (c .before .make-monic .ensures)
 
 array-read-roots : tie.Need-array-read-roots
 array-read-roots c = search needs
@@ -46,7 +46,7 @@ array-share-prefix-monic : tie.Need-array-share-prefix-monic
 array-share-prefix-monic c = search needs
 
 slice-aggregate-low-roots-2 : tie.Need-slice-aggregate-low-roots-2
-slice-aggregate-low-roots-2 c = sym (length-take-le _ _ (within (c .before .before .before .before .before .before .before .before .before .before .before .pre .1) (c .before .before .before .before .before .before .make-monic .ensures)))
+slice-aggregate-low-roots-2 c = sym (length-take-le _ _ (low-within (c .before .before .before .before .before .before .before .before .before .before .before .pre .1) (c .before .before .before .before .before .before .make-monic .ensures)))
 
 low-roots-requires : tie.Need-low-roots-requires
 low-roots-requires c κs =

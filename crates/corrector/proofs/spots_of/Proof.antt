@@ -5,7 +5,7 @@ use native.Mathlib.Omega.{arith}
 use lib.ListN.{replicate}
 use Rattle.corrector.specs.Places.{placesOf}
 use Rattle.corrector.proofs.Finding.{findable}
-use Rattle.corrector.proofs.Calling.{count-places, placing, holds, spotted-many, spotted-few}
+use Rattle.corrector.proofs.Calling.{count-places, placing, places-held, spotted-many, spotted-few}
 use borrow.Author.Needs.{needs}
 use Rattle.corrector.proofs.spots_of.Statement.{statement}
 use Rattle.corrector.proofs.spots_of.Tie as tie
@@ -43,7 +43,7 @@ returns-2 c =
     let n = count-places (a .args .locator) (a .pre .2) v in
     let h = c .before .before .if1 .left in
     spotted-few (placesOf (a .args .locator)) (a .args .t) _ (c .places-of .ensures .good)
-    (holds (a .args .locator) (a .pre .2) v _ (let t = a .pre .3 in omega arith) (c .places-of .ensures)) (omega arith)
+    (places-held (a .args .locator) (a .pre .2) v _ (let t = a .pre .3 in omega arith) (c .places-of .ensures)) (omega arith)
 
 pub spots-of-spec : {M : Type 1} → statement M
 spots-of-spec =

@@ -5,20 +5,20 @@ use Prim.Native.Nat.{_-_}
 use native.Mathlib.Omega.{arith}
 use lib.ListN.{length, getD}
 use borrow.Author.Tests.{leb-true, leb-false}
-use Rattle.corrector_locator.proofs.Loops.{Summing, sum-start, sum-turn, sum-end}
+use Rattle.corrector_locator.proofs.Loops.{Convolving, convolve-start, convolve-turn, convolve-end}
 use borrow.Author.Needs.{needs}
 use Rattle.corrector_locator.proofs.product_at.Statement.{statement}
 use Rattle.corrector_locator.proofs.product_at.Tie as tie
 use Rattle.corrector_locator.proofs.product.Reads as product-reads
 
 abbrev Inv-loop : tie.InvT-loop
-Inv-loop logs antilogs s k p d₀ i₀ d i = (length p ≡ 9) × Summing p (λ j. getD s j 0) k d i
+Inv-loop logs antilogs s k p d₀ i₀ d i = (length p ≡ 9) × Convolving p (λ j. getD s j 0) k d i
 
 abbrev μ-loop : tie.MeasureT-loop
 μ-loop logs antilogs s k p d₀ i₀ d i = 9 - i
 
 loop-holds : tie.Need-loop-holds Inv-loop μ-loop
-loop-holds c = (omega arith, sum-start _ _ _)
+loop-holds c = (omega arith, convolve-start _ _ _)
 
 mul-product : tie.Need-mul-product Inv-loop μ-loop
 mul-product c = search needs
@@ -47,13 +47,13 @@ loop-less c = search needs
 loop-again : tie.Need-loop-again Inv-loop μ-loop
 loop-again c =
     let v = c .before .before .before .before .loop .inv in
-    (v .0, sum-turn _ (v .1) (omega arith) (leb-true _ _ (c .before .before .if1 .taken)) (c .product .ensures))
+    (v .0, convolve-turn _ (v .1) (omega arith) (leb-true _ _ (c .before .before .if1 .taken)) (c .product .ensures))
 
 returns : tie.Need-returns Inv-loop μ-loop
 returns c = c .before .before .loop .inv .1 .all (leb-false _ _ (c .if1 .left))
 
 returns-2 : tie.Need-returns-2 Inv-loop μ-loop
-returns-2 c = sum-end (c .before .loop .inv .1) (omega arith)
+returns-2 c = convolve-end (c .before .loop .inv .1) (omega arith)
 
 pub product-at-spec : {M : Type 1} → statement M
 product-at-spec =

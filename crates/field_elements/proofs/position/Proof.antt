@@ -8,7 +8,7 @@ use Rattle.refusals.proofs.Admitting.{let-in, turned-away}
 use Rattle.refusals.proofs.Order.{refused}
 use Rattle.field_elements.specs.Calls.{positionTests}
 use Rattle.field_elements.proofs.Admitting.{place-told}
-use Rattle.field_elements.proofs.Placing.{Placed, placed, goppa-outcome, recorder-outcome}
+use Rattle.field_elements.proofs.Placing.{ExponentKnown, exponent-known, goppa-outcome, recorder-outcome}
 use borrow.Author.Needs.{needs}
 use Rattle.field_elements.proofs.position.Statement.{statement}
 use Rattle.field_elements.proofs.position.Tie as tie
@@ -21,8 +21,8 @@ let-through : (c : tie.After-enum-told) → let s = c .before .before .before .a
 let-through c = let-in (c .before .before .admit-position .ensures) (c .enum-told .given .1)
 
 -- and the exponent is taken
-its : (c : tie.After-position-in) → let s = c .before .before .before .before .args in Placed (s .m) (s .r) (s .convention) (c .position-in .result)
-its c = let s = c .before .before .before .before .args in placed (s .m) (s .r) (s .convention) (let-through (c .before)) (c .position-in .ensures)
+its : (c : tie.After-position-in) → let s = c .before .before .before .before .args in ExponentKnown (s .m) (s .r) (s .convention) (c .position-in .result)
+its c = let s = c .before .before .before .before .args in exponent-known (s .m) (s .r) (s .convention) (let-through (c .before)) (c .position-in .ensures)
 
 admit-position-requires : tie.Need-admit-position-requires
 admit-position-requires c κs = search needs

@@ -5,13 +5,13 @@ use mathlib.Core.Logic.{⊎-elim}
 use Prim.Native.Nat.{_-_}
 use native.Mathlib.Omega.{arith}
 use lib.ListN.{length}
-use Rattle.find_admit.proofs.Seeking.{Seeking, seek-from, seek-raise, seek-keep, seek-end}
+use Rattle.find_admit.proofs.Seeking.{SeekingTop, seek-top-from, seek-top-raise, seek-top-keep, seek-top-end}
 use borrow.Author.Needs.{needs}
 use Rattle.find_admit.proofs.largest.Statement.{statement}
 use Rattle.find_admit.proofs.largest.Tie as tie
 
 abbrev Inv-loop : tie.InvT-loop
-Inv-loop coeffs top₀ k₀ top k = Seeking coeffs top k
+Inv-loop coeffs top₀ k₀ top k = SeekingTop coeffs top k
 
 abbrev μ-loop : tie.MeasureT-loop
 μ-loop coeffs top₀ k₀ top k = length coeffs - k
@@ -20,7 +20,7 @@ returns : tie.Need-returns Inv-loop μ-loop
 returns c = record { count = refl; largest = λ h. absurd (omega arith) }
 
 loop-holds : tie.Need-loop-holds Inv-loop μ-loop
-loop-holds c = seek-from _
+loop-holds c = seek-top-from _
 
 mul-c : tie.Need-mul-c Inv-loop μ-loop
 mul-c c = search needs
@@ -38,12 +38,12 @@ loop-again : tie.Need-loop-again Inv-loop μ-loop
 loop-again c =
     let s = c .before .before .before .loop .inv in
     ⊎-elim
-    (λ w. rw (w .1) (seek-raise s (omega arith) refl (w .0 .taken)))
-    (λ w. rw (w .1) (seek-keep s (omega arith) refl (w .0 .left)))
+    (λ w. rw (w .1) (seek-top-raise s (omega arith) refl (w .0 .taken)))
+    (λ w. rw (w .1) (seek-top-keep s (omega arith) refl (w .0 .left)))
     (c .if2 .came)
 
 returns-2 : tie.Need-returns-2 Inv-loop μ-loop
-returns-2 c = record { count = refl; largest = λ h. seek-end (c .before .loop .inv) (omega arith) }
+returns-2 c = record { count = refl; largest = λ h. seek-top-end (c .before .loop .inv) (omega arith) }
 
 pub largest-spec : {M : Type 1} → statement M
 largest-spec =

@@ -4,7 +4,7 @@ use native.Mathlib.Omega.{arith}
 use Prim.Native.Nat.{_+_, _-_, _≤_, _<_}
 use lib.ListN.{length, length-set}
 use Rattle.find_search.specs.Searching.{Tried}
-use Rattle.find_search.proofs.Words.{Reading, reading-from, reading-on, reading-less, reading-end, shift-small, found, skipped, room-here}
+use Rattle.find_search.proofs.Words.{Reading, reading-from, reading-on, reading-less, reading-end, shift-small, found, zeros-skipped, room-here}
 use borrow.Author.Needs.{needs}
 use Rattle.find_search.proofs.note_word.Statement.{statement}
 use Rattle.find_search.proofs.note_word.Tie as tie

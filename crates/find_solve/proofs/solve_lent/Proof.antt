@@ -30,23 +30,23 @@ mul-e c = let h = powered-fit (c .before .before .before .before .before .before
 array-share-prefix-rows : tie.Need-array-share-prefix-rows
 array-share-prefix-rows c = let h = powered-fit (c .before .before .before .before .before .before .before .before .before .before .pre) (c .before .before .begin-lent .ensures .1) in search needs
 
-slice-aggregate-run : tie.Need-slice-aggregate-run
-slice-aggregate-run c = let h = powered-fit (c .before .before .before .before .before .before .before .before .before .before .before .pre) (c .before .before .before .begin-lent .ensures .1) in sym (length-take-le _ _ (search needs))
+slice-aggregate-run-table : tie.Need-slice-aggregate-run-table
+slice-aggregate-run-table c = let h = powered-fit (c .before .before .before .before .before .before .before .before .before .before .before .pre) (c .before .before .before .begin-lent .ensures .1) in sym (length-take-le _ _ (search needs))
 
-slice-aggregate-run-2 : tie.Need-slice-aggregate-run-2
-slice-aggregate-run-2 c = search needs
+slice-aggregate-run-table-2 : tie.Need-slice-aggregate-run-table-2
+slice-aggregate-run-table-2 c = search needs
 
-slice-aggregate-run-3 : tie.Need-slice-aggregate-run-3
-slice-aggregate-run-3 c = search needs
+slice-aggregate-run-table-3 : tie.Need-slice-aggregate-run-table-3
+slice-aggregate-run-table-3 c = search needs
 
-run-requires : tie.Need-run-requires
-run-requires c κs = record { tables = c .before .before .before .before .before .before .before .before .before .before .before .before .before .pre .tables; polynomial = c .before .before .before .before .before .before .before .before .before .before .before .before .before .pre .polynomial; powers = c .before .before .before .before .before .begin-lent .ensures .1; zeros = refl; stepping = begun-stepping (c .before .before .before .before .before .before .before .before .before .before .before .before .before .pre) (c .before .before .before .before .before .begin-lent .ensures .0) }
+run-table-requires : tie.Need-run-table-requires
+run-table-requires c κs = record { tables = c .before .before .before .before .before .before .before .before .before .before .before .before .before .pre .tables; polynomial = c .before .before .before .before .before .before .before .before .before .before .before .before .before .pre .polynomial; powers = c .before .before .before .before .before .begin-lent .ensures .1; zeros = refl; stepping = begun-stepping (c .before .before .before .before .before .before .before .before .before .before .before .before .before .pre) (c .before .before .before .before .before .begin-lent .ensures .0) }
 
 slice-aggregate-finish-lent : tie.Need-slice-aggregate-finish-lent
 slice-aggregate-finish-lent c = search needs
 
 finish-lent-requires : tie.Need-finish-lent-requires
-finish-lent-requires c κs = let g = c .before .before .before .before .before .before .before .before .before .before .before .before .before .before .before .before .before .before .pre in out-asks g (begun-stepping g (c .before .before .before .before .before .before .before .before .before .before .begin-lent .ensures .0)) (c .before .before .before .before .run .ensures)
+finish-lent-requires c κs = let g = c .before .before .before .before .before .before .before .before .before .before .before .before .before .before .before .before .before .before .pre in out-asks g (begun-stepping g (c .before .before .before .before .before .before .before .before .before .before .begin-lent .ensures .0)) (c .before .before .before .before .run-table .ensures)
 
 slice-aggregate-head-of : tie.Need-slice-aggregate-head-of
 slice-aggregate-head-of c = search needs
@@ -64,7 +64,7 @@ returns : tie.Need-returns
 returns c =
     let k = c .before .before .before .before .before .before .before .before .before .before .before .before .before .before .before .before .before .before .before .before .before .before .before in
     let s = begun-stepping (k .pre) (c .before .before .before .before .before .before .before .before .before .before .before .before .before .before .before .begin-lent .ensures .0) in
-    let r = c .before .before .before .before .before .before .before .before .before .run .ensures in
+    let r = c .before .before .before .before .before .before .before .before .before .run-table .ensures in
     let f = c .before .before .before .before .finish-lent .ensures in
     record {
       count = f .count ∙ ap length (out-roots s r);
@@ -81,10 +81,10 @@ solve-lent-spec =
     begin-lent-requires
     mul-e
     array-share-prefix-rows
-    slice-aggregate-run
-    slice-aggregate-run-2
-    slice-aggregate-run-3
-    run-requires
+    slice-aggregate-run-table
+    slice-aggregate-run-table-2
+    slice-aggregate-run-table-3
+    run-table-requires
     slice-aggregate-finish-lent
     finish-lent-requires
     slice-aggregate-head-of

@@ -42,8 +42,8 @@ decimal-requires c κs = omega (arith, ten-digits (c .before .before .before .ar
 put-spaced-requires : tie.Need-put-spaced-requires
 put-spaced-requires c κs = let d = c .before .before .before in omega (arith, first d, d .decimal .kept .1 .1 .0)
 
-put-requires : tie.Need-put-requires
-put-requires c κs = let p = c .before .before .before .before in omega (arith, second p, kept-second p)
+put-byte-requires : tie.Need-put-byte-requires
+put-byte-requires c κs = let p = c .before .before .before .before in omega (arith, second p, kept-second p)
 
 same-length : tie.Need-same-length
 same-length c = search needs
@@ -53,7 +53,7 @@ returns c =
     let p = c .before .before .before .before .before .before .before in
     let d = p .before .before .before .before in
     let a = d .before .before .before .before .args in
-    line-refused (a .k) (a .outcome) (a .steps) (take (a .s) (now (a .roots))) (d .decimal .ensures) (p .put-spaced .ensures) (c .before .before .before .before .if1 .taken) (c .before .before .put .ensures)
+    line-refused (a .k) (a .outcome) (a .steps) (take (a .s) (now (a .roots))) (d .decimal .ensures) (p .put-spaced .ensures) (c .before .before .before .before .if1 .taken) (c .before .before .put-byte .ensures)
 
 put-spaced-requires-2 : tie.Need-put-spaced-requires-2
 put-spaced-requires-2 c κs = let p = c .before .before .before .before in omega (arith, second p, kept-second p)
@@ -67,8 +67,8 @@ put-roots-requires c κs =
     let pre = p .before .before .before .before .before .before .before .before .before .before .before .before .before .before .before .before .before .pre in
     (pre .0, omega (arith, fourth p, kept-fourth p, pre .1))
 
-put-requires-2 : tie.Need-put-requires-2
-put-requires-2 c κs =
+put-byte-requires-2 : tie.Need-put-byte-requires-2
+put-byte-requires-2 c κs =
     let r = c .before .before .before in
     let p = r .before .before .before .before in
     omega (arith, fourth p, kept-fourth p, p .before .before .before .before .before .before .before .before .before .before .before .before .before .before .before .before .before .pre .1, r .put-roots .ensures .1, r .put-roots .kept .1 .1 .1 .0)
@@ -90,7 +90,7 @@ returns-2 c =
     (subst (λ s. Wrote (spaced (s ∷ [])) (p .put-spaced .result) (p .put-spaced .last .1 .1 .0) (t .put-spaced2 .result) (t .put-spaced2 .last .1 .1 .0)) n (t .put-spaced2 .ensures))
     (f .put-spaced3 .ensures)
     (r .put-roots .ensures .0)
-    (c .before .before .put2 .ensures)
+    (c .before .before .put-byte2 .ensures)
 
 pub line-spec : {M : Type 1} → statement M
 line-spec =
@@ -98,12 +98,12 @@ line-spec =
     (tie.spec
     decimal-requires
     put-spaced-requires
-    put-requires
+    put-byte-requires
     same-length
     returns
     put-spaced-requires-2
     put-spaced-requires-3
     put-roots-requires
-    put-requires-2
+    put-byte-requires-2
     same-length-2
     returns-2)

@@ -2,7 +2,7 @@
 -- Assumes nothing.
 use Prim.Native.Nat.{_-_}
 use native.Mathlib.Omega.{arith}
-use Rattle.job_text.proofs.Writing.{Rowing, row-from, row-on, row-end}
+use Rattle.job_text.proofs.Writing.{Rowing, roots-from, roots-on, roots-end}
 use borrow.Author.Needs.{needs}
 use Rattle.job_text.proofs.put_roots.Statement.{statement}
 use Rattle.job_text.proofs.put_roots.Tie as tie
@@ -14,7 +14,7 @@ abbrev μ-loop : tie.MeasureT-loop
 μ-loop s roots at out₀ end₀ i₀ out end i = s - i
 
 loop-holds : tie.Need-loop-holds Inv-loop μ-loop
-loop-holds c = row-from _ _ _ _ (search needs) (search needs)
+loop-holds c = roots-from _ _ _ _ (search needs) (search needs)
 
 mul-put-spaced : tie.Need-mul-put-spaced Inv-loop μ-loop
 mul-put-spaced c = search needs
@@ -35,13 +35,13 @@ loop-again : tie.Need-loop-again Inv-loop μ-loop
 loop-again c =
     let p = c .before .before .put-spaced in
     let l = c .before .before .before .before .before .before .loop in
-    row-on (l .inv) (omega arith) (omega (arith, c .before .before .before .before .shared-slice-known2 .given (l .i))) (p .kept .1 .1 .0) (p .ensures)
+    roots-on (l .inv) (omega arith) (omega (arith, c .before .before .before .before .shared-slice-known2 .given (l .i))) (p .kept .1 .1 .0) (p .ensures)
 
 same-length : tie.Need-same-length Inv-loop μ-loop
 same-length c = search needs
 
 returns : tie.Need-returns Inv-loop μ-loop
-returns c = row-end (c .before .loop .inv) (omega arith)
+returns c = roots-end (c .before .loop .inv) (omega arith)
 
 pub put-roots-spec : {M : Type 1} → statement M
 put-roots-spec =

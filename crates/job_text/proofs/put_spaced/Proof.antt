@@ -6,17 +6,17 @@ use borrow.Author.Needs.{needs}
 use Rattle.job_text.proofs.put_spaced.Statement.{statement}
 use Rattle.job_text.proofs.put_spaced.Tie as tie
 
-put-requires : tie.Need-put-requires
-put-requires c κs = search needs
+put-byte-requires : tie.Need-put-byte-requires
+put-byte-requires c κs = search needs
 
 decimal-requires : tie.Need-decimal-requires
-decimal-requires c κs = omega (arith, five-digits (c .before .before .before .before .before .before .args .x) (search needs), c .before .before .before .put .ensures .ended, c .before .before .before .put .kept .1 .1 .0)
+decimal-requires c κs = omega (arith, five-digits (c .before .before .before .before .before .before .args .x) (search needs), c .before .before .before .put-byte .ensures .ended, c .before .before .before .put-byte .kept .1 .1 .0)
 
 same-length : tie.Need-same-length
 same-length c = search needs
 
 returns : tie.Need-returns
-returns c = wrote-spaced (c .before .before .before .before .before .before .before .before .before .args .x) (omega arith) (c .before .before .before .before .before .before .put .ensures) (c .before .before .decimal .ensures)
+returns c = wrote-spaced (c .before .before .before .before .before .before .before .before .before .args .x) (omega arith) (c .before .before .before .before .before .before .put-byte .ensures) (c .before .before .decimal .ensures)
 
 pub put-spaced-spec : {M : Type 1} → statement M
-put-spaced-spec = tie.close (tie.spec put-requires decimal-requires same-length returns)
+put-spaced-spec = tie.close (tie.spec put-byte-requires decimal-requires same-length returns)

@@ -8,7 +8,7 @@ use Rattle.poly_gcd.proofs.EuclidLoops.{Looping, loop-from, loop-asks, 
 use borrow.Author.Needs.{needs}
 use Rattle.poly_gcd.proofs.gcd.Statement.{statement}
 use Rattle.poly_gcd.proofs.gcd.Tie as tie
-use Rattle.poly_gcd.proofs.turn.Reads as turn-reads
+use Rattle.poly_gcd.proofs.euclid_turn.Reads as euclid-turn-reads
 use Rattle.slices.proofs.copy.Reads as copy-reads
 
 abbrev Inv-loop : tie.InvT-loop
@@ -20,8 +20,8 @@ abbrev μ-loop : tie.MeasureT-loop
 loop-holds : tie.Need-loop-holds Inv-loop μ-loop
 loop-holds c = loop-from (c .before .before .before .before .before .pre)
 
-turn-requires : tie.Need-turn-requires Inv-loop μ-loop
-turn-requires c κs = c .before .before .before .loop .inv .given
+euclid-turn-requires : tie.Need-euclid-turn-requires Inv-loop μ-loop
+euclid-turn-requires c κs = c .before .before .before .loop .inv .given
 
 same-length : tie.Need-same-length Inv-loop μ-loop
 same-length c = search needs
@@ -33,31 +33,31 @@ same-length-3 : tie.Need-same-length-3 Inv-loop μ-loop
 same-length-3 c = search needs
 
 returns : tie.Need-returns Inv-loop μ-loop
-returns c = loop-ended (c .before .before .before .before .before .before .before .before .before .before .before .loop .inv) (c .before .before .before .before .before .before .before .turn .ensures) (c .if1 .taken)
+returns c = loop-ended (c .before .before .before .before .before .before .before .before .before .before .before .loop .inv) (c .before .before .before .before .before .before .before .euclid-turn .ensures) (c .if1 .taken)
 
 sub-d : tie.Need-sub-d Inv-loop μ-loop
 sub-d c = search needs
 
-add-turn : tie.Need-add-turn Inv-loop μ-loop
-add-turn c = omega (arith, c .before .before .before .before .before .before .before .before .before .before .before .before .before .before .loop .inv .given .room-a)
+add-euclid-turn : tie.Need-add-euclid-turn Inv-loop μ-loop
+add-euclid-turn c = omega (arith, c .before .before .before .before .before .before .before .before .before .before .before .before .before .before .loop .inv .given .room-a)
 
-turn-requires-2 : tie.Need-turn-requires-2 Inv-loop μ-loop
-turn-requires-2 c κs = loop-asks (c .before .before .before .before .before .before .before .before .before .before .before .before .before .before .loop .inv) (c .before .before .before .before .before .before .before .before .before .before .turn .ensures) (c .before .before .before .if1 .left) (search needs)
+euclid-turn-requires-2 : tie.Need-euclid-turn-requires-2 Inv-loop μ-loop
+euclid-turn-requires-2 c κs = loop-asks (c .before .before .before .before .before .before .before .before .before .before .before .before .before .before .loop .inv) (c .before .before .before .before .before .before .before .before .before .before .euclid-turn .ensures) (c .before .before .before .if1 .left) (search needs)
 
 slice-reshare-prefix-copy : tie.Need-slice-reshare-prefix-copy Inv-loop μ-loop
 slice-reshare-prefix-copy c =
-    omega (arith, c .before .before .before .before .before .before .before .turn2 .ensures .long-a, c .before .before .before .before .before .before .before .before .before .before .before .before .before .before .before .before .before .before .turn .ensures .long-b, c .before .before .before .before .before .before .before .before .before .before .before .before .before .before .before .before .before .before .turn .ensures .fewer, c .before .before .before .before .before .before .before .before .before .before .before .before .before .before .before .before .before .before .before .before .before .before .loop .inv .given .room-b)
+    omega (arith, c .before .before .before .before .before .before .before .euclid-turn2 .ensures .long-a, c .before .before .before .before .before .before .before .before .before .before .before .before .before .before .before .before .before .before .euclid-turn .ensures .long-b, c .before .before .before .before .before .before .before .before .before .before .before .before .before .before .before .before .before .before .euclid-turn .ensures .fewer, c .before .before .before .before .before .before .before .before .before .before .before .before .before .before .before .before .before .before .before .before .before .before .loop .inv .given .room-b)
 
 slice-aggregate-copy : tie.Need-slice-aggregate-copy Inv-loop μ-loop
 slice-aggregate-copy c =
     sym
     (length-take-le _ _
-    (omega (arith, c .before .before .before .before .before .before .before .before .turn2 .ensures .long-a, c .before .before .before .before .before .before .before .before .before .before .before .before .before .before .before .before .before .before .before .turn .ensures .long-b, c .before .before .before .before .before .before .before .before .before .before .before .before .before .before .before .before .before .before .before .turn .ensures .fewer, c .before .before .before .before .before .before .before .before .before .before .before .before .before .before .before .before .before .before .before .before .before .before .before .loop .inv .given .room-b)))
+    (omega (arith, c .before .before .before .before .before .before .before .before .euclid-turn2 .ensures .long-a, c .before .before .before .before .before .before .before .before .before .before .before .before .before .before .before .before .before .before .before .euclid-turn .ensures .long-b, c .before .before .before .before .before .before .before .before .before .before .before .before .before .before .before .before .before .before .before .euclid-turn .ensures .fewer, c .before .before .before .before .before .before .before .before .before .before .before .before .before .before .before .before .before .before .before .before .before .before .before .loop .inv .given .room-b)))
 
 copy-requires : tie.Need-copy-requires Inv-loop μ-loop
 copy-requires c κs =
     simp length-take
-    (omega (arith, c .before .before .before .before .before .before .before .before .before .turn2 .ensures .long-b, c .before .before .before .before .before .before .before .before .before .before .before .before .before .before .before .before .before .before .before .before .turn .ensures .long-a, c .before .before .before .before .before .before .before .before .before .before .before .before .before .before .before .before .before .before .before .before .turn .ensures .fewer, c .before .before .before .before .before .before .before .before .before .before .before .before .before .before .before .before .before .before .before .before .before .before .before .before .loop .inv .given .room-a))
+    (omega (arith, c .before .before .before .before .before .before .before .before .before .euclid-turn2 .ensures .long-b, c .before .before .before .before .before .before .before .before .before .before .before .before .before .before .before .before .before .before .before .before .euclid-turn .ensures .long-a, c .before .before .before .before .before .before .before .before .before .before .before .before .before .before .before .before .before .before .before .before .euclid-turn .ensures .fewer, c .before .before .before .before .before .before .before .before .before .before .before .before .before .before .before .before .before .before .before .before .before .before .before .before .loop .inv .given .room-a))
 
 same-length-4 : tie.Need-same-length-4 Inv-loop μ-loop
 same-length-4 c = search needs
@@ -69,7 +69,7 @@ same-length-6 : tie.Need-same-length-6 Inv-loop μ-loop
 same-length-6 c = search needs
 
 returns-2 : tie.Need-returns-2 Inv-loop μ-loop
-returns-2 c = loop-copied (c .before .before .before .before .before .before .before .before .before .before .before .before .before .before .before .before .before .before .before .before .before .before .before .before .before .before .before .loop .inv) (c .before .before .before .before .before .before .before .before .before .before .before .before .before .before .before .before .before .before .before .before .before .before .before .turn .ensures) (c .before .before .before .before .before .before .before .before .before .before .before .before .before .before .before .before .if1 .left) (c .before .before .before .before .before .before .before .before .before .before .before .before .turn2 .ensures) (c .before .before .before .before .before .if2 .taken) (c .before .before .copy .ensures)
+returns-2 c = loop-copied (c .before .before .before .before .before .before .before .before .before .before .before .before .before .before .before .before .before .before .before .before .before .before .before .before .before .before .before .loop .inv) (c .before .before .before .before .before .before .before .before .before .before .before .before .before .before .before .before .before .before .before .before .before .before .before .euclid-turn .ensures) (c .before .before .before .before .before .before .before .before .before .before .before .before .before .before .before .before .if1 .left) (c .before .before .before .before .before .before .before .before .before .before .before .before .euclid-turn2 .ensures) (c .before .before .before .before .before .if2 .taken) (c .before .before .copy .ensures)
 
 sub-n : tie.Need-sub-n Inv-loop μ-loop
 sub-n c = search needs
@@ -78,10 +78,10 @@ add-k : tie.Need-add-k Inv-loop μ-loop
 add-k c = search needs
 
 loop-less : tie.Need-loop-less Inv-loop μ-loop
-loop-less c = omega (arith, c .before .before .before .before .before .before .before .turn2 .ensures .fewer, c .before .before .before .before .before .before .before .before .before .before .before .before .before .before .before .before .before .before .turn .ensures .fewer)
+loop-less c = omega (arith, c .before .before .before .before .before .before .before .euclid-turn2 .ensures .fewer, c .before .before .before .before .before .before .before .before .before .before .before .before .before .before .before .before .before .before .euclid-turn .ensures .fewer)
 
 loop-again : tie.Need-loop-again Inv-loop μ-loop
-loop-again c = loop-on (c .before .before .before .before .before .before .before .before .before .before .before .before .before .before .before .before .before .before .before .before .before .before .loop .inv) (c .before .before .before .before .before .before .before .before .before .before .before .before .before .before .before .before .before .before .turn .ensures) (c .before .before .before .before .before .before .before .before .before .before .before .if1 .left) (c .before .before .before .before .before .before .before .turn2 .ensures) (c .if2 .left) (search needs)
+loop-again c = loop-on (c .before .before .before .before .before .before .before .before .before .before .before .before .before .before .before .before .before .before .before .before .before .before .loop .inv) (c .before .before .before .before .before .before .before .before .before .before .before .before .before .before .before .before .before .before .euclid-turn .ensures) (c .before .before .before .before .before .before .before .before .before .before .before .if1 .left) (c .before .before .before .before .before .before .before .euclid-turn2 .ensures) (c .if2 .left) (search needs)
 
 pub gcd-spec : {M : Type 1} → statement M
 gcd-spec =
@@ -90,14 +90,14 @@ gcd-spec =
     Inv-loop
     μ-loop
     loop-holds
-    turn-requires
+    euclid-turn-requires
     same-length
     same-length-2
     same-length-3
     returns
     sub-d
-    add-turn
-    turn-requires-2
+    add-euclid-turn
+    euclid-turn-requires-2
     slice-reshare-prefix-copy
     slice-aggregate-copy
     copy-requires

@@ -9,14 +9,14 @@ use borrow.Author.Needs.{needs}
 use Rattle.poly_powers.proofs.square_mod.Statement.{statement}
 use Rattle.poly_powers.proofs.square_mod.Tie as tie
 use Rattle.poly.proofs.division.divide.Reads as divide-reads
-use Rattle.poly_powers.proofs.spread.Reads as spread-reads
+use Rattle.poly_powers.proofs.square_into.Reads as square-into-reads
 use Rattle.slices.proofs.copy.Reads as copy-reads
 
-spread-requires : tie.Need-spread-requires
-spread-requires c κs = square-room (c .before .before .before .before .before .before .before .pre)
+square-into-requires : tie.Need-square-into-requires
+square-into-requires c κs = square-room (c .before .before .before .before .before .before .before .pre)
 
 divide-requires : tie.Need-divide-requires
-divide-requires c κs = square-asks (c .before .before .before .before .before .before .before .before .before .before .before .pre) (c .before .before .before .spread .ensures)
+divide-requires c κs = square-asks (c .before .before .before .before .before .before .before .before .before .before .before .pre) (c .before .before .before .square-into .ensures)
 
 slice-reshare-prefix-copy : tie.Need-slice-reshare-prefix-copy
 slice-reshare-prefix-copy c = search needs
@@ -34,13 +34,13 @@ same-length-2 : tie.Need-same-length-2
 same-length-2 c = search needs
 
 returns : tie.Need-returns
-returns c = square-is (c .before .before .before .before .before .before .before .before .before .before .before .before .before .before .before .before .before .before .before .pre) (c .before .before .before .before .before .before .before .before .before .before .before .spread .ensures) (c .before .before .before .before .before .before .before .divide .ensures) (c .before .before .copy .ensures)
+returns c = square-is (c .before .before .before .before .before .before .before .before .before .before .before .before .before .before .before .before .before .before .before .pre) (c .before .before .before .before .before .before .before .before .before .before .before .square-into .ensures) (c .before .before .before .before .before .before .before .divide .ensures) (c .before .before .copy .ensures)
 
 pub square-mod-spec : {M : Type 1} → statement M
 square-mod-spec =
     tie.close
     (tie.spec
-    spread-requires
+    square-into-requires
     divide-requires
     slice-reshare-prefix-copy
     slice-aggregate-copy

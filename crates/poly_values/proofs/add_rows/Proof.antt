@@ -7,45 +7,45 @@ use native.Mathlib.Numerals.{add-one}
 use Prim.Native.Nat.{ℕ, suc, _+_, _-_, _%_, _≤_, _<_}
 use lib.Bits.{bitAnd}
 use lib.ListN.{getD, length, take, drop, replicate, length-drop}
-use Rattle.poly_values.specs.Planes.{sum, pairWords, rows, wordsAt}
-use Rattle.poly_values.proofs.Tail.{lent, back}
-use Rattle.poly_values.proofs.Products.{rows-from, rows-turn, rows-pair, word-at, padded-middle}
+use Rattle.poly_values.specs.Planes.{sum, pairWords, carryFreeWords, wordsAt}
+use Rattle.poly_values.proofs.Tail.{lent-tail, back}
+use Rattle.poly_values.proofs.Products.{rows-from, rows-turn, rows-pair, vector-word-at, padded-middle}
 use borrow.Author.Needs.{needs}
 use Rattle.poly_values.proofs.add_rows.Statement.{statement}
 use Rattle.poly_values.proofs.add_rows.Tie as tie
 use Rattle.poly_values.proofs.add_pair.Reads as add-pair-reads
-use Rattle.poly_values.proofs.add_row.Reads as add-row-reads
-use Rattle.poly_values.proofs.padded.Reads as padded-reads
+use Rattle.poly_values.proofs.add_masked.Reads as add-masked-reads
+use Rattle.poly_values.proofs.between_zeros.Reads as between-zeros-reads
 
 abbrev Inv-loop : tie.InvT-loop
-Inv-loop t₀ e c i₀ t i = (i ≤ 10) × (i % 2 ≡ 0) × (length t ≡ 22) × (t ≡ replicate i 0 ++ rows (drop i (wordsAt 11 e 0)) (take 11 (drop 1 c)))
+Inv-loop t₀ e c i₀ t i = (i ≤ 10) × (i % 2 ≡ 0) × (length t ≡ 22) × (t ≡ replicate i 0 ++ carryFreeWords (drop i (wordsAt 11 e 0)) (take 11 (drop 1 c)))
 
 abbrev μ-loop : tie.MeasureT-loop
 μ-loop t₀ e c i₀ t i = i
 
-padded-requires : tie.Need-padded-requires Inv-loop μ-loop
-padded-requires c κs = search needs
+between-zeros-requires : tie.Need-between-zeros-requires Inv-loop μ-loop
+between-zeros-requires c κs = search needs
 
-mul-add-row : tie.Need-mul-add-row Inv-loop μ-loop
-mul-add-row c = search needs
+mul-add-masked : tie.Need-mul-add-masked Inv-loop μ-loop
+mul-add-masked c = search needs
 
-sub-add-row : tie.Need-sub-add-row Inv-loop μ-loop
-sub-add-row c = omega (arith, ap length (c .before .before .before .pre .0))
+sub-add-masked : tie.Need-sub-add-masked Inv-loop μ-loop
+sub-add-masked c = omega (arith, ap length (c .before .before .before .pre .0))
 
-part-add-row-start : tie.Need-part-add-row-start Inv-loop μ-loop
-part-add-row-start c = omega (arith, ap length (c .before .before .before .pre .0))
+part-add-masked-start : tie.Need-part-add-masked-start Inv-loop μ-loop
+part-add-masked-start c = omega (arith, ap length (c .before .before .before .pre .0))
 
-part-add-row-end : tie.Need-part-add-row-end Inv-loop μ-loop
-part-add-row-end c = let h = ap length (c .before .before .before .pre .0) in search needs
+part-add-masked-end : tie.Need-part-add-masked-end Inv-loop μ-loop
+part-add-masked-end c = let h = ap length (c .before .before .before .pre .0) in search needs
 
-mul-add-row-2 : tie.Need-mul-add-row-2 Inv-loop μ-loop
-mul-add-row-2 c = search needs
+mul-add-masked-2 : tie.Need-mul-add-masked-2 Inv-loop μ-loop
+mul-add-masked-2 c = search needs
 
-shared-slice-read-add-row : tie.Need-shared-slice-read-add-row Inv-loop μ-loop
-shared-slice-read-add-row c = omega arith
+shared-slice-read-add-masked : tie.Need-shared-slice-read-add-masked Inv-loop μ-loop
+shared-slice-read-add-masked c = omega arith
 
-add-row-requires : tie.Need-add-row-requires Inv-loop μ-loop
-add-row-requires c κs = let t = c .before .before .before .before .before .args .t .now in rw (lent t 10, length-drop 10 t) (omega (arith, ap length (c .before .before .before .before .before .pre .0)))
+add-masked-requires : tie.Need-add-masked-requires Inv-loop μ-loop
+add-masked-requires c κs = let t = c .before .before .before .before .before .args .t .now in rw (lent-tail t 10, length-drop 10 t) (omega (arith, ap length (c .before .before .before .before .before .pre .0)))
 
 loop-holds : tie.Need-loop-holds Inv-loop μ-loop
 loop-holds c = let s = c .before .before .before .before .before .before .before .before in
@@ -53,14 +53,14 @@ loop-holds c = let s = c .before .before .before .before .before .before .before
     let t = s .args .t .now in
     let W = wordsAt 11 (s .args .e .now) 0 in
     let last : 10 < 11 = omega arith in
-    let m = padded-middle b (c .before .before .before .before .before .padded .result) (omega arith) (c .before .before .before .before .before .padded .ensures) in (
+    let m = padded-middle b (c .before .before .before .before .before .between-zeros .result) (omega arith) (c .before .before .before .before .before .between-zeros .ensures) in (
       omega arith,
       refl,
       c .before .t .given .1 ∙ ap length (s .pre .0),
-      back t (c .before .before .add-row .last .0) 10
+      back t (c .before .before .add-masked .last .0) 10
           ∙ rows-turn W b {j = 10} refl last (s .pre .0 ∙ rows-from W b refl (omega arith))
-          (c .before .before .add-row .ensures ∙ ap (λ (y : List ℕ). sum (map (bitAnd (getD (s .args .e .now) 10 0)) b) y) (lent t 10))
-          ∙ ap (λ (x : List ℕ). replicate 10 0 ++ rows (drop 10 W) x) (sym (m .1)),
+          (c .before .before .add-masked .ensures ∙ ap (λ (y : List ℕ). sum (map (bitAnd (getD (s .args .e .now) 10 0)) b) y) (lent-tail t 10))
+          ∙ ap (λ (x : List ℕ). replicate 10 0 ++ carryFreeWords (drop 10 W) x) (sym (m .1)),
     )
 
 sub-i : tie.Need-sub-i Inv-loop μ-loop
@@ -94,7 +94,7 @@ shared-slice-read-add-pair-2 : tie.Need-shared-slice-read-add-pair-2 Inv-loop μ
 shared-slice-read-add-pair-2 c = omega arith
 
 add-pair-requires : tie.Need-add-pair-requires Inv-loop μ-loop
-add-pair-requires c κs = let l = c .before .before .before .before .loop in rw (lent (l .t) (l .i - 2), length-drop (l .i - 2) (l .t)) (let e = l .inv .2 in omega arith)
+add-pair-requires c κs = let l = c .before .before .before .before .loop in rw (lent-tail (l .t) (l .i - 2), length-drop (l .i - 2) (l .t)) (let e = l .inv .2 in omega arith)
 
 loop-less : tie.Need-loop-less Inv-loop μ-loop
 loop-less c = omega arith
@@ -105,8 +105,8 @@ loop-again c = let s = c .before .before .before .before .before .before .before
     let j = l .i - 2 in
     let e = s .args .e .now in
     let W = wordsAt 11 e 0 in
-    let p = c .before .before .before .before .before .before .before .before .before .before .before .before .before .padded .result in
-    let m = padded-middle (s .args .b) p (omega arith) (c .before .before .before .before .before .before .before .before .before .before .before .before .before .padded .ensures) in
+    let p = c .before .before .before .before .before .before .before .before .before .before .before .before .before .between-zeros .result in
+    let m = padded-middle (s .args .b) p (omega arith) (c .before .before .before .before .before .before .before .before .before .before .before .before .before .between-zeros .ensures) in
     let two : l .i ≡ suc (suc j) = omega arith in
     let long : length (s .args .b) ≡ 11 = omega arith in
     let small : suc j < 11 = omega arith in (
@@ -115,8 +115,8 @@ loop-again c = let s = c .before .before .before .before .before .before .before
       c .before .t2 .given .1 ∙ l .inv .2,
       back (l .t) (c .before .before .add-pair .last .0) j
           ∙ rows-pair W (take 11 (drop 1 p)) two small (ap length (m .1) ∙ long) (m .0) (l .inv .3)
-          (c .before .before .add-pair .ensures ∙ ap (λ (y : List ℕ). sum (pairWords 12 (getD e j 0) (getD e (j + 1) 0) p) y) (lent (l .t) j)
-          ∙ ap₂ (λ (u v : ℕ). sum (pairWords 12 u v p) (drop j (l .t))) (sym (word-at 11 e j (omega arith))) (ap (λ (k : ℕ). getD e k 0) (add-one j) ∙ sym (word-at 11 e (suc j) small))),
+          (c .before .before .add-pair .ensures ∙ ap (λ (y : List ℕ). sum (pairWords 12 (getD e j 0) (getD e (j + 1) 0) p) y) (lent-tail (l .t) j)
+          ∙ ap₂ (λ (u v : ℕ). sum (pairWords 12 u v p) (drop j (l .t))) (sym (vector-word-at 11 e j (omega arith))) (ap (λ (k : ℕ). getD e k 0) (add-one j) ∙ sym (vector-word-at 11 e (suc j) small))),
     )
 
 same-length : tie.Need-same-length Inv-loop μ-loop
@@ -126,9 +126,9 @@ returns : tie.Need-returns Inv-loop μ-loop
 returns c = let s = c .before .before .before .before .before .before .before .before .before .before in
     let l = c .before .loop in
     let W = wordsAt 11 (s .args .e .now) 0 in
-    let m = padded-middle (s .args .b) (c .before .before .before .before .before .before .before .padded .result) (omega arith) (c .before .before .before .before .before .before .before .padded .ensures) in
+    let m = padded-middle (s .args .b) (c .before .before .before .before .before .before .before .between-zeros .result) (omega arith) (c .before .before .before .before .before .before .before .between-zeros .ensures) in
     let done : l .i ≡ 0 = omega arith in
-    l .inv .3 ∙ ap (λ (n : ℕ). replicate n 0 ++ rows (drop n W) (take 11 (drop 1 (c .before .before .before .before .before .before .before .padded .result)))) done ∙ ap (rows W) (m .1)
+    l .inv .3 ∙ ap (λ (n : ℕ). replicate n 0 ++ carryFreeWords (drop n W) (take 11 (drop 1 (c .before .before .before .before .before .before .before .between-zeros .result)))) done ∙ ap (carryFreeWords W) (m .1)
 
 pub add-rows-spec : {M : Type 1} → statement M
 add-rows-spec =
@@ -136,14 +136,14 @@ add-rows-spec =
     (tie.spec
     Inv-loop
     μ-loop
-    padded-requires
-    mul-add-row
-    sub-add-row
-    part-add-row-start
-    part-add-row-end
-    mul-add-row-2
-    shared-slice-read-add-row
-    add-row-requires
+    between-zeros-requires
+    mul-add-masked
+    sub-add-masked
+    part-add-masked-start
+    part-add-masked-end
+    mul-add-masked-2
+    shared-slice-read-add-masked
+    add-masked-requires
     loop-holds
     sub-i
     mul-add-pair

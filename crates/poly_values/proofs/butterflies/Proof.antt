@@ -8,7 +8,7 @@ use Prim.Native.Nat.{_+_, _*_, _-_, _≤_}
 use mathlib.Core.List.{_++_}
 use lib.ListN.{length, take, length-drop}
 use Rattle.poly_values.specs.Planes.{taps11, wordsAt, butterflyAt, butterfliesAt}
-use Rattle.poly_values.proofs.Tail.{lent, back}
+use Rattle.poly_values.proofs.Tail.{lent-tail, back}
 use Rattle.poly_values.proofs.Planes.{butterflies-turn}
 use Rattle.poly_values.proofs.butterflies.Statement.{statement}
 use Rattle.poly_values.proofs.butterflies.Tie as tie
@@ -44,7 +44,7 @@ part-butterfly-end c = omega arith
 butterfly-requires : tie.Need-butterfly-requires Inv-loop μ-loop
 butterfly-requires c κs =
     let l = c .before .before .loop in
-    rw (lent (l .p) (l .w * 11), length-drop (l .w * 11) (l .p)) (omega arith)
+    rw (lent-tail (l .p) (l .w * 11), length-drop (l .w * 11) (l .p)) (omega arith)
 
 add-w : tie.Need-add-w Inv-loop μ-loop
 add-w c = omega arith
@@ -60,7 +60,7 @@ loop-again c =
       c .before .p .given .1 ∙ l .inv .1,
       back (l .p) (c .before .before .butterfly .last .0) (l .w * 11)
           ∙ ap (λ y. take (l .w * 11) (l .p) ++ y)
-          (c .before .before .butterfly .ensures ∙ ap (λ y. butterflyAt taps11 (wordsAt 11 (a .g .now) 0) (a .up) y) (lent (l .p) (l .w * 11)))
+          (c .before .before .butterfly .ensures ∙ ap (λ y. butterflyAt taps11 (wordsAt 11 (a .g .now) 0) (a .up) y) (lent-tail (l .p) (l .w * 11)))
           ∙ butterflies-turn taps11 (wordsAt 11 (a .g .now) 0) (a .up) (l .w) (a .p .now) (l .inv .2)
           ∙ ap (λ n. butterfliesAt taps11 (wordsAt 11 (a .g .now) 0) (a .up) n (a .p .now)) (sym (add-one (l .w))),
     )

@@ -10,7 +10,7 @@ use Rattle.poly_values.proofs.Windows.{four-from}
 use Rattle.poly_values.proofs.four_multiples.Statement.{statement}
 use Rattle.poly_values.proofs.four_multiples.Tie as tie
 use Rattle.poly_values.proofs.doubled.Reads as doubled-reads
-use Rattle.poly_values.proofs.put.Reads as put-reads
+use Rattle.poly_values.proofs.put_vector.Reads as put-vector-reads
 use Rattle.poly_values.proofs.sum.Reads as sum-reads
 
 doubled-requires : tie.Need-doubled-requires
@@ -19,28 +19,28 @@ doubled-requires c κs = search needs
 sum-requires : tie.Need-sum-requires
 sum-requires c κs = search needs
 
-slice-aggregate-put : tie.Need-slice-aggregate-put
-slice-aggregate-put c = search needs
+slice-aggregate-put-vector : tie.Need-slice-aggregate-put-vector
+slice-aggregate-put-vector c = search needs
 
-put-requires : tie.Need-put-requires
-put-requires c κs = search needs
+put-vector-requires : tie.Need-put-vector-requires
+put-vector-requires c κs = search needs
 
-slice-aggregate-put-2 : tie.Need-slice-aggregate-put-2
-slice-aggregate-put-2 c = search needs
+slice-aggregate-put-vector-2 : tie.Need-slice-aggregate-put-vector-2
+slice-aggregate-put-vector-2 c = search needs
 
-put-requires-2 : tie.Need-put-requires-2
-put-requires-2 c κs = search needs
+put-vector-requires-2 : tie.Need-put-vector-requires-2
+put-vector-requires-2 c κs = search needs
 
-slice-aggregate-put-3 : tie.Need-slice-aggregate-put-3
-slice-aggregate-put-3 c = search needs
+slice-aggregate-put-vector-3 : tie.Need-slice-aggregate-put-vector-3
+slice-aggregate-put-vector-3 c = search needs
 
-put-requires-3 : tie.Need-put-requires-3
-put-requires-3 c κs = search needs
+put-vector-requires-3 : tie.Need-put-vector-requires-3
+put-vector-requires-3 c κs = search needs
 
 returns : tie.Need-returns
 returns c =
     four-from taps11 digits11 monic11 (c .before .before .before .before .before .before .before .before .before .before .before .args .b) (omega arith) (c .before .before .before .before .before .before .before .before .before .before .doubled .ensures) (c .before .before .before .before .before .before .before .before .before .sum .ensures)
-    (c .before .before .before .before .before .before .before .put .ensures) (c .before .before .before .before .put2 .ensures) (c .before .put3 .ensures)
+    (c .before .before .before .before .before .before .before .put-vector .ensures) (c .before .before .before .before .put-vector2 .ensures) (c .before .put-vector3 .ensures)
 
 pub four-multiples-spec : {M : Type 1} → statement M
 four-multiples-spec =
@@ -48,10 +48,10 @@ four-multiples-spec =
     (tie.spec
     doubled-requires
     sum-requires
-    slice-aggregate-put
-    put-requires
-    slice-aggregate-put-2
-    put-requires-2
-    slice-aggregate-put-3
-    put-requires-3
+    slice-aggregate-put-vector
+    put-vector-requires
+    slice-aggregate-put-vector-2
+    put-vector-requires-2
+    slice-aggregate-put-vector-3
+    put-vector-requires-3
     returns)

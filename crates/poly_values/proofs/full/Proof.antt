@@ -5,7 +5,7 @@ use native.Mathlib.Numerals.{add-one}
 use native.Mathlib.Omega.{arith}
 use Prim.Native.Nat.{ℕ}
 use lib.Pow.{pow-pos}
-use Rattle.poly_values.specs.Planes.{taps11, Started}
+use Rattle.poly_values.specs.Planes.{taps11, RowStarted}
 use Rattle.poly_values.proofs.Scalars.{digits11, below-at}
 use Rattle.poly_values.proofs.Multipliers.{monic11}
 use Rattle.poly_values.proofs.Levels.{pair-from, start-full}
@@ -14,7 +14,7 @@ use Rattle.poly_values.proofs.full.Statement.{statement}
 use Rattle.poly_values.proofs.full.Tie as tie
 use Rattle.poly_values.proofs.firsts.Reads as firsts-reads
 use Rattle.poly_values.proofs.multiple.Reads as multiple-reads
-use Rattle.poly_values.proofs.put.Reads as put-reads
+use Rattle.poly_values.proofs.put_vector.Reads as put-vector-reads
 use Rattle.poly_values.proofs.run_halves.Reads as run-halves-reads
 use Rattle.poly_values.proofs.spread.Reads as spread-reads
 use Rattle.poly_values.proofs.sum.Reads as sum-reads
@@ -44,14 +44,14 @@ spread-requires c κs = search needs
 sum-requires-2 : tie.Need-sum-requires-2
 sum-requires-2 c κs = search needs
 
-put-requires : tie.Need-put-requires
-put-requires c κs = let s = c .before .before .before .before .before .before .before .before .before .before .before .before .before .before in let b = pow-pos (s .args .k) in let t = s .pre .1 .room in let e = s .pre .0 in let l = c .before .before .before .before .before .before .before .before .firsts .ensures .long in omega arith
+put-vector-requires : tie.Need-put-vector-requires
+put-vector-requires c κs = let s = c .before .before .before .before .before .before .before .before .before .before .before .before .before .before in let b = pow-pos (s .args .k) in let t = s .pre .1 .room in let e = s .pre .0 in let l = c .before .before .before .before .before .before .before .before .firsts .ensures .long in omega arith
 
-mul-put : tie.Need-mul-put
-mul-put c = search needs
+mul-put-vector : tie.Need-mul-put-vector
+mul-put-vector c = search needs
 
-put-requires-2 : tie.Need-put-requires-2
-put-requires-2 c κs = let s = c .before .before .before .before .before .before .before .before .before .before .before .before .before .before .before .before .before .before in let b = pow-pos (s .args .k) in let t = s .pre .1 .room in let e = s .pre .0 in let l = c .before .before .before .before .before .before .before .before .before .before .before .before .firsts .ensures .long in let r = c .before .before .before .put .kept .0 in omega arith
+put-vector-requires-2 : tie.Need-put-vector-requires-2
+put-vector-requires-2 c κs = let s = c .before .before .before .before .before .before .before .before .before .before .before .before .before .before .before .before .before .before in let b = pow-pos (s .args .k) in let t = s .pre .1 .room in let e = s .pre .0 in let l = c .before .before .before .before .before .before .before .before .before .before .before .before .firsts .ensures .long in let r = c .before .before .before .put-vector .kept .0 in omega arith
 
 run-halves-requires : tie.Need-run-halves-requires
 run-halves-requires c κs = search needs
@@ -62,10 +62,10 @@ same-length c = search needs
 returns : tie.Need-returns
 returns c = let s = c .before .before .before .before .before .before .before .before .before .before .before .before .before .before .before .before .before .before .before .before .before .before .before .before .before in
     let b = pow-pos (s .args .k) in let t = s .pre .1 .many in let e = s .pre .0 in
-    subst (λ (n : ℕ). Started taps11 n (s .args .g .now) (s .args .x) (s .args .a .now) (s .args .p .now) (c .before .before .run-halves .last .1 .0)) (sym (add-one (s .args .k)))
+    subst (λ (n : ℕ). RowStarted taps11 n (s .args .g .now) (s .args .x) (s .args .a .now) (s .args .p .now) (c .before .before .run-halves .last .1 .0)) (sym (add-one (s .args .k)))
     (start-full taps11 digits11 monic11
     (pair-from taps11 digits11 monic11 (omega arith) (below-at (s .args .a .now) (s .pre .1 .small) (s .args .h) (omega arith)) (c .before .before .before .before .before .before .before .before .before .before .before .before .before .before .before .multiple .ensures) (c .before .before .before .before .before .before .before .before .before .before .before .before .before .before .sum .ensures) (c .before .before .before .before .before .before .before .before .before .before .before .before .before .spread .ensures) (c .before .before .before .before .before .before .before .before .before .before .before .before .sum2 .ensures))
-    (s .args .k) (s .args .h) (s .pre .0) (s .pre .1 .many) refl (c .before .before .before .before .before .before .before .before .before .before .before .before .before .before .before .before .before .before .before .before .before .vector .ensures) (sym (s .pre .1 .room)) (c .before .before .before .before .before .before .before .before .before .before .before .before .before .before .before .before .before .before .before .firsts .ensures) (c .before .before .before .before .before .before .before .before .before .before .put .ensures) (c .before .before .before .before .before .before .put2 .ensures) (c .before .before .run-halves .ensures))
+    (s .args .k) (s .args .h) (s .pre .0) (s .pre .1 .many) refl (c .before .before .before .before .before .before .before .before .before .before .before .before .before .before .before .before .before .before .before .before .before .vector .ensures) (sym (s .pre .1 .room)) (c .before .before .before .before .before .before .before .before .before .before .before .before .before .before .before .before .before .before .before .firsts .ensures) (c .before .before .before .before .before .before .before .before .before .before .put-vector .ensures) (c .before .before .before .before .before .before .put-vector2 .ensures) (c .before .before .run-halves .ensures))
 
 pub full-spec : {M : Type 1} → statement M
 full-spec =
@@ -79,9 +79,9 @@ full-spec =
     sum-requires
     spread-requires
     sum-requires-2
-    put-requires
-    mul-put
-    put-requires-2
+    put-vector-requires
+    mul-put-vector
+    put-vector-requires-2
     run-halves-requires
     same-length
     returns)

@@ -1,12 +1,12 @@
 -- `poly_values::top11` meets its contract: one test over the whole table.
 -- Assumes nothing.
-use Rattle.poly_values.specs.Planes.{number}
+use Rattle.poly_values.specs.Planes.{digitsNumber}
 use Rattle.poly_values.proofs.Multipliers.{tops11, topTest}
 use Rattle.poly_values.proofs.top11.Statement.{statement}
 use Rattle.poly_values.proofs.top11.Tie as tie
 
 returns : tie.Need-returns
-unfolding number topTest
+unfolding digitsNumber topTest
 returns c = tops11 _ tt
 
 pub top11-spec : {M : Type 1} → statement M

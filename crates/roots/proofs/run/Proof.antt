@@ -51,7 +51,7 @@ use denote.Triple.Walked.{says, needs, Stays, stay-none-slice, walkOf, goes-none
 use denote.Exit.{yes}
 use denote.Triple.Clauses.{ensured, lasts}
 use Rattle.job_records.specs.Layout.{headLength}
-use Rattle.job_records.specs.Reading.{paper, readAt, bytesOf, Stands}
+use Rattle.job_records.specs.Reading.{toldRead, readAt, bytesOf, Stands}
 use Rattle.job_records.specs.declared.held.Reader.{Reader}
 use Rattle.job_records.specs.declared.Read.{Read}
 use Rattle.job_lines.specs.Printing.{Ahead}
@@ -205,8 +205,8 @@ module _ {M : Type 1} (𝓤 : URA M) (H : Heap 𝓤) (A : Atoms 𝓤) (W : Given
   goes-next : (r : Reader) (u : Val) → ent 𝓤 (⋆ 𝓤 H A (‵ (R .own r (u ∷ [])) ∷ token ∷ [])) (Next 𝓤 H A mem run .pre (to-next r u))
   goes-next r u = qed W (‵ (R .own r (u ∷ [])) ∷ token ∷ []) ∵ nothing ! $ move ! (1 ∷ 0 ∷ []) $ fjoin ! $ move ! (1 ∷ 0 ∷ []) $ join ! $ frame ! $ done !
 
-  next-said : (r : Reader) (t : Read) → ent 𝓤 (ensured 𝓤 H A next.ended (next.clauses 𝓤 H A mem run) (κ, tt) (r, tt) tt t) (fact 𝓤 (paper t ≡ readAt (now (r .file)) (r .at)))
-  next-said r t = exE 𝓤 _ (λ ws. snd∗ 𝓤 (sem 𝓤 H A (lasts next.ended (κ, tt) (r, tt) ws)) (fact 𝓤 (paper t ≡ readAt (now (r .file)) (r .at))))
+  next-said : (r : Reader) (t : Read) → ent 𝓤 (ensured 𝓤 H A next.ended (next.clauses 𝓤 H A mem run) (κ, tt) (r, tt) tt t) (fact 𝓤 (toldRead t ≡ readAt (now (r .file)) (r .at)))
+  next-said r t = exE 𝓤 _ (λ ws. snd∗ 𝓤 (sem 𝓤 H A (lasts next.ended (κ, tt) (r, tt) ws)) (fact 𝓤 (toldRead t ≡ readAt (now (r .file)) (r .at))))
 
   abbrev to-bytes : Reader → Val → Read → Val → Bytes 𝓤 H A mem run .Ghost
   to-bytes r u t w = (((κ, tt), (q, tt), tt, (r, (t, tt)), (u ∷ [], (w ∷ [], tt))), tt)
@@ -303,7 +303,7 @@ module _ {M : Type 1} (𝓤 : URA M) (H : Heap 𝓤) (A : Atoms 𝓤) (W : Given
     k-next : {t n k : ℕ} {r : Reader} → Facts t r n k → n < len → k + 1 < 2 ^ 32
     k-next f ahead = omega (arith, f .number ahead, ahead, small)
 
-    behind : {t n k m : ℕ} {r : Reader} (x : Read) {bs : List ℕ} → Facts t r n k → n < len → paper x ≡ readAt (now (r .file)) (r .at) → bs ≡ bytesOf (now (r .file)) x → Ahead x bs m → n + headLength ≤ m
+    behind : {t n k m : ℕ} {r : Reader} (x : Read) {bs : List ℕ} → Facts t r n k → n < len → toldRead x ≡ readAt (now (r .file)) (r .at) → bs ≡ bytesOf (now (r .file)) x → Ahead x bs m → n + headLength ≤ m
     behind {r = r} x f ahead e₁ e₂ e₃ =
         let l : length (now (r .file)) ≡ len = ap (λ (c : RefT (List ℕ)). length (now c)) (f .file) in
         omega (arith, e₃ (now (r .file)) (r .at) e₁ e₂ (omega (arith, l, small)) (omega (arith, l, f .place, ahead)), f .place)
@@ -337,7 +337,7 @@ module _ {M : Type 1} (𝓤 : URA M) (H : Heap 𝓤) (A : Atoms 𝓤) (W : Given
         use2 W (raw (Next 𝓤 H A mem run .pre (to-next r u))) (goes-next r u) $
         calls-at ! fm (Next 𝓤 H A mem run) known-next (to-next r u) (and-then ! (load ! (from ! (stop !)) (look ! 11 refl)) (no-more !)) (λ w.
         use1 W (later (some (λ (x : Read). (token ⊛ ‵ (S.the-row .own x (w ∷ []))) ⊛ raw (ensured 𝓤 H A next.ended (next.clauses 𝓤 H A mem run) (κ, tt) (r, tt) tt x)))) (id⊢ 𝓤 _) $ await ! tt $ pick ! (λ x.
-        split ! $ move ! (1 ∷ []) $ use1 W (raw (fact 𝓤 (paper x ≡ readAt (now (r .file)) (r .at)))) (next-said r x) $ heard ! (paper x ≡ readAt (now (r .file)) (r .at)) (λ e₁. split ! $ move ! (1 ∷ []) $
+        split ! $ move ! (1 ∷ []) $ use1 W (raw (fact 𝓤 (toldRead x ≡ readAt (now (r .file)) (r .at)))) (next-said r x) $ heard ! (toldRead x ≡ readAt (now (r .file)) (r .at)) (λ e₁. split ! $ move ! (1 ∷ []) $
         peeks ! S.the-row (Is S.the-row) (shows 𝓤 H A S.the-row) x (w ∷ []) (λ is₁.
         land ! (from ! (stop !)) (init ! 8 refl (EL.lawful S.the-type S′.the-laws 𝓤 H A W tt .typed x _ is₁ .0)) $ drop ! $
         -- [the token; what the reader owns; what file owns; …]: its coefficient bytes

@@ -1,7 +1,7 @@
 -- `table_begin::begin_lent` meets its contract: the part that splits is taken, and the table laid.
 -- Assumes nothing.
 use mathlib.Core.Path.{refl, sym}
-use Rattle.table_begin.proofs.Writing.{begin-splittable, part-long, part-few, written-is}
+use Rattle.table_begin.proofs.Writing.{begin-splittable, split-long, split-few, written-is}
 use borrow.Author.Needs.{needs}
 use Rattle.table_begin.proofs.begin_lent.Statement.{statement}
 use Rattle.table_begin.proofs.begin_lent.Tie as tie
@@ -16,10 +16,10 @@ array-share-prefix-part : tie.Need-array-share-prefix-part
 array-share-prefix-part c = search needs
 
 slice-aggregate-lay : tie.Need-slice-aggregate-lay
-slice-aggregate-lay c = sym (part-long (c .before .before .before .before .before .split-part .ensures .0))
+slice-aggregate-lay c = sym (split-long (c .before .before .before .before .before .split-part .ensures .0))
 
 lay-requires : tie.Need-lay-requires
-lay-requires c κs = (c .before .before .before .before .before .before .before .before .before .before .before .before .before .pre .room, part-few (c .before .before .before .before .before .before .before .before .before .before .before .before .before .pre) (c .before .before .before .before .before .split-part .ensures .0))
+lay-requires c κs = (c .before .before .before .before .before .before .before .before .before .before .before .before .before .pre .room, split-few (c .before .before .before .before .before .before .before .before .before .before .before .before .before .pre) (c .before .before .before .before .before .split-part .ensures .0))
 
 same-length : tie.Need-same-length
 same-length c = search needs

@@ -7,7 +7,7 @@ use lib.Pow.{pow-pos, pow-mono}
 use borrow.Author.Needs.{needs}
 use Rattle.field.specs.Field.{mul, fieldOf}
 use Rattle.field.proofs.Digits.{digit-mul-le}
-use Rattle.field.proofs.Loops.{Halfway, turn, whole}
+use Rattle.field.proofs.Loops.{Halfway, product-turn, product-whole}
 use Rattle.field.proofs.arithmetic.product_of.Statement.{statement}
 use Rattle.field.proofs.arithmetic.product_of.Tie as tie
 use Rattle.field.proofs.arithmetic.product_of.Reads as reads
@@ -40,13 +40,13 @@ loop-less : tie.Need-loop-less Inv-loop μ-loop
 loop-less c = search needs
 
 loop-again : tie.Need-loop-again Inv-loop μ-loop
-loop-again c = rw (c .cut .ensures) (turn _ (c .before .before .before .pre .1) (c .before .before .loop .inv))
+loop-again c = rw (c .cut .ensures) (product-turn _ (c .before .before .before .pre .1) (c .before .before .loop .inv))
 
 cast-result : tie.Need-cast-result Inv-loop μ-loop
 cast-result c = omega (arith, small (c .before .before .pre .0))
 
 returns : tie.Need-returns Inv-loop μ-loop
-returns c = whole _ (c .before .before .pre .1) (omega arith) (c .before .loop .inv)
+returns c = product-whole _ (c .before .before .pre .1) (omega arith) (c .before .loop .inv)
 
 pub product-of-spec : {M : Type 1} → statement M
 product-of-spec =

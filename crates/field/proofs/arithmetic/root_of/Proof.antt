@@ -1,15 +1,15 @@
--- `field::arithmetic::root_of` meets its contract. The loop keeps what `Squaring` says, once for each degree but the first.
+-- `field::arithmetic::root_of` meets its contract. The loop keeps what `SquaringRoot` says, once for each degree but the first.
 -- Assumes nothing.
 use Prim.Native.Nat.{_+_, _-_, _≤_}
 use native.Mathlib.Omega.{arith}
 use Rattle.field.specs.Field.{fieldOf}
-use Rattle.field.proofs.Generator.{generated, small, known}
-use Rattle.field.proofs.Loops.{Squaring, square-from, square-on, square-root}
+use Rattle.field.proofs.Generator.{generated, small, product-asks}
+use Rattle.field.proofs.Loops.{SquaringRoot, square-from, square-on, square-root}
 use Rattle.field.proofs.arithmetic.root_of.Statement.{statement}
 use Rattle.field.proofs.arithmetic.root_of.Tie as tie
 
 abbrev Inv-loop : tie.InvT-loop
-Inv-loop degree poly b y₀ i₀ y i = (i + 1 ≤ degree) × Squaring (fieldOf degree poly) b y i
+Inv-loop degree poly b y₀ i₀ y i = (i + 1 ≤ degree) × SquaringRoot (fieldOf degree poly) b y i
 
 abbrev μ-loop : tie.MeasureT-loop
 μ-loop degree poly b y₀ i₀ y i = degree - i
@@ -21,7 +21,7 @@ add-loop : tie.Need-add-loop Inv-loop μ-loop
 add-loop c = omega arith
 
 product-of-requires : tie.Need-product-of-requires Inv-loop μ-loop
-product-of-requires c κs = known (c .before .before .pre .0) (c .before .loop .inv .1 .y-lt)
+product-of-requires c κs = product-asks (c .before .before .pre .0) (c .before .loop .inv .1 .y-lt)
 
 add-i : tie.Need-add-i Inv-loop μ-loop
 add-i c = omega arith

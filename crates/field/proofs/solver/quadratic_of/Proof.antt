@@ -4,26 +4,26 @@ use mathlib.Core.Path.{_≡_, sym, ap, _∙_}
 use Prim.Native.Nat.{ℕ, _<_, _≤_, _^_}
 use native.Mathlib.Omega.{arith}
 use borrow.Author.Needs.{needs}
-use Rattle.field.specs.Rows.{Listed}
+use Rattle.field.specs.Rows.{ListedRow}
 use Rattle.field.specs.Field.{fieldOf, mul, inverse}
-use Rattle.field.proofs.Generator.{generated, small, known, inverse-lt, mul-inverse}
+use Rattle.field.proofs.Generator.{generated, small, product-asks, inverse-lt, mul-inverse}
 use Rattle.field.proofs.Ring.{mul-lt, mul-comm}
 use Rattle.field.proofs.Solutions.{one-root, answer-none, answer-up, answer-down, solution}
 use Rattle.field.proofs.solver.quadratic_of.Statement.{statement}
 use Rattle.field.proofs.solver.quadratic_of.Tie as tie
 
 -- a product is an element
-product-lt : {m p : ℕ} (a b : ℕ) {r : ℕ} → Listed m p → r ≡ mul (fieldOf m p) a b → r < 2 ^ m
+product-lt : {m p : ℕ} (a b : ℕ) {r : ℕ} → ListedRow m p → r ≡ mul (fieldOf m p) a b → r < 2 ^ m
 product-lt a b l e = rw e (mul-lt _ (generated l .monic) a b)
 
 -- and so is an inverse, whose product is 1
-inverse-below : {m p : ℕ} (a : ℕ) {v : ℕ} → Listed m p → v ≡ inverse (fieldOf m p) a → v < 2 ^ m
+inverse-below : {m p : ℕ} (a : ℕ) {v : ℕ} → ListedRow m p → v ≡ inverse (fieldOf m p) a → v < 2 ^ m
 inverse-below a l e = rw e (inverse-lt _ (generated l) a)
 
-inverse-times : {m p : ℕ} (a : ℕ) {v : ℕ} → Listed m p → (a ≡ 0 → ⊥) → a < 2 ^ m → v ≡ inverse (fieldOf m p) a → mul (fieldOf m p) v a ≡ 1
+inverse-times : {m p : ℕ} (a : ℕ) {v : ℕ} → ListedRow m p → (a ≡ 0 → ⊥) → a < 2 ^ m → v ≡ inverse (fieldOf m p) a → mul (fieldOf m p) v a ≡ 1
 inverse-times a l n h e = rw e (mul-comm _ (generated l .monic) (inverse _ a) a ∙ mul-inverse _ (generated l) a (omega arith) h)
 
-marked : {m p : ℕ} → Listed m p → 2 ^ m ≤ 65535
+marked : {m p : ℕ} → ListedRow m p → 2 ^ m ≤ 65535
 marked l = omega (arith, small l .size-le)
 
 root-of-requires : tie.Need-root-of-requires
@@ -36,10 +36,10 @@ inverse-of-requires : tie.Need-inverse-of-requires
 inverse-of-requires c κs = search needs
 
 product-of-requires : tie.Need-product-of-requires
-product-of-requires c κs = known (c .before .before .before .pre .0) (inverse-below _ (c .before .before .before .pre .0) (c .inverse-of .ensures))
+product-of-requires c κs = product-asks (c .before .before .before .pre .0) (inverse-below _ (c .before .before .before .pre .0) (c .inverse-of .ensures))
 
 product-of-requires-2 : tie.Need-product-of-requires-2
-product-of-requires-2 c κs = known (c .before .before .before .before .pre .0) (product-lt _ _ (c .before .before .before .before .pre .0) (c .product-of .ensures))
+product-of-requires-2 c κs = product-asks (c .before .before .before .before .pre .0) (product-lt _ _ (c .before .before .before .before .pre .0) (c .product-of .ensures))
 
 cast-j : tie.Need-cast-j
 cast-j c = search needs
@@ -64,7 +64,7 @@ product-of-requires-3 : tie.Need-product-of-requires-3
 product-of-requires-3 c κs =
     let l = c .before .before .before .before .before .before .before .pre .0 in
     let half = c .before .before .before .before .before .before .before .pre .1 .entry _ (product-lt _ _ l (c .before .before .product-of2 .ensures)) in
-    known l (solution _ (generated l) half (c .if2 .left) .0)
+    product-asks l (solution _ (generated l) half (c .if2 .left) .0)
 
 returns-3 : tie.Need-returns-3
 returns-3 c =

@@ -3,7 +3,7 @@
 use mathlib.Core.Path.{sym, ap, _∙_}
 use mathlib.Core.List.{[]}
 use Prim.Native.Nat.{ℕ}
-use Rattle.corrector.specs.Correcting.{paperCorrected}
+use Rattle.corrector.specs.Correcting.{toldCorrected}
 use Rattle.corrector.specs.declared.Corrected.{Corrected}
 use Rattle.locator.specs.Calls.{asCorrected}
 use borrow.Author.Needs.{needs}
@@ -20,12 +20,12 @@ number-requires : tie.Need-number-requires
 number-requires c κs = search needs
 
 returns : tie.Need-returns
-returns c = sym (ap (λ (x : Corrected). asCorrected (paperCorrected x)) (c .before .a .given .1))
+returns c = sym (ap (λ (x : Corrected). asCorrected (toldCorrected x)) (c .before .a .given .1))
 
 returns-2 : tie.Need-returns-2
 returns-2 c =
     ap (λ (n : ℕ). asCorrected (n, [])) (c .number .ensures)
-    ∙ sym (ap (λ (x : Corrected). asCorrected (paperCorrected x)) (c .before .before .a2 .given .1))
+    ∙ sym (ap (λ (x : Corrected). asCorrected (toldCorrected x)) (c .before .before .a2 .given .1))
 
 pub corrected-of-spec : {M : Type 1} → statement M
 corrected-of-spec = tie.close (tie.spec enum-known-a enum-known-a-2 number-requires returns returns-2)

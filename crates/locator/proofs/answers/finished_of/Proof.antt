@@ -3,7 +3,7 @@
 use mathlib.Core.Path.{sym, ap, _∙_}
 use mathlib.Core.List.{[]}
 use Prim.Native.Nat.{ℕ}
-use Rattle.table_finish.specs.Calls.{paperFinished}
+use Rattle.table_finish.specs.Calls.{toldFinished}
 use Rattle.table_finish.specs.declared.Finished.{Finished}
 use Rattle.locator.specs.Calls.{asFound}
 use borrow.Author.Needs.{needs}
@@ -20,10 +20,10 @@ number-requires : tie.Need-number-requires
 number-requires c κs = search needs
 
 returns : tie.Need-returns
-returns c = sym (ap (λ (x : Finished). asFound (paperFinished x)) (c .before .a .given .1))
+returns c = sym (ap (λ (x : Finished). asFound (toldFinished x)) (c .before .a .given .1))
 
 returns-2 : tie.Need-returns-2
-returns-2 c = ap (λ (n : ℕ). asFound (n, [])) (c .number .ensures) ∙ sym (ap (λ (x : Finished). asFound (paperFinished x)) (c .before .before .a2 .given .1))
+returns-2 c = ap (λ (n : ℕ). asFound (n, [])) (c .number .ensures) ∙ sym (ap (λ (x : Finished). asFound (toldFinished x)) (c .before .before .a2 .given .1))
 
 pub finished-of-spec : {M : Type 1} → statement M
 finished-of-spec =

@@ -3,7 +3,7 @@
 use mathlib.Core.Path.{sym, ap, _∙_}
 use mathlib.Core.List.{[]}
 use Prim.Native.Nat.{ℕ}
-use Rattle.field_elements.specs.Calls.{paperRoots}
+use Rattle.field_elements.specs.Calls.{toldQuadratic}
 use Rattle.field_elements.specs.declared.Roots.{Roots}
 use Rattle.locator.specs.Calls.{asPair}
 use borrow.Author.Needs.{needs}
@@ -23,10 +23,10 @@ roots-of-requires : tie.Need-roots-of-requires
 roots-of-requires c κs = search needs
 
 returns : tie.Need-returns
-returns c = ap (λ (n : ℕ). asPair (n, [])) (c .number .ensures) ∙ sym (ap (λ (x : Roots). asPair (paperRoots x)) (c .before .before .a .given .1))
+returns c = ap (λ (n : ℕ). asPair (n, [])) (c .number .ensures) ∙ sym (ap (λ (x : Roots). asPair (toldQuadratic x)) (c .before .before .a .given .1))
 
 returns-2 : tie.Need-returns-2
-returns-2 c = c .roots-of .ensures ∙ sym (ap (λ (x : Roots). asPair (paperRoots x)) (c .before .before .a2 .given .1))
+returns-2 c = c .roots-of .ensures ∙ sym (ap (λ (x : Roots). asPair (toldQuadratic x)) (c .before .before .a2 .given .1))
 
 pub pair-of-spec : {M : Type 1} → statement M
 pair-of-spec = tie.close (tie.spec enum-known-a number-requires enum-known-a-2 roots-of-requires returns returns-2)

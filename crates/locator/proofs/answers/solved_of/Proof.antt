@@ -3,7 +3,7 @@
 use mathlib.Core.Path.{sym, ap, _∙_}
 use mathlib.Core.List.{[]}
 use Prim.Native.Nat.{ℕ}
-use Rattle.find_solve.specs.Calls.{paperSolved}
+use Rattle.find_solve.specs.Calls.{toldSolved}
 use Rattle.find_solve.specs.declared.Solved.{Solved}
 use Rattle.locator.specs.Calls.{asFound}
 use borrow.Author.Needs.{needs}
@@ -20,10 +20,10 @@ number-requires : tie.Need-number-requires
 number-requires c κs = search needs
 
 returns : tie.Need-returns
-returns c = sym (ap (λ (x : Solved). asFound (paperSolved x)) (c .before .a .given .1))
+returns c = sym (ap (λ (x : Solved). asFound (toldSolved x)) (c .before .a .given .1))
 
 returns-2 : tie.Need-returns-2
-returns-2 c = ap (λ (n : ℕ). asFound (n, [])) (c .number .ensures) ∙ sym (ap (λ (x : Solved). asFound (paperSolved x)) (c .before .before .a2 .given .1))
+returns-2 c = ap (λ (n : ℕ). asFound (n, [])) (c .number .ensures) ∙ sym (ap (λ (x : Solved). asFound (toldSolved x)) (c .before .before .a2 .given .1))
 
 pub solved-of-spec : {M : Type 1} → statement M
 solved-of-spec = tie.close (tie.spec enum-known-a enum-known-a-2 number-requires returns returns-2)

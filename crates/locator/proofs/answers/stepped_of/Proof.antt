@@ -3,7 +3,7 @@
 use mathlib.Core.Path.{sym, ap, _∙_}
 use mathlib.Core.List.{[]}
 use Prim.Native.Nat.{ℕ}
-use Rattle.table_step.specs.Calls.{paperStepped}
+use Rattle.table_step.specs.Calls.{toldStepped}
 use Rattle.table_step.specs.declared.Stepped.{Stepped}
 use Rattle.locator.specs.Calls.{asStepped}
 use borrow.Author.Needs.{needs}
@@ -23,13 +23,13 @@ number-requires : tie.Need-number-requires
 number-requires c κs = search needs
 
 returns : tie.Need-returns
-returns c = sym (ap (λ (x : Stepped). asStepped (paperStepped x)) (c .enum-told .given .1))
+returns c = sym (ap (λ (x : Stepped). asStepped (toldStepped x)) (c .enum-told .given .1))
 
 returns-2 : tie.Need-returns-2
-returns-2 c = sym (ap (λ (x : Stepped). asStepped (paperStepped x)) (c .enum-told2 .given .1))
+returns-2 c = sym (ap (λ (x : Stepped). asStepped (toldStepped x)) (c .enum-told2 .given .1))
 
 returns-3 : tie.Need-returns-3
-returns-3 c = ap (λ (n : ℕ). asStepped (n, [])) (c .number .ensures) ∙ sym (ap (λ (x : Stepped). asStepped (paperStepped x)) (c .before .before .a .given .1))
+returns-3 c = ap (λ (n : ℕ). asStepped (n, [])) (c .number .ensures) ∙ sym (ap (λ (x : Stepped). asStepped (toldStepped x)) (c .before .before .a .given .1))
 
 pub stepped-of-spec : {M : Type 1} → statement M
 stepped-of-spec =

@@ -4,7 +4,7 @@ use Prim.Native.Nat.{_-_}
 use native.Mathlib.Omega.{arith}
 use lib.ListN.{length}
 use Rattle.poly.proofs.Logs.{logs-fit}
-use Rattle.poly.proofs.RowLoops.{Adding, adding-from, adding-on, adding-fits, adding-end, skipped}
+use Rattle.poly.proofs.RowLoops.{Adding, adding-from, adding-on, adding-fits, adding-end, row-skipped}
 use borrow.Author.Needs.{needs}
 use Rattle.poly.proofs.rows.add_row.Statement.{statement}
 use Rattle.poly.proofs.rows.add_row.Tie as tie
@@ -16,7 +16,7 @@ abbrev μ-loop : tie.MeasureT-loop
 μ-loop m logs antilogs t row r₀ s i₀ r i = length row - i
 
 returns : tie.Need-returns Inv-loop μ-loop
-returns c = skipped (c .before .pre) (c .if1 .taken)
+returns c = row-skipped (c .before .pre) (c .if1 .taken)
 
 mul-s : tie.Need-mul-s Inv-loop μ-loop
 mul-s c = search needs

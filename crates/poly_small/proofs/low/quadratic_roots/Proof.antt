@@ -1,6 +1,6 @@
 -- `poly_small::low::quadratic_roots` meets its contract: the values of the solver's answer are written.
 -- Assumes nothing.
-use Rattle.poly_small.proofs.LowDegrees.{quadratic-asks, quadratic-list, quadratic-one, quadratic-two, front-none}
+use Rattle.poly_small.proofs.LowDegrees.{quadratic-asks, quadratic-list, quadratic-one-root, quadratic-two-roots, front-none}
 use borrow.Author.Needs.{needs}
 use Rattle.poly_small.proofs.low.quadratic_roots.Statement.{statement}
 use Rattle.poly_small.proofs.low.quadratic_roots.Tie as tie
@@ -36,13 +36,13 @@ same-length : tie.Need-same-length
 same-length c = search needs
 
 returns-2 : tie.Need-returns-2
-returns-2 c = quadratic-one _ (c .before .before .before .before .before .before .before .pre) (quadratic-list _ _ _ (c .before .before .before .before .poly-of .ensures) (c .before .before .before .quadratic-of .ensures) (c .before .x .given .1))
+returns-2 c = quadratic-one-root _ (c .before .before .before .before .before .before .before .pre) (quadratic-list _ _ _ (c .before .before .before .before .poly-of .ensures) (c .before .before .before .quadratic-of .ensures) (c .before .x .given .1))
 
 same-length-2 : tie.Need-same-length-2
 same-length-2 c = search needs
 
 returns-3 : tie.Need-returns-3
-returns-3 c = quadratic-two _ _ (c .before .before .before .before .before .before .before .pre) (quadratic-list _ _ _ (c .before .before .before .before .poly-of .ensures) (c .before .before .before .quadratic-of .ensures) (c .before .x2 .given .1))
+returns-3 c = quadratic-two-roots _ _ (c .before .before .before .before .before .before .before .pre) (quadratic-list _ _ _ (c .before .before .before .before .poly-of .ensures) (c .before .before .before .quadratic-of .ensures) (c .before .x2 .given .1))
 
 pub quadratic-roots-spec : {M : Type 1} → statement M
 quadratic-roots-spec =

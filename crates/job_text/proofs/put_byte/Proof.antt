@@ -1,9 +1,9 @@
--- `job_text::put` meets its contract: one store.
+-- `job_text::put_byte` meets its contract: one store.
 -- Assumes nothing.
 use Rattle.job_text.proofs.Writing.{wrote-byte}
 use borrow.Author.Needs.{needs}
-use Rattle.job_text.proofs.put.Statement.{statement}
-use Rattle.job_text.proofs.put.Tie as tie
+use Rattle.job_text.proofs.put_byte.Statement.{statement}
+use Rattle.job_text.proofs.put_byte.Tie as tie
 
 slice-write-out : tie.Need-slice-write-out
 slice-write-out c = search needs
@@ -17,5 +17,5 @@ same-length c = search needs
 returns : tie.Need-returns
 returns c = wrote-byte (c .pre)
 
-pub put-spec : {M : Type 1} → statement M
-put-spec = tie.close (tie.spec slice-write-out add-result same-length returns)
+pub put-byte-spec : {M : Type 1} → statement M
+put-byte-spec = tie.close (tie.spec slice-write-out add-result same-length returns)

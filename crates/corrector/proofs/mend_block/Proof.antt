@@ -1,12 +1,12 @@
--- `corrector::mend` meets its contract.
+-- `corrector::mend_block` meets its contract.
 -- Assumes nothing.
 use denote.Ref.{now}
 use borrow.Author.Tests.{eqb-true}
 use Rattle.corrector_syndromes.proofs.Dividing.{rest-small}
-use Rattle.corrector.proofs.Outcomes.{odd-under, located-yes, clean, spotless, flipped, refused}
+use Rattle.corrector.proofs.Outcomes.{odd-under, located-yes, clean, spotless, flipped, far-refused}
 use borrow.Author.Needs.{needs}
-use Rattle.corrector.proofs.mend.Statement.{statement}
-use Rattle.corrector.proofs.mend.Tie as tie
+use Rattle.corrector.proofs.mend_block.Statement.{statement}
+use Rattle.corrector.proofs.mend_block.Tie as tie
 use Rattle.corrector.proofs.flip.Reads as flip-reads
 use Rattle.corrector.proofs.locate.Reads as locate-reads
 use Rattle.corrector.proofs.none.Reads as none-reads
@@ -72,11 +72,11 @@ returns-4 c =
     let v = c .before .before .before .before in
     let rest = v .before .before .before in
     let a = rest .before .before .before in
-    refused (now (a .args .word)) (a .args .strength) (a .pre .0) (a .pre .1) (rest .word-rest .ensures)
+    far-refused (now (a .args .word)) (a .args .strength) (a .pre .0) (a .pre .1) (rest .word-rest .ensures)
     (v .odd-values .ensures) _ (c .before .locate .ensures) (c .if4 .left)
 
-pub mend-spec : {M : Type 1} → statement M
-mend-spec =
+pub mend-block-spec : {M : Type 1} → statement M
+mend-block-spec =
     tie.close
     (tie.spec
     word-rest-requires

@@ -1,12 +1,12 @@
--- `poly_gcd::reduce` meets its contract: zeros fill up a shorter polynomial, a longer one is divided.
+-- `poly_gcd::leave_remainder` meets its contract: zeros fill up a shorter polynomial, a longer one is divided.
 -- Assumes nothing.
 use mathlib.Core.Path.{sym}
 use native.Mathlib.Omega.{arith}
 use lib.Seq.{length-take-le}
 use Rattle.poly_gcd.proofs.EuclidLoops.{reduce-row, reduce-asks, reduce-short, reduce-long}
 use borrow.Author.Needs.{needs}
-use Rattle.poly_gcd.proofs.reduce.Statement.{statement}
-use Rattle.poly_gcd.proofs.reduce.Tie as tie
+use Rattle.poly_gcd.proofs.leave_remainder.Statement.{statement}
+use Rattle.poly_gcd.proofs.leave_remainder.Tie as tie
 use Rattle.poly.proofs.division.divide.Reads as divide-reads
 use Rattle.poly.proofs.rows.log_row.Reads as log-row-reads
 use Rattle.slices.proofs.clear.Reads as clear-reads
@@ -68,8 +68,8 @@ same-length-4 c = search needs
 returns-2 : tie.Need-returns-2
 returns-2 c = reduce-long (c .before .before .before .before .before .before .before .before .before .before .before .before .before .before .before .pre) (c .before .before .before .before .before .before .before .before .log-row .ensures) (omega arith) (c .before .before .divide .ensures)
 
-pub reduce-spec : {M : Type 1} → statement M
-reduce-spec =
+pub leave-remainder-spec : {M : Type 1} → statement M
+leave-remainder-spec =
     tie.close
     (tie.spec
     slice-relend-prefix-log-row

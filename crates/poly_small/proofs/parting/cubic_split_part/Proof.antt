@@ -1,9 +1,9 @@
--- `poly_small::parting::split_part` meets its contract: z^(2^m) modulo the cubic, z added, and Euclid's loop.
+-- `poly_small::parting::cubic_split_part` meets its contract: z^(2^m) modulo the cubic, z added, and Euclid's loop.
 -- Assumes nothing.
 use Rattle.poly_small.proofs.Cubics.{split-asks, split-is}
 use borrow.Author.Needs.{needs}
-use Rattle.poly_small.proofs.parting.split_part.Statement.{statement}
-use Rattle.poly_small.proofs.parting.split_part.Tie as tie
+use Rattle.poly_small.proofs.parting.cubic_split_part.Statement.{statement}
+use Rattle.poly_small.proofs.parting.cubic_split_part.Tie as tie
 
 slice-aggregate-z-power : tie.Need-slice-aggregate-z-power
 slice-aggregate-z-power c = search needs
@@ -41,8 +41,8 @@ same-length c = search needs
 returns : tie.Need-returns
 returns c = split-is (c .before .before .before .before .before .before .before .before .before .before .before .before .before .before .before .before .before .before .before .before .before .before .before .pre) (c .before .before .before .before .before .before .before .before .before .before .copy .ensures) (c .before .before .before .before .before .before .before .before .before .before .before .before .before .before .before .z-power .ensures) (c .before .before .before .before .gcd .ensures)
 
-pub split-part-spec : {M : Type 1} → statement M
-split-part-spec =
+pub cubic-split-part-spec : {M : Type 1} → statement M
+cubic-split-part-spec =
     tie.close
     (tie.spec
     slice-aggregate-z-power

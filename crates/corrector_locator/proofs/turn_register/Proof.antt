@@ -1,4 +1,4 @@
--- `corrector_locator::turned` meets its contract: each way through it is a way through `turn`.
+-- `corrector_locator::turn_register` meets its contract: each way through it is a way through `turn`.
 -- Assumes nothing.
 use mathlib.Core.Path.{_≡_, sym, _∙_, subst}
 use Prim.Native.Nat.{_<_}
@@ -9,8 +9,8 @@ use Rattle.corrector_code.proofs.Eleven.{gen11}
 use Rattle.corrector_locator.proofs.Loops.{conv-lt}
 use Rattle.corrector_locator.proofs.Turns.{turn-quiet, turn-short, turn-long}
 use borrow.Author.Needs.{needs}
-use Rattle.corrector_locator.proofs.turned.Statement.{statement}
-use Rattle.corrector_locator.proofs.turned.Tie as tie
+use Rattle.corrector_locator.proofs.turn_register.Statement.{statement}
+use Rattle.corrector_locator.proofs.turn_register.Tie as tie
 use Rattle.corrector_locator.proofs.plus_times.Reads as plus-times-reads
 use Rattle.corrector_locator.proofs.product_at.Reads as product-at-reads
 use Rattle.corrector_locator.proofs.shifted.Reads as shifted-reads
@@ -69,8 +69,8 @@ returns-3 : tie.Need-returns-3
 returns-3 c =
     turn-short _ _ _ _ _ _ (c .before .before .before .before .product-at .ensures) (c .before .before .before .if1 .left) (c .before .before .plus-times .ensures) (c .before .if2 .left) (c .shifted3 .ensures)
 
-pub turned-spec : {M : Type 1} → statement M
-turned-spec =
+pub turn-register-spec : {M : Type 1} → statement M
+turn-register-spec =
     tie.close
     (tie.spec
     mul-product-at

@@ -1,4 +1,4 @@
--- `poly_values::put` meets its contract: k words are copied.
+-- `poly_values::put_vector` meets its contract: k words are copied.
 -- Assumes nothing.
 use mathlib.Core.Path.{_≡_, refl, sym, ap, _∙_}
 use native.Mathlib.Numerals.{add-one}
@@ -7,8 +7,8 @@ use borrow.Author.Needs.{needs}
 use Prim.Native.Nat.{_+_, _-_, _≤_}
 use lib.ListN.{length, length-set}
 use lib.Seq.{paste, paste-zero, paste-suc}
-use Rattle.poly_values.proofs.put.Statement.{statement}
-use Rattle.poly_values.proofs.put.Tie as tie
+use Rattle.poly_values.proofs.put_vector.Statement.{statement}
+use Rattle.poly_values.proofs.put_vector.Tie as tie
 
 abbrev Inv-loop : tie.InvT-loop
 Inv-loop p₀ at v k₀ p k = (k ≤ 11) × (length p ≡ length p₀) × (p ≡ paste p₀ at v k)
@@ -56,8 +56,8 @@ returns c =
     let done : l .k ≡ 11 = omega arith in
     l .inv .2 ∙ ap (λ k. paste (a .p .now) (a .at) (a .t3) k) done
 
-pub put-spec : {M : Type 1} → statement M
-put-spec =
+pub put-vector-spec : {M : Type 1} → statement M
+put-vector-spec =
     tie.close
     (tie.spec
     Inv-loop

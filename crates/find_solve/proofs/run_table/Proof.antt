@@ -1,4 +1,4 @@
--- `find_solve::run` meets its contract: the table is a begun one after as many steps as its head counts, and some levels have their sums.
+-- `find_solve::run_table` meets its contract: the table is a begun one after as many steps as its head counts, and some levels have their sums.
 -- Assumes nothing.
 use Prim.Native.Nat.{_-_}
 use native.Mathlib.Omega.{arith}
@@ -8,8 +8,8 @@ use Rattle.table_slots.specs.Slots.{takenOf}
 use Rattle.find_solve.proofs.Running.{found-none, found-at, long-now, run-count, run-left, run-end}
 use Rattle.find_solve.proofs.Tracing.{Going, going-from, going-asks, going-on}
 use borrow.Author.Needs.{needs}
-use Rattle.find_solve.proofs.run.Statement.{statement}
-use Rattle.find_solve.proofs.run.Tie as tie
+use Rattle.find_solve.proofs.run_table.Statement.{statement}
+use Rattle.find_solve.proofs.run_table.Tie as tie
 
 abbrev Inv-loop : tie.InvT-loop
 Inv-loop m c coeffs logs antilogs n rows traces₀ table₀ ready₀ traces table ready = Going m c coeffs n rows traces₀ table₀ traces table ready
@@ -58,8 +58,8 @@ returns c =
     let s = c .before .before .before .before .loop .inv .stepping in
     run-end s (found-none s (c .before .before .first-above .ensures) (c .enum-told .given .1))
 
-pub run-spec : {M : Type 1} → statement M
-run-spec =
+pub run-table-spec : {M : Type 1} → statement M
+run-table-spec =
     tie.close
     (tie.spec
     Inv-loop

@@ -1,12 +1,12 @@
--- `poly_powers::spread` meets its contract. The loop's invariant: the squares of the first i coefficients are written.
+-- `poly_powers::square_into` meets its contract. The loop's invariant: the squares of the first i coefficients are written.
 -- Assumes nothing.
 use Prim.Native.Nat.{_-_}
 use native.Mathlib.Omega.{arith}
 use lib.ListN.{length, length-set}
 use Rattle.poly_powers.proofs.PowerLoops.{Spreading, spread-from, spread-asks, spread-on, spread-end}
 use borrow.Author.Needs.{needs}
-use Rattle.poly_powers.proofs.spread.Statement.{statement}
-use Rattle.poly_powers.proofs.spread.Tie as tie
+use Rattle.poly_powers.proofs.square_into.Statement.{statement}
+use Rattle.poly_powers.proofs.square_into.Tie as tie
 use Rattle.poly_powers.proofs.square_of.Reads as square-of-reads
 
 abbrev Inv-loop : tie.InvT-loop
@@ -60,8 +60,8 @@ same-length c = c .before .loop .inv .filling .long
 returns : tie.Need-returns Inv-loop μ-loop
 returns c = spread-end (c .before .loop .inv) (omega arith)
 
-pub spread-spec : {M : Type 1} → statement M
-spread-spec =
+pub square-into-spec : {M : Type 1} → statement M
+square-into-spec =
     tie.close
     (tie.spec
     Inv-loop

@@ -1,4 +1,4 @@
--- `corrector::place` meets its contract.
+-- `corrector::place_of` meets its contract.
 -- Assumes nothing.
 use native.Mathlib.Omega.{arith}
 use Rattle.field.specs.Rows.{polyIn}
@@ -7,8 +7,8 @@ use Rattle.field.proofs.Generator.{position-is}
 use Rattle.corrector_code.proofs.Eleven.{gen11}
 use Rattle.corrector.proofs.Calling.{place-of}
 use borrow.Author.Needs.{needs}
-use Rattle.corrector.proofs.place.Statement.{statement}
-use Rattle.corrector.proofs.place.Tie as tie
+use Rattle.corrector.proofs.place_of.Statement.{statement}
+use Rattle.corrector.proofs.place_of.Tie as tie
 use Rattle.field.proofs.arithmetic.position_of.Reads as position-of-reads
 
 position-of-requires : tie.Need-position-of-requires
@@ -27,5 +27,5 @@ returns : tie.Need-returns
 unfolding polyIn
 returns c = place-of _ (c .position-of .ensures)
 
-pub place-spec : {M : Type 1} → statement M
-place-spec = tie.close (tie.spec position-of-requires sub-result returns)
+pub place-of-spec : {M : Type 1} → statement M
+place-of-spec = tie.close (tie.spec position-of-requires sub-result returns)

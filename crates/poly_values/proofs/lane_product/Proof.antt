@@ -1,4 +1,4 @@
--- `poly_values::product` meets its contract: rows, and the upper words taken back.
+-- `poly_values::lane_product` meets its contract: rows, and the upper words taken back.
 -- Assumes nothing.
 use mathlib.Core.Path.{_≡_, refl, sym, ap, _∙_}
 use native.Mathlib.Omega.{arith}
@@ -6,8 +6,8 @@ use Rattle.poly_values.specs.Planes.{wordsAt}
 use Rattle.poly_values.proofs.Lanes.{take-words}
 use Rattle.poly_values.proofs.Products.{product-from}
 use borrow.Author.Needs.{needs}
-use Rattle.poly_values.proofs.product.Statement.{statement}
-use Rattle.poly_values.proofs.product.Tie as tie
+use Rattle.poly_values.proofs.lane_product.Statement.{statement}
+use Rattle.poly_values.proofs.lane_product.Tie as tie
 use Rattle.poly_values.proofs.add_rows.Reads as add-rows-reads
 use Rattle.poly_values.proofs.fold.Reads as fold-reads
 use Rattle.poly_values.proofs.vector.Reads as vector-reads
@@ -36,8 +36,8 @@ returns c = let s = c .before .before .before .before .before .before .before .b
     product-from (wordsAt 11 (s .args .e .now) 0) (s .args .b) u refl (c .before .before .before .before .before .before .add-rows .ensures) (c .before .before .before .fold .ensures)
     (c .vector .ensures ∙ take-words 11 u (omega (arith, c .before .before .before .fold .kept .0, c .before .before .before .before .before .before .add-rows .kept .0)))
 
-pub product-spec : {M : Type 1} → statement M
-product-spec =
+pub lane-product-spec : {M : Type 1} → statement M
+lane-product-spec =
     tie.close
     (tie.spec
     slice-aggregate-add-rows

@@ -1,4 +1,4 @@
--- `poly_values::add_row` meets its contract: j words are added.
+-- `poly_values::add_masked` meets its contract: j words are added.
 -- Assumes nothing.
 use mathlib.Core.Path.{_≡_, refl, sym, ap, _∙_}
 use mathlib.Core.List.{List, map}
@@ -11,8 +11,8 @@ use lib.Seq.{take-all}
 use Rattle.poly_values.specs.Planes.{sum}
 use Rattle.poly_values.proofs.Products.{map-word, row-turn}
 use borrow.Author.Needs.{needs}
-use Rattle.poly_values.proofs.add_row.Statement.{statement}
-use Rattle.poly_values.proofs.add_row.Tie as tie
+use Rattle.poly_values.proofs.add_masked.Statement.{statement}
+use Rattle.poly_values.proofs.add_masked.Tie as tie
 
 abbrev Inv-loop : tie.InvT-loop
 Inv-loop t₀ w b j₀ t j = (j ≤ 11) × (length t ≡ length t₀) × (t ≡ sum (take j (map (bitAnd w) b)) t₀)
@@ -65,8 +65,8 @@ returns : tie.Need-returns Inv-loop μ-loop
 returns c = let l = c .before .loop in let s = c .before .before in let u = map (bitAnd (s .args .w)) (s .args .t3) in let done : l .j ≡ 11 = omega arith in
     l .inv .2 ∙ ap (λ (n : ℕ). sum (take n u) (s .args .t .now)) done ∙ ap (λ (x : List ℕ). sum x (s .args .t .now)) (take-all 11 u (omega (arith, length-map (s .args .t3) (bitAnd (s .args .w)))))
 
-pub add-row-spec : {M : Type 1} → statement M
-add-row-spec =
+pub add-masked-spec : {M : Type 1} → statement M
+add-masked-spec =
     tie.close
     (tie.spec
     Inv-loop
