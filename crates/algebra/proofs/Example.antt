@@ -1,7 +1,9 @@
--- The definitions compute: in the field of 16 elements, the product over 1, 2, 3, its roots found again, and its split by Tr(4 z).
+-- The definitions compute: in the field of 16 elements, the product over 1, 2, 3, its roots found again, and its split
+-- by Tr(4 z).
 --   G16              the field of 16 elements, by its own product and inverse
 --   product-is       (z + 1)(z + 2)(z + 3) is z^3 + 7 z + 6;  roots-are  its roots
---   split-gcd        its greatest common divisor with Tr(4 z);  split-modulo  with that modulo it;  split-cofactor  the rest
+--   split-gcd        its greatest common divisor with Tr(4 z);  split-modulo  with that modulo
+--                    it;  split-cofactor  the rest
 -- Assumes nothing.
 use mathlib.Core.Path.{_≡_, refl}
 use mathlib.Core.Bool.{cond}

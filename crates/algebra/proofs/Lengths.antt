@@ -1,4 +1,5 @@
--- Lengths: what the definitions of polynomials make as long as what. No law of the field is used, so these serve numbers and elements alike.
+-- Lengths: what the definitions of polynomials make as long as what. No law of the field is used, so these serve
+-- numbers and elements alike.
 --   length-add, length-add-left      the longer of the two
 --   length-square                    twice as long
 --   length-rem                       as long as the divisor

@@ -1,4 +1,5 @@
--- Squares and traces modulo a monic polynomial, as the code computes them: each stays congruent to the full polynomial.
+-- Squares and traces modulo a monic polynomial, as the code computes them: each stays congruent to the full
+-- polynomial.
 --   frobenius-mod  repeated squares
 --   trace-mod      f + f^2 + f^4 + ..
 --   trace-run      gcd(P, Tr(b z)) from the trace sum modulo P, for any P

@@ -1,10 +1,12 @@
--- What begin and a step of the root finder do, for lists of numbers below q: in the work table's form, as `gcd` and `cofactor` compute.
+-- What begin and a step of the root finder do, for lists of numbers below q: in the work table's form, as `gcd` and
+-- `cofactor` compute.
 --   field-product   z^(2^m) + z is the product of z + r over all elements r
 --   begin-gcd       BEGIN: the common part of monic p with z^(2^m) + z is the product over all distinct roots
 --   split-gcd       a polynomial t parts a product over distinct roots: the gcd keeps the roots at which t is 0
 --   split-cofactor  and the cofactor the others
 --   split-same      two polynomials that are 0 at the same of these roots part them alike
---   step-gcd        A STEP at level i, with b the i-th power of a: the gcd with Tr(b z) keeps the roots r with Tr(b r) = 0
+--   step-gcd        A STEP at level i, with b the i-th power of a: the gcd with Tr(b z) keeps the roots r with Tr(b r)
+--                   = 0
 --   step-cofactor   and the cofactor the others
 --   trace-run       THE CODE, which works modulo P, finds the same gcd with Tr(b z), for every P
 --   field-run       and the same gcd with z^(2^m) + z

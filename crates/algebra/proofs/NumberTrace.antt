@@ -4,7 +4,8 @@
 --   trace-fixed  Tr(x^2) = Tr(x)
 --   trace-bit    Tr(x) is 0 or 1
 --   trace-told   so the test for 0 tells it
--- and where the sum is exclusive or and q is 2^m, so that the numbers 2^i, which are the powers of a below m, span the field:
+-- and where the sum is exclusive or and q is 2^m, so that the numbers 2^i, which are the powers of a below m, span the
+-- field:
 --   fermat       x^(2^m) = x, shown by m computed values
 --   trace-apart  no two elements have the same trace bits
 --   tests-apart  nor do they pass the same tests of these bits

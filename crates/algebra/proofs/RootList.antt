@@ -1,4 +1,5 @@
--- The list of roots of a polynomial with coefficients below q: `rootsOf` holds exactly the numbers below q at which it is 0, ascending, each once.
+-- The list of roots of a polynomial with coefficients below q: `rootsOf` holds exactly the numbers below q at which it
+-- is 0, ascending, each once.
 --   rootsOf-ascending, rootsOf-distinct   ascending, each once
 --   rootsOf-member      exactly the numbers below q that pass the test
 --   rootsOf-exactly     exactly the numbers below q at which f is 0

@@ -1,7 +1,9 @@
--- The splitting law: a polynomial t parts the product over distinct roots into the product over those where t is 0, which is the greatest common divisor with
+-- The splitting law: a polynomial t parts the product over distinct roots into the product over those where t is 0,
+-- which is the greatest common divisor with
 -- t, and the product over the others, which is the quotient. No division and no Bezout identity is needed.
 --   split-product   the product over s is the product over what a test keeps times the product over what it leaves
---   gcd-split       THE SPLIT: the product over the roots in s at which t is 0 is a greatest common divisor of the product over s and t
+--   gcd-split       THE SPLIT: the product over the roots in s at which t is 0 is a greatest common divisor of the
+--                   product over s and t
 --   split-gcd       so `gcd` gives it
 --   split-cofactor  and `cofactor` the product over the others
 --   step-gcd        a step at level i, with b the i-th power of a: the roots r with Tr(b r) = 0
@@ -110,7 +112,8 @@ module _ {K : Type 0} {F : Ops K} (L : Laws F) where
           ∙ ap (λ w. coef F (linear F r) ⊠ w) (sym (coef-mul L q (fromRoots F s))))
           whole)))
 
-  -- THE SPLIT: the product over the roots in s at which t is 0 is a greatest common divisor of the product over s and t
+  -- THE SPLIT: the product over the roots in s at which t is 0 is a greatest common divisor of the product over s and
+  -- t
   pub gcd-split : (s t : List K) → Distinct s → IsGcd F (coef F (fromRoots F s)) (coef F t) (coef F (fromRoots F (keep (isRoot F t) s)))
   gcd-split s t u d =
       let g : List K = fromRoots F (keep (isRoot F t) s) in

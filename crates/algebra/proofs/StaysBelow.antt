@@ -1,4 +1,5 @@
--- Nothing leaves the numbers below q: each operation on polynomials gives a list of numbers below q where it is given such lists.
+-- Nothing leaves the numbers below q: each operation on polynomials gives a list of numbers below q where it is given
+-- such lists.
 --   NAME-below     so it is with NAME, from `add` to `gcd`
 --   eval-below     values
 --   below-at, below-from   by the places, as code reads a slice

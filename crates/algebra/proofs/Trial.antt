@@ -56,7 +56,8 @@ first-is t n x l h none = from-is t 0 n x (omega arith) (omega arith) h (λ y a 
 pub first-only : (t : ℕ → Bool) (n x : ℕ) → x < n → T (t x) → ((y : ℕ) → y < n → T (t y) → y ≡ x) → firstFrom t 0 n ≡ x
 first-only t n x l h one = first-is t n x l h (λ y b p. omega (arith, one y (omega arith) p))
 
--- what is known of the first of n numbers from k: it is one that passes or the number behind, and none before it passes
+-- what is known of the first of n numbers from k: it is one that passes or the number behind, and none before it
+-- passes
 record First (t : ℕ → Bool) (k n f : ℕ) : Type 0 where
   reach : f ≤ k + n
   past : k ≤ f

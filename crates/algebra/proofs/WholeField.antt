@@ -1,4 +1,5 @@
--- The polynomial of the whole field: z^(2^m) + z is the product over all elements, and takes from each polynomial the part that splits.
+-- The polynomial of the whole field: z^(2^m) + z is the product over all elements, and takes from each polynomial the
+-- part that splits.
 --   fieldPoly-monic  z^(2^m) + z is monic of degree 2^m
 --   zpow             z^n
 --   fieldPoly-is     its coefficients: 1 at places 2^m and 1, and 0 elsewhere

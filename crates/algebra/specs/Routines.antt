@@ -1,6 +1,8 @@
--- The routines on polynomials that the code follows. A monic polynomial of degree d is held as the list p of its d coefficients below the leading 1.
+-- The routines on polynomials that the code follows. A monic polynomial of degree d is held as the list p of its d
+-- coefficients below the leading 1.
 --   monic          the polynomial that p holds
---   quotientDigit  one step of a division by monic p: what falls out at the top of the remainder r where the next coefficient c is shifted in
+--   quotientDigit  one step of a division by monic p: what falls out at the top of the remainder r where the next
+--                  coefficient c is shifted in
 --   shiftIn        the remainder after that step: the digit is taken back by a multiple of p
 --   rem            the remainder of f by monic p, as long as p
 --   quo            the quotient of f by monic p
@@ -53,7 +55,8 @@ module _ {K : Type 0} (F : Ops K) where
 
   unfoldable pub norm : ℕ → List K → Option (List K)
   norm zero r = none
-  norm (suc k) r = cond (F .isZero (getD r k (F .zero))) (norm k r) (some (map (F .mul (F .inv (getD r k (F .zero)))) (take k r)))
+  norm (suc k) r =
+      cond (F .isZero (getD r k (F .zero))) (norm k r) (some (map (F .mul (F .inv (getD r k (F .zero)))) (take k r)))
 
   unfoldable pub cofactor : List K → List K → List K
   cofactor p g = take (length p - length g) (quo g (monic p))

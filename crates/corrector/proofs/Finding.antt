@@ -1,7 +1,8 @@
 -- The roots of a locator polynomial, whichever engine finds them.
 --   leading-there, low-within     a polynomial that is not 0 has a leading coefficient, at one of its places
 --   one-front                     of degree 1 and made monic, its constant is its root
---   low-asks, low-front           of degree at most 2 and made monic, it can be solved, and its roots are the polynomial's
+--   low-asks, low-front           of degree at most 2 and made monic, it can be solved, and its roots are the
+--                                 polynomial's
 --   low-few                       which are not many
 --   front-copied                  a list that the roots were copied to has them in front
 --   findable                      a locator polynomial can be given to them

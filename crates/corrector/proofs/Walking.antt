@@ -1,5 +1,6 @@
 -- The loops over places: what is summed, what is flipped, and what is stored.
---   power-at, product-small                                            the table at (j k) mod 2047, and that the product fits
+--   power-at, product-small                                            the table at (j k) mod 2047, and that the
+--       product fits
 --   SummingPlaces, sum-places-from, sum-places-on, sum-places-end      the loop of a power sum
 --   Flipping, flip-from, flip-on, flip-end                             the loop of the flips
 --   Storing, store-from, store-on                                      the loop that stores the places

@@ -3,7 +3,8 @@
 --   xorOver g js               the sum of g(j) over the places j
 --   placesOf p                 the positions of the roots of p under the recorders' convention
 --   sumAt js i                 the sum of a^(ij) over the places j
---   Acceptable odd t js        at most t places, whose first t odd power sums are the odd syndromes;  Agrees  only that
+--   Acceptable odd t js        at most t places, whose first t odd power sums are the odd syndromes;  Agrees  only
+--                              that
 --   named s t                  the places that the register names after t turns on the power sums s
 --   placesIn p                 the places that a struct holds
 --   flipAll js bytes           the bytes, with bit j flipped for each place j
@@ -11,7 +12,8 @@
 --   Placing, Placed            roots whose places are asked for, and their places
 --   Few8 p, HoldsPlaces js p   a struct holds at most eight places of a word; it holds these
 --   Either, Tells              one of two by a test; what a test's answer says
---   Spotted, Located           the places of a locator polynomial, and those to flip, unless they are too many or disagree
+--   Spotted, Located           the places of a locator polynomial, and those to flip, unless they are too many or
+--                              disagree
 -- Assumes nothing.
 use mathlib.Core.Path.{_≡_}
 use mathlib.Core.Bool.{Bool, true, false}

@@ -1,8 +1,10 @@
--- What is checked before a bit is flipped: the power sums of what was found are the odd syndromes. The even ones follow
+-- What is checked before a bit is flipped: the power sums of what was found are the odd syndromes. The even ones
+-- follow
 -- by squares.
 --   value-square      the value of a word at x^2 is the square of its value at x;  syndrome-square  so of a syndrome
 --   codeword-odd      a word that is zero at a, a^3, .., a^(2t-1) is a codeword
---   check-right       w with the places of f flipped is a codeword where the odd power sums of f are the syndromes of w
+--   check-right       w with the places of f flipped is a codeword where the odd power sums of f are the syndromes of
+--                     w
 --   mirrored          where a^n = 1, the inverse of a^j is a^(n-j)
 -- Assumes nothing.
 use mathlib.Core.Path.{_≡_, refl, sym, ap, ap₂, _∙_}
@@ -64,7 +66,8 @@ module _ {K : Type 0} {F : Ops K} (L : Laws F) where
           ∙ ap (λ v. v ⊗ v) (go f (e .0) (omega (arith, e .1)) (omega (arith, e .1)) (omega (arith, e .1))) ∙ E.mul-zero L 0#)
           (λ e. ap (λ k. wordValue F w (power F a k)) (e .1) ∙ h (e .0) (omega (arith, e .1))) (half n)
 
-  -- THE CHECK: w with the places of f flipped is a codeword where the odd power sums of f's locators are the odd syndromes of w
+  -- THE CHECK: w with the places of f flipped is a codeword where the odd power sums of f's locators are the odd
+  -- syndromes of w
   pub check-right : (a : K) (t : ℕ) (w f : List Bool) → ((i : ℕ) → i < t → total F (λ x. power F x (suc (2 * i))) (locators F a f) ≡ wordValue F w (power F a (suc (2 * i))))
       → Codeword F a t (difference w f)
   check-right a t w f h =

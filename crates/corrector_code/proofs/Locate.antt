@@ -100,7 +100,8 @@ module _ {K : Type 0} {F : Ops K} (L : Laws F) where
     all-map (λ y e. I.eval-mul L (1# ∷ x ∷ []) (fromLocators F s) (F .inv y) ∙ ap (λ w. eval F (1# ∷ x ∷ []) (F .inv y) ⊗ w) e ∙ E.mul-zero L _) s (from-zeros s (z .1)),
   )
 
-  -- ---- it makes the power sums: with s the power sums, (1 + x z) .. s = (1 + x z) .. + its odd part (Newton's identities)
+  -- ---- it makes the power sums: with s the power sums, (1 + x z) .. s = (1 + x z) .. + its odd part (Newton's
+  -- identities)
 
   -- x z + x^2 z^2 + ..
   powers : K → Series K
@@ -242,7 +243,8 @@ module _ {K : Type 0} {F : Ops K} (L : Laws F) where
       at-inverses [] a b = tt
       at-inverses (x ∷ r) a b = (I.eval-add L p q (F .inv x) ∙ ap₂ _⊕_ (a .0) (b .0) ∙ zero-add 0#, at-inverses r (a .1) (b .1))
 
-  -- THE KEY EQUATION: after t turns, on 2t power sums of at most t locators, a register with room holds the product of 1 + x z
+  -- THE KEY EQUATION: after t turns, on 2t power sums of at most t locators, a register with room holds the product of
+  -- 1 + x z
   pub key-right : (m t : ℕ) (s : List K) (u : Series K) → t ≤ m → Distinct s → All (λ x. x ≢ 0#) s → length s ≤ t → ((k : ℕ) → k ≤ 2 * t → u k ≡ sums F s k)
       → coef F (register F m u t .locator) ≡ coef F (fromLocators F s)
   unfolding sums startingWith

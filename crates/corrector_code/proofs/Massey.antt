@@ -3,7 +3,8 @@
 -- is never longer than the locator polynomial that it looks for.
 --   ShortFor s m f d     f has degree at most d, and the first m odd coefficients of f s are 0
 --   product-none      a coefficient of a product is 0 where one of the two factors is, in each term
---   register-goes-on           where t of degree v makes all of s, an f of degree l that makes l + v of s makes all of it
+--   register-goes-on           where t of degree v makes all of s, an f of degree l that makes l + v of s makes all of
+--                              it
 --   massey            so an f that fails has l + v above 2m
 --   short-wider, short-plus, short-scale   of a larger bound, of a sum, of a multiple
 --   short-front, short-next                of z^2 f, and one turn more

@@ -58,7 +58,8 @@ module _ {K : Type 0} {F : Ops K} (L : Laws F) where
   shifted : (x y u p : K) → (x ⊕ y) ⊗ u ⊗ p ≡ x ⊗ (u ⊗ p) ⊕ u ⊗ (y ⊗ p)
   shifted x y u p = mul-assoc (x ⊕ y) u p ∙ E.add-mul L x y (u ⊗ p) ∙ ap (λ w. x ⊗ (u ⊗ p) ⊕ w) (E.mul-left-comm L y u p)
 
-  -- distinct elements, g one-to-one: weights u with sum u(x) g(x)^j = 0 for j = 0, 1, .., one power for each element, are 0
+  -- distinct elements, g one-to-one: weights u with sum u(x) g(x)^j = 0 for j = 0, 1, .., one power for each element,
+  -- are 0
   pub vandermonde : (g : K → K) → ((x y : K) → g x ≡ g y → x ≡ y) → (s : List K) (u : K → K) → Distinct s
       → ((j : ℕ) → j < length s → total F (λ x. u x ⊗ power F (g x) j) s ≡ 0#) → All (λ x. u x ≡ 0#) s
   unfolding total power

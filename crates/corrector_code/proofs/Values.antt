@@ -1,7 +1,8 @@
 -- The value of a word is that of its number; where a generator is zero, the remainder by it has the value of the
 -- number.
 --   valueOfDigits-xor     the value of a sum
---   digit-turn            the value by digits from the lowest, a turn at a time;  valueOfDigits-join  two numbers one above the other
+--   digit-turn            the value by digits from the lowest, a turn at a time;  valueOfDigits-join  two numbers one
+--                         above the other
 --   valueOfDigits-reduce  the remainder by a generator that is zero at x
 --   value-digits          the value of a word
 -- Assumes nothing.
@@ -59,7 +60,8 @@ module _ (F : Field) (monic : FullDegree F) (one-lt : 1 < size F) (x : ℕ) wher
       ∙ xor-swap (n % 2) (y % 2) (mul F x (valueOfDigits F x (n / 2))) (mul F x (valueOfDigits F x (y / 2)))
       ∙ ap₂ bitXor (sym (at-step n)) (sym (at-step y))) m
 
-  -- the value by digits from the lowest: a turn takes the lowest digit of n into the sum, y being the power of x that it stands for
+  -- the value by digits from the lowest: a turn takes the lowest digit of n into the sum, y being the power of x that
+  -- it stands for
   pub digit-turn : (sum y n : ℕ) → y < size F → bitXor (bitXor sum (n % 2 * y)) (mul F (mul F x y) (valueOfDigits F x (n / 2))) ≡ bitXor sum (mul F y (valueOfDigits F x n))
   digit-turn sum y n h =
       xor-assoc sum (n % 2 * y) (mul F (mul F x y) (valueOfDigits F x (n / 2)))

@@ -1,6 +1,7 @@
 -- The odd syndromes of a number, digit by digit: each digit's row of powers is added.
 --   RowOn, row-from, row-on, row-end                                the loop over a row
---   AddingDigits, add-digits-from, add-digits-on, add-digits-end    the loop over the digits;  place-fits  a digit left has a row
+--   AddingDigits, add-digits-from, add-digits-on, add-digits-end    the loop over the digits;  place-fits  a digit
+--   left has a row
 --   both-parts                                                      both parts of a remainder
 --   zeros-at                                                        eight zeros
 -- Assumes nothing.

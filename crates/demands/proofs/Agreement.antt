@@ -1,6 +1,8 @@
--- The trace engine and the plain trial agree: at each cutoff that is not refused the whole call and the search answer under the same number, and leave the
+-- The trace engine and the plain trial agree: at each cutoff that is not refused the whole call and the search answer
+-- under the same number, and leave the
 -- same list.
---   skipped   a test that does not hold decides nothing;  number-is  the number of an outcome does not depend on the values
+--   skipped   a test that does not hold decides nothing;  number-is  the number of an outcome does not depend on the
+--             values
 --   agree-number, agree-list   the two calls
 -- Assumes nothing.
 use mathlib.Core.Path.{_≡_, refl, sym, ap, _∙_}

@@ -1,6 +1,7 @@
 -- DEMAND 2 holds of every polynomial that the calls accept: `Demand2` of specs/Demand2.antt is the one record to read.
 --   root-list       the roots of an accepted polynomial are a root list
---   search-passes   what the whole call accepts the search accepts;  solve-passes  and so back, at each cutoff up to the highest
+--   search-passes   what the whole call accepts the search accepts;  solve-passes  and so back, at each cutoff up to
+--                   the highest
 --   demand-2        it holds where the whole call accepts
 --   demand-2-search and where the search does, at each cutoff up to the highest
 -- Assumes nothing.

@@ -1,4 +1,5 @@
--- DEMAND 3 holds of every polynomial that begin accepts: `Followed` of specs/Demand3.antt is the one record to read, and table_rules' `Demand3` that it cites.
+-- DEMAND 3 holds of every polynomial that begin accepts: `Followed` of specs/Demand3.antt is the one record to read,
+-- and table_rules' `Demand3` that it cites.
 --   never-refused  no step on the table of a begun polynomial is refused
 --   demand-3-calls it holds
 -- Assumes nothing.

@@ -1,5 +1,6 @@
 -- What is promised of the block corrector besides demand 1, of whatever its contract admits.
---   Corrector   no two codewords qualify; one outcome; turned away exactly if none exists; a codeword stays; twice is once
+--   Corrector   no two codewords qualify; one outcome; turned away exactly if none exists; a codeword stays; twice is
+--               once
 -- Assumes nothing.
 use mathlib.Core.Path.{_≡_}
 use mathlib.Core.List.{List, [], _∷_}

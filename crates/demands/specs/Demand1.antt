@@ -1,9 +1,12 @@
--- DEMAND 1: every input gets a fixed outcome. What is wrong is refused by the entry that receives it, under its own number, in a fixed order, and a refusal
+-- DEMAND 1: every input gets a fixed outcome. What is wrong is refused by the entry that receives it, under its own
+-- number, in a fixed order, and a refusal
 -- writes nothing in lent memory.
---   Decides   an outcome by tests in their order: a refusal's number alone exactly when its test is the first to hold, 0 with the values exactly when none holds
+--   Decides   an outcome by tests in their order: a refusal's number alone exactly when its test is the first to hold,
+--             0 with the values exactly when none holds
 --   Spares    lent memory afterwards: as it was where a test holds, and else what the entry writes
 --   Settles   the corrector's outcome and word, by its tests in their order; the last of them asks for a codeword
---   Demand1   of whatever the contract of each entry admits, for every input: its tests in their order, its values, its memory; the record reader
+--   Demand1   of whatever the contract of each entry admits, for every input: its tests in their order, its values,
+--             its memory; the record reader
 --             likewise; and that it admits one answer and one memory
 -- The exports' contracts (locator/specs/Calls) are the structs of these answers.
 -- Assumes nothing.
@@ -19,7 +22,8 @@ use Rattle.field.specs.Field.{fieldAt, mul, inverse, rootsAt}
 use Rattle.field.specs.Quadratics.{rootsOfQuadratic}
 use Rattle.field_elements.specs.declared.Roots.{Roots}
 use Rattle.field_elements.specs.declared.Answer.{Answer}
-use Rattle.field_elements.specs.Calls.{toldAnswer, toldQuadratic, pairTests, nonzeroTests, positionTests, positionUnder}
+use Rattle.field_elements.specs.Calls.{toldAnswer, toldQuadratic, pairTests}
+use Rattle.field_elements.specs.Calls.{nonzeroTests, positionTests, positionUnder}
 use Rattle.field_elements.specs.Calls.{TellsProduct, TellsInverse, TellsPosition, TellsQuadratic}
 use Rattle.table_rules.specs.Cutoff.{inForce}
 use Rattle.table_rules.specs.Demand.{stepsAt}
@@ -38,7 +42,7 @@ use Rattle.find_search.specs.Calls.{searchTests, toldSearched, Searches}
 use Rattle.find_search.specs.declared.Searched.{Searched}
 use Rattle.job_records.specs.Layout.{recordLength}
 use Rattle.job_records.specs.Reading.{Outcome, startTests, recordTests, ReadsAt, HandsBack, Stands}
-use Rattle.job_records.specs.Reading.{toldRead as paperRead}
+use Rattle.job_records.specs.Reading.{toldRead}
 use Rattle.job_records.specs.declared.Read.{Read}
 use Rattle.job_lines.specs.Printing.{TurnedBy}
 use Rattle.job_lines.specs.declared.Turn.{Turn}
@@ -53,7 +57,8 @@ pub record Spares (tests : List (ℕ × Bool)) (new old after : List ℕ) : Type
   pub refused : (k : ℕ) → Given k tests → after ≡ old
   pub accepted : Passed tests → after ≡ new
 
--- what refuses the corrector's word, in the order 22, 23, 24, and that a refusal writes nothing; 0 with the flips exactly
+-- what refuses the corrector's word, in the order 22, 23, 24, and that a refusal writes nothing; 0 with the flips
+-- exactly
 -- when the word that is left is a codeword near
 pub record Settles (t : ℕ) (word : List ℕ) (outcome : ℕ × List ℕ) (after : List ℕ) : Type 0 where
   pub block : (outcome ≡ (22, [])) ↔ (IsBlock word → ⊥)
@@ -64,9 +69,12 @@ pub record Settles (t : ℕ) (word : List ℕ) (outcome : ℕ × List ℕ) (afte
 
 pub record Demand1 : Type 0 where
   -- element calls: 1, 4, 13;  position: 1, 21, 4, 13
-  pub product : (m a b : ℕ) (r : Answer) → TellsProduct m a b r → Decides (pairTests m a b) (mul (fieldAt m) a b ∷ []) (toldAnswer r)
-  pub quadratic : (m a b : ℕ) (r : Roots) → TellsQuadratic m a b r → Decides (pairTests m a b) (rootsOfQuadratic (fieldAt m) a b) (toldQuadratic r)
-  pub inverse : (m a : ℕ) (r : Answer) → TellsInverse m a r → Decides (nonzeroTests m a) (inverse (fieldAt m) a ∷ []) (toldAnswer r)
+  pub product : (m a b : ℕ) (r : Answer) → TellsProduct m a b r
+      → Decides (pairTests m a b) (mul (fieldAt m) a b ∷ []) (toldAnswer r)
+  pub quadratic : (m a b : ℕ) (r : Roots) → TellsQuadratic m a b r
+      → Decides (pairTests m a b) (rootsOfQuadratic (fieldAt m) a b) (toldQuadratic r)
+  pub inverse : (m a : ℕ) (r : Answer) → TellsInverse m a r
+      → Decides (nonzeroTests m a) (inverse (fieldAt m) a ∷ []) (toldAnswer r)
   pub position : (m x convention : ℕ) (r : Answer) → TellsPosition m x convention r
       → Decides (positionTests m x convention) (positionUnder convention (fieldAt m) x ∷ []) (toldAnswer r)
   -- begin: 1 to 7;  step: 7, 8, 9;  finish: 7, 8, 10
@@ -89,24 +97,29 @@ pub record Demand1 : Type 0 where
   -- correct: 22, 23, 24
   pub correct : (t : ℕ) (word : List ℕ) (outcome : ℕ × List ℕ) (after : List ℕ)
       → Corrects t word outcome after → Settles t word outcome after
-  -- the reader at a place of a file: it ends where no byte remains, stops under 12 or 11, and refuses a complete record under 1 to 6 with the place behind it
-  pub ends : (file : List ℕ) (at : ℕ) (r : Read) → ReadsAt file at r → (paperRead r ≡ Outcome.ends) ↔ (length file ≤ at)
+  -- the reader at a place of a file: it ends where no byte remains, stops under 12 or 11, and refuses a complete
+  -- record under 1 to 6 with the place behind it
+  pub ends : (file : List ℕ) (at : ℕ) (r : Read) → ReadsAt file at r
+      → (toldRead r ≡ Outcome.ends) ↔ (length file ≤ at)
   pub stops : (file : List ℕ) (at k : ℕ) (r : Read) → ReadsAt file at r
-      → (paperRead r ≡ Outcome.gives k []) ↔ ((at < length file) × Given k (startTests (drop at file)))
+      → (toldRead r ≡ Outcome.gives k []) ↔ ((at < length file) × Given k (startTests (drop at file)))
   pub refuses : (file : List ℕ) (at k : ℕ) (r : Read) → ReadsAt file at r
-      → (paperRead r ≡ Outcome.gives (suc k) ((at + recordLength (drop at file)) ∷ []))
+      → (toldRead r ≡ Outcome.gives (suc k) ((at + recordLength (drop at file)) ∷ []))
       ↔ (Passed (startTests (drop at file)) × Given (suc k) (recordTests (drop at file)))
-  -- and exactly where no test holds it hands back m, the cutoff as stated, the coefficient bytes as that part of the file, and the place behind
+  -- and exactly where no test holds it hands back m, the cutoff as stated, the coefficient bytes as that part of the
+  -- file, and the place behind
   pub accepts : (file : List ℕ) (at : ℕ) (r : Read) → ReadsAt file at r
-      → HandsBack file at (paperRead r) ↔ (Passed (startTests (drop at file)) × Passed (recordTests (drop at file)))
+      → HandsBack file at (toldRead r) ↔ (Passed (startTests (drop at file)) × Passed (recordTests (drop at file)))
   -- each contract admits one answer, and one content of lent memory
   pub product-one : (m a b : ℕ) (r s : Answer) → TellsProduct m a b r → TellsProduct m a b s → r ≡ s
   pub quadratic-one : (m a b : ℕ) (r s : Roots) → TellsQuadratic m a b r → TellsQuadratic m a b s → r ≡ s
   pub inverse-one : (m a : ℕ) (r s : Answer) → TellsInverse m a r → TellsInverse m a s → r ≡ s
-  pub position-one : (m x convention : ℕ) (r s : Answer) → TellsPosition m x convention r → TellsPosition m x convention s → r ≡ s
+  pub position-one : (m x convention : ℕ) (r s : Answer) → TellsPosition m x convention r
+      → TellsPosition m x convention s → r ≡ s
   pub begin-one : (m c : ℕ) (cs table : List ℕ) (r s : Begun) (x y : List ℕ)
       → Begins m c cs table r x → Begins m c cs table s y → (r ≡ s) × (x ≡ y)
-  pub step-one : (table : List ℕ) (r s : Stepped) (x y : List ℕ) → Steps table r x → Steps table s y → (r ≡ s) × (x ≡ y)
+  pub step-one : (table : List ℕ) (r s : Stepped) (x y : List ℕ) → Steps table r x → Steps table s y
+      → (r ≡ s) × (x ≡ y)
   pub finish-one : (table list : List ℕ) (r s : Finished) (x y : List ℕ)
       → Finishes table list r x → Finishes table list s y → (r ≡ s) × (x ≡ y)
   pub solve-one : (m c : ℕ) (cs list : List ℕ) (r s : Solved) (x y : List ℕ)

@@ -1,8 +1,11 @@
--- DEMAND 3: the splitting can be followed. From a table begun by an accepted polynomial and written by our steps alone, each step parts the first group of roots
--- above the cutoff by its next trace bit and leaves the rest be; the steps to the end number exactly the groups, level by level, that outnumber the cutoff; never
+-- DEMAND 3: the splitting can be followed. From a table begun by an accepted polynomial and written by our steps
+-- alone, each step parts the first group of roots
+-- above the cutoff by its next trace bit and leaves the rest be; the steps to the end number exactly the groups, level
+-- by level, that outnumber the cutoff; never
 -- more than m times the whole part of s/(c+1). All is over demand 2's root set.
 --   After       a table is what so many calls of step leave of another, each admitted by the contract of step
---   Followed    step and finish from a table begun by a polynomial that begin accepts, at the cutoff c: whatever their contracts admit
+--   Followed    step and finish from a table begun by a polynomial that begin accepts, at the cutoff c: whatever their
+--               contracts admit
 -- Assumes nothing.
 use mathlib.Core.Path.{_≡_}
 use mathlib.Core.List.{List}
@@ -30,18 +33,24 @@ pub data After (table : List ℕ) : ℕ → List ℕ → Type 0 where
 
 -- begun is a table that begin leaves
 pub record Followed (m c : ℕ) (f begun : List ℕ) : Type 0 where
-  -- what the groups do: each step parts the first group above the cutoff by its next trace bit, their order, their count, the bound
+  -- what the groups do: each step parts the first group above the cutoff by its next trace bit, their order, their
+  -- count, the bound
   pub groups : Demand3 m (inForce c) (rootsAt m f)
   -- the table after each step is that of the groups
   pub each : (n : ℕ) (t : List ℕ) → n ≤ stepsAt m c f → After begun n t → t ≡ groupsSlots m (inForce c) f n
-  -- as many steps are taken as there are groups above the cutoff; then the answer is "done", and nothing is written any more
+  -- as many steps are taken as there are groups above the cutoff; then the answer is "done", and nothing is written
+  -- any more
   pub taken : (n : ℕ) (t u : List ℕ) (r : Stepped) → n < stepsAt m c f → After begun n t → Steps t r u → r ≡ Taken
-  pub done : (n : ℕ) (t u : List ℕ) (r : Stepped) → stepsAt m c f ≤ n → After begun n t → Steps t r u → (r ≡ Done) × (u ≡ t)
-  pub still : (n : ℕ) (t : List ℕ) → stepsAt m c f ≤ n → After begun n t → t ≡ groupsSlots m (inForce c) f (stepsAt m c f)
+  pub done : (n : ℕ) (t u : List ℕ) (r : Stepped) → stepsAt m c f ≤ n → After begun n t → Steps t r u
+      → (r ≡ Done) × (u ≡ t)
+  pub still : (n : ℕ) (t : List ℕ) → stepsAt m c f ≤ n → After begun n t
+      → t ≡ groupsSlots m (inForce c) f (stepsAt m c f)
   -- never more than the bound
   pub bound : stepsAt m c f ≤ m * (length (rootsAt m f) / suc (inForce c))
   -- finish lists the roots, and the whole call gives the roots and steps of begin, steps until done, finish
-  pub finish-gives : (t list : List ℕ) (r : Finished) (after : List ℕ) → After begun (stepsAt m c f) t → limit ≤ length list
+  pub finish-gives : (t list : List ℕ) (r : Finished) (after : List ℕ) → After begun (stepsAt m c f) t
+      → limit ≤ length list
       → Finishes t list r after → (r ≡ Listed (length (rootsAt m f))) × (after ≡ copied (rootsAt m f) list)
-  pub whole-gives : (t list : List ℕ) (r : Finished) (s : Solved) (x y : List ℕ) → After begun (stepsAt m c f) t → limit ≤ length list
+  pub whole-gives : (t list : List ℕ) (r : Finished) (s : Solved) (x y : List ℕ) → After begun (stepsAt m c f) t
+      → limit ≤ length list
       → Finishes t list r x → Solves m c f list s y → (s ≡ Found (length (rootsAt m f)) (stepsAt m c f)) × (y ≡ x)

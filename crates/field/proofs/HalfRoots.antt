@@ -1,4 +1,5 @@
--- The quadratic table's rule, for any field: one test over the table, and the law that turns it into the rule at each entry. The test goes by
+-- The quadratic table's rule, for any field: one test over the table, and the law that turns it into the rule at each
+-- entry. The test goes by
 -- the values of j^2 + j and of the trace at 1, 2, 4, .. alone.
 --   quad            j^2 + j;  quad-xor  it is additive
 --   entryIf, entry  whether j may stand at i, by the values of j^2 + j and of the trace at 1, 2, 4, ..
@@ -28,7 +29,8 @@ unfoldable pub quad : Field → ℕ → ℕ
 unfolding mul
 quad F j = bitXor (mul F j j) j
 
--- whether j may stand at i, by the values `qs` of j^2 + j and `ts` of the trace at 1, 2, 4, .. ; the first argument says whether j is 65535
+-- whether j may stand at i, by the values `qs` of j^2 + j and `ts` of the trace at 1, 2, 4, .. ; the first argument
+-- says whether j is 65535
 unfoldable pub entryIf : Bool → ℕ → List ℕ → List ℕ → ℕ → ℕ → Bool
 unfolding linearMap
 entryIf true n qs ts i j = eqb (linearMap ts i) 1

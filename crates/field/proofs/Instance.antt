@@ -1,5 +1,7 @@
--- Each known field is a field of characteristic 2 on the numbers below 2^m: the laws that the theory of polynomials takes, once over the width.
---   on-numbers       the laws, for any field that passes the test of its generator;  known-numbers  for each known field
+-- Each known field is a field of characteristic 2 on the numbers below 2^m: the laws that the theory of polynomials
+-- takes, once over the width.
+--   on-numbers       the laws, for any field that passes the test of its generator;  known-numbers  for each known
+--                    field
 --   squared-size     x^(2^m) = x, by m squarings
 --   power-low        below the degree, a power of 2 in the field is the number 2^i
 -- Assumes nothing.

@@ -1,6 +1,7 @@
 -- What holds of each row holds of each known field.
 --   by-row    a property of degree and polynomial, from its three rows;  row4, row8, row11  the rows
---   row-known, row-unknown   what `rowAt` finds;  unlisted, is-listed, listed-on  the same, as the first test of an entry takes it
+--   row-known, row-unknown   what `rowAt` finds;  unlisted, is-listed, listed-on  the same, as the first test of an
+--                            entry takes it
 --   rowHere                  the row at a place of the code's table
 --   looked-found, looked-on, looked-end, looked-inside   the search among the rows, a place at a time
 --   Looking, looking-from, looking-on, looking-end       the search for a known degree

@@ -1,4 +1,5 @@
--- The log and antilog tables, for any field: a test over each table, the law that turns it into the rule at each entry, and the product by logs.
+-- The log and antilog tables, for any field: a test over each table, the law that turns it into the rule at each
+-- entry, and the product by logs.
 --   logTest, logs-hold            the log table: along 1, 2, 4, .. the entry at a^j is j
 --   powerTest, powers-hold        the powers: 1, 2, 4, ..
 --   antilogTest, antilogs-hold    the antilog table: the powers, as many again as they go on, and zeros

@@ -1,4 +1,5 @@
--- What the loops of the product and of the square root keep: each a record, one turn of the loop, and what follows at its end.
+-- What the loops of the product and of the square root keep: each a record, one turn of the loop, and what follows at
+-- its end.
 --   Halfway        product: the sum so far, and x times y, make v
 --   SquaringRoot   square root: y is b^(2^i)
 -- Assumes nothing.

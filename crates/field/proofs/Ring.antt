@@ -1,10 +1,13 @@
--- The product of a field is commutative and associative and distributes over the sum, with no bound on its arguments; 1 is its unit below 2^m.
+-- The product of a field is commutative and associative and distributes over the sum, with no bound on its arguments;
+-- 1 is its unit below 2^m.
 -- All that is asked is that the polynomial has the field's degree.
 --   FullDegree           the polynomial has the field's degree
 --   mul-comm, mul-assoc, mul-xor-l, mul-xor-r   the product is commutative, associative, and distributes over the sum
---   mul-zero-l ..   the product with 0 and with 1;  mul-lt  it is an element;  mul-reduced  a factor may be reduced first
+--   mul-zero-l ..   the product with 0 and with 1;  mul-lt  it is an element;  mul-reduced  a factor may be reduced
+--                   first
 --   mul-two         twice an element;  mul-peel  the product by its first factor's last digit and the rest
---   mul-swap        the inner factors of four change places;  square-xor  the square of a sum is the sum of the squares
+--   mul-swap        the inner factors of four change places;  square-xor  the square of a sum is the sum of the
+--                   squares
 --   power-lt, power-add, power-of-power   powers are elements; x^(i+j) and x^(ij)
 --   RingLaws, ring  the laws of the product as one value, for a section to open
 -- Assumes nothing.

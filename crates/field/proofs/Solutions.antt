@@ -1,7 +1,9 @@
--- The solutions of x^2 + x = i: two that differ by 1, or none where Tr(i) = 1. And those of z^2 + az + b = 0, by z = ax.
+-- The solutions of x^2 + x = i: two that differ by 1, or none where Tr(i) = 1. And those of z^2 + az + b = 0, by z =
+-- ax.
 --   Root               z is a root of z^2 + az + b, written out
 --   half-root-unique   the quadratic table's rule leaves one number at each place
---   answer-none, answer-up, answer-down, one-root   the list of all roots, by the table's entry, as the solver goes by it
+--   answer-none, answer-up, answer-down, one-root   the list of all roots, by the table's entry, as the solver goes by
+--                                                   it
 -- Assumes nothing.
 use mathlib.Core.Path.{_≡_, sym, ap, ap₂, _∙_, subst}
 use mathlib.Core.Logic.{_⊎_, inl, inr, ⊎-elim, _≢_}

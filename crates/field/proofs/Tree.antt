@@ -34,7 +34,8 @@ unfolding evens odds
 grow zero xs = leaf (getD xs 0 0)
 grow (suc n) xs = node (grow n (evens xs)) (grow n (odds xs))
 
--- `elim`, since its cases wait: the arguments of `cond` would be computed both, so that each look went through the whole tree
+-- `elim`, since its cases wait: the arguments of `cond` would be computed both, so that each look went through the
+-- whole tree
 unfoldable pub look : Tree → ℕ → ℕ
 look (leaf v) x = v
 look (node l r) x = elim (eqb (x % 2) 0) [ true ↦ look l (x / 2) | false ↦ look r (x / 2) ]

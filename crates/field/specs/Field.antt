@@ -1,4 +1,5 @@
--- The fields of 2^m elements. An element is a number below 2^m whose bits are the coefficients of a polynomial over the two values 0 and 1,
+-- The fields of 2^m elements. An element is a number below 2^m whose bits are the coefficients of a polynomial over
+-- the two values 0 and 1,
 -- bit 0 the constant. The sum of two elements is `bitXor`.
 --   horner     Horner's rule over the binary digits of a number, the highest digit first
 --   carryFree  the carry-free product: long multiplication of binary numbers with exclusive or in place of the sum
@@ -22,7 +23,8 @@ use Rattle.algebra.specs.Trial.{firstFrom}
 use Rattle.algebra.specs.Polynomial.{rootsOf}
 use Rattle.field.specs.Rows.{polyOf}
 
--- `f` makes the result of what the higher digits gave and of the next digit; the count n of digits to go stops the recursion
+-- `f` makes the result of what the higher digits gave and of the next digit; the count n of digits to go stops the
+-- recursion
 unfoldable pub hornerIn : (ℕ → ℕ → ℕ) → ℕ → ℕ → ℕ
 hornerIn f zero a = zero
 hornerIn f (suc n) zero = zero

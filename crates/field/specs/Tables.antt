@@ -2,7 +2,8 @@
 --   HalfRoot    the quadratic table at i: the even j with j^2 + j = i, or 65535 where Tr(i) = 1
 --   logOf       the log table at x: its position; twice the order at 0
 --   antilogOf   the antilog table at j: a^j below twice the order, and 0 from there on
---   Halves      a list is the quadratic table;  Logs  the log table;  Antilogs  the antilog table, for sums of a log below the order and any log
+--   Halves      a list is the quadratic table;  Logs  the log table;  Antilogs  the antilog table, for sums of a log
+--               below the order and any log
 --   Powers      a list is 1, a, a^2, .. : as many as there are nonzero elements
 -- Assumes nothing.
 use mathlib.Core.Path.{_≡_}

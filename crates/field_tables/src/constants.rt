@@ -1,4 +1,5 @@
-// Each constant table, named once: a constant array is built anew wherever it is named, and proved there entry by entry.
+// Each constant table, named once: a constant array is built anew wherever it is named, and proved there entry by
+// entry.
 ghost use Rattle.field.specs.Field.{fieldAt};
 ghost use Rattle.field.specs.Tables.{Antilogs, Halves, Logs, Powers};
 use crate::antilogs::ANTILOG4;

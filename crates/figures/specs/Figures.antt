@@ -5,7 +5,8 @@
 --   wholeField   z^16 + z
 --   figures  the table
 --   Right    what is claimed of a figure: the whole call's outcome, the roots, and the work tables
---   figureAfter   the slots of a figure's begun table after n steps;  StartsWith  slots begin with a list, and zeros follow
+--   figureAfter   the slots of a figure's begun table after n steps;  StartsWith  slots begin with a list, and zeros
+--                 follow
 -- Assumes nothing.
 use mathlib.Core.Path.{_≡_}
 use mathlib.Core.Bool.{cond}

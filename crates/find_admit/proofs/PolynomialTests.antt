@@ -1,4 +1,5 @@
--- Refusals 1 to 5, as the code's tests show them, and that the two numbers by which it decides tell as much as the polynomial.
+-- Refusals 1 to 5, as the code's tests show them, and that the two numbers by which it decides tell as much as the
+-- polynomial.
 --   empty-given, long-given,
 --   element-given, zero-given   which refusal is given
 --   values-in                   all five pass

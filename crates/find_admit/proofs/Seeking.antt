@@ -1,6 +1,7 @@
 -- The search for the largest of a list, an element at a time.
 --   SeekingTop                                                  `top` is the largest of the first k
---   seek-top-from, seek-top-raise, seek-top-keep, seek-top-end  the start, a turn that finds a larger one, one that does not, the end
+--   seek-top-from, seek-top-raise, seek-top-keep, seek-top-end  the start, a turn that finds a larger one, one that
+--                                                               does not, the end
 -- Assumes nothing.
 use mathlib.Core.Path.{_≡_, refl, sym, _∙_}
 use mathlib.Core.Bool.{Bool, true, false, _&&_, and-false, and-true}

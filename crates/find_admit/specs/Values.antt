@@ -1,5 +1,6 @@
 -- The tests of a polynomial by the number of its coefficients and the largest of them.
---   Largest      a number is below a bound exactly if all of a list are: the largest of them, or 0 where there are none
+--   Largest      a number is below a bound exactly if all of a list are: the largest of them, or 0 where there are
+--                none
 --   Measured     n is how many coefficients there are, and top the largest of them, where they are not too many
 --   valueTests   refusals 1 to 5 by these two numbers, and the tests that an entry has behind them
 -- Assumes nothing.

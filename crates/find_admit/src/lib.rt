@@ -90,7 +90,8 @@ pub fn admit_room(m: u16, coeffs: &[u16], short: bool) -> Admission
 
 // Refusals 1 to 7, of a polynomial, a cutoff, and lent slots that are too few or not as many as they must be.
 pub fn admit(m: u16, coeffs: &[u16], cutoff: u16, short: bool) -> Admission
-    ensures { λ r. ⌜ Admits (polynomialTests m (now (coeffs .entry)) ((6, ltb highestCutoff cutoff) ∷ (7, short) ∷ [])) r ⌝ }
+    ensures { λ r. ⌜ Admits (polynomialTests m (now (coeffs .entry))
+        ((6, ltb highestCutoff cutoff) ∷ (7, short) ∷ [])) r ⌝ }
 {
     let found = admit_call(m, coeffs.len(), largest(coeffs), cutoff);
     also(found, short, Refusal::Room)

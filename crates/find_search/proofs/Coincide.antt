@@ -1,4 +1,5 @@
--- Two outcomes that the contract of the plain search admits coincide: the answer is told by its number and value, and the list by a function.
+-- Two outcomes that the contract of the plain search admits coincide: the answer is told by its number and value, and
+-- the list by a function.
 --   searched-told     two answers with one number and value are one
 --   search-coincide   so for the call
 -- Assumes nothing.

@@ -32,4 +32,5 @@ toldSearched (NotSearched k) = (numberOf k, [])
 -- the contract: an answer, and the lent list afterwards
 abbrev pub Searches : ℕ → List ℕ → List ℕ → Searched → List ℕ → Type 0
 Searches m cs list r after =
-    Answers (searchTests m cs list) (length (rootsAt m cs) ∷ []) (copied (rootsAt m cs) list) list (toldSearched r) after
+    Answers (searchTests m cs list) (length (rootsAt m cs) ∷ [])
+    (copied (rootsAt m cs) list) list (toldSearched r) after

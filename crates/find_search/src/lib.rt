@@ -25,7 +25,8 @@ pub enum Searched {
     NotSearched(Refusal),
 }
 
-// Puts the element x behind the k roots at the front of the list where its value v is 0. Returns how many there are then.
+// Puts the element x behind the k roots at the front of the list where its value v is 0. Returns how many there are
+// then.
 fn note(v: u16, x: u16, roots: &mut [u16], k: u16) -> u16
     requires { ⌜ (v ≡ 0 → k < length (now roots)) × (k < 65535) ⌝ }
     ensures { λ j. ⌜ Noted v x k (now (roots .entry)) j (now (roots .exit)) ⌝ }
@@ -71,7 +72,8 @@ pub fn search_lent(m: u16, f: &[u16], logs: &[u16], antilogs: &[u16], roots: &mu
     k
 }
 
-// Puts the elements x + l, for the set digits l of free, behind the k roots at the front of the list. Returns how many there are then.
+// Puts the elements x + l, for the set digits l of free, behind the k roots at the front of the list. Returns how many
+// there are then.
 fn note_word(f: &[u16], free: u64, x: u16, roots: &mut [u16], k: u16) -> u16
     requires { ⌜ Wordable (now f) free x k (now roots) ⌝ }
     ensures { λ j. ⌜ Tried 11 (now (f .entry)) (now (roots .entry)) (x + 64) j (now (roots .exit)) ⌝ }
@@ -121,7 +123,8 @@ fn search_in(m: u16, f: &[u16], roots: &mut [u16]) -> u16
     }
 }
 
-// The plain search: every element is tried, the distinct roots stand ascending at the front of the list, and their number is returned.
+// The plain search: every element is tried, the distinct roots stand ascending at the front of the list, and their
+// number is returned.
 pub fn search(m: u16, coeffs: &[u16], roots: &mut [u16]) -> Searched
     ensures { λ r. ⌜ Searches m (now (coeffs .entry)) (now (roots .entry)) r (now (roots .exit)) ⌝ }
 {

@@ -1,4 +1,5 @@
--- Two outcomes that the contract of the whole call admits coincide: the answer is told by its number and values, and the list by a function.
+-- Two outcomes that the contract of the whole call admits coincide: the answer is told by its number and values, and
+-- the list by a function.
 --   solved-told      two answers with one number and one list of values are one
 --   solve-coincide   so for the call
 -- Assumes nothing.

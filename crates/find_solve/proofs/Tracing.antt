@@ -1,5 +1,7 @@
--- Trace sums modulo the polynomial, one a level: what the loop over levels keeps, and why a begun table may be stepped with them.
---   Levelling, levelling-from, levelling-asks, levelling-on, levelling-end   the sums of the levels below k are written
+-- Trace sums modulo the polynomial, one a level: what the loop over levels keeps, and why a begun table may be stepped
+-- with them.
+--   Levelling, levelling-from, levelling-asks, levelling-on, levelling-end   the sums of the levels below k are
+--   written
 --   sums-long, sum-at, traced-at     where the sum of a level stands
 --   level-value                      at a root of the polynomial it is the value of Tr(a^i z)
 --   level-below, level-long          its coefficients are elements, and how many they are

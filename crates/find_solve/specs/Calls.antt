@@ -34,4 +34,5 @@ toldSolved (NotSolved k) = (numberOf k, [])
 -- the contract: an answer, and the lent list afterwards
 abbrev pub Solves : ℕ → ℕ → List ℕ → List ℕ → Solved → List ℕ → Type 0
 Solves m c cs list r after =
-    Answers (solveTests m c cs list) (length (rootsAt m cs) ∷ stepsAt m c cs ∷ []) (copied (rootsAt m cs) list) list (toldSolved r) after
+    Answers (solveTests m c cs list) (length (rootsAt m cs) ∷ stepsAt m c cs ∷ [])
+    (copied (rootsAt m cs) list) list (toldSolved r) after

@@ -1,10 +1,14 @@
 -- The whole call's engine, over lent tables.
 --   Stepping     a table that begin made of an accepted polynomial and our steps alone wrote
---   levelSum     Tr(a^i z) modulo the polynomial, as a sum of rows;  levelSums  those of the levels below k, one behind the other
+--   levelSum     Tr(a^i z) modulo the polynomial, as a sum of rows;  levelSums  those of the levels below k, one
+--                behind the other
 --   Traced       traces hold the sums of the levels below k, and zeros behind;  Traceable, TracedTo  up to a level
---   Advancing    the factor at o is the one that a step splits, and the sum at its level parts it as Tr(a^i z) does;  Advanced  it is taken
---   Running      what the engine may take for granted;  RunOut  what it leaves: the table after as many steps as groups outnumber c
---   Solvable, SolvedOut   the same from a polynomial that passed its tests to the list: the roots at its front, their number and that of the steps
+--   Advancing    the factor at o is the one that a step splits, and the sum at its level parts it as Tr(a^i z)
+--                does;  Advanced  it is taken
+--   Running      what the engine may take for granted;  RunOut  what it leaves: the table after as many steps as
+--                groups outnumber c
+--   Solvable, SolvedOut   the same from a polynomial that passed its tests to the list: the roots at its front, their
+--                         number and that of the steps
 --   SolvedAtAny  the list is the same at every cutoff from 1 on
 --   AtMostLinear        a polynomial that was let in has n coefficients up to its leading one, at most 2
 -- Assumes nothing.
@@ -74,7 +78,8 @@ pub record Advancing (m : ℕ) (ls ts : List ℕ) (n : ℕ) (rows traces : List 
   pub width : widthOf table ≡ m
   pub few : n ≤ limit
   pub traceable : Traceable m ls ts n rows traces k (levelAt table o)
-  pub same : gcd (G m) (factorAt table o) (levelSum m n rows (levelAt table o)) ≡ halvingAt m .low (levelAt table o) (factorAt table o)
+  pub same : gcd (G m) (factorAt table o) (levelSum m n rows (levelAt table o))
+      ≡ halvingAt m .low (levelAt table o) (factorAt table o)
 
 pub record Advanced (m n : ℕ) (rows table : List ℕ) (k : ℕ) (traces table′ : List ℕ) : Type 0 where
   pub stepped : table′ ≡ slotsStepped byFactor table

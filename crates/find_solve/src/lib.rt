@@ -7,7 +7,8 @@
 //     Mathematics 17 (2014): the part of a polynomial that splits into distinct factors.
 // A table is begun: the product over all distinct roots, as the greatest common divisor with z^(2^m) + z. Each step
 // parts a factor P by the roots' next trace bit: gcd(P, Tr(a^i z)), and the rest. Factors of degree at most the cutoff
-// are solved. A step divides by the trace of its level modulo the polynomial, not modulo the factor: the powers of z on
+// are solved. A step divides by the trace of its level modulo the polynomial, not modulo the factor: the powers of z
+// on
 // begin's way to z^(2^m) are kept, and Tr(a^i z) is a sum of their multiples, taken once a level.
 ghost use Prim.Native.Nat.{_≤_};
 ghost use lib.ListN.{length};
@@ -51,7 +52,8 @@ pub enum Solved {
     NotSolved(Refusal),
 }
 
-// Writes the trace sums of the levels from `ready` to `level` to traces, each in its n places. Returns how many there are then.
+// Writes the trace sums of the levels from `ready` to `level` to traces, each in its n places. Returns how many there
+// are then.
 fn trace_to(
     m: u16,
     logs: &[u16],
@@ -101,7 +103,8 @@ fn advance(
     k
 }
 
-// Steps a begun table until it is done. It is sound, so that the place of the next step is all that is looked for. The coefficients only say which table it is.
+// Steps a begun table until it is done. It is sound, so that the place of the next step is all that is looked for. The
+// coefficients only say which table it is.
 pub fn run_table(
     m: u16,
     c: u16,
@@ -172,7 +175,8 @@ pub fn solve_lent(
     }
 }
 
-// The roots of an accepted polynomial with n coefficients up to its leading one, at most 2: degree 1 has one, a quotient,
+// The roots of an accepted polynomial with n coefficients up to its leading one, at most 2: degree 1 has one, a
+// quotient,
 // and degree 0 has none. It takes no table and no step.
 fn solve_low(m: u16, n: usize, coeffs: &[u16], roots: &mut [u16]) -> Counts
     requires { ⌜ AtMostLinear m (now coeffs) n × (1 ≤ length (now roots)) ⌝ }

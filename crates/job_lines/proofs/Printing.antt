@@ -1,6 +1,7 @@
 -- The lines of a file.
 --   lines-are, lines-once   every file has its lines, and in one way
---   prints-lines            who starts at 0 with the number 1, prints each turn's line and goes on where the turn says, prints the lines of the file
+--   prints-lines            who starts at 0 with the number 1, prints each turn's line and goes on where the turn
+--                           says, prints the lines of the file
 -- Assumes nothing.
 use mathlib.Core.Path.{_≡_, refl, sym, ap, ap₂, _∙_, subst}
 use mathlib.Core.List.{List, [], _∷_, _++_, append-nil}

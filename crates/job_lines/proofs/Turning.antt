@@ -1,5 +1,6 @@
 -- What a turn leaves, by what reading gave.
---   turn-over, turn-stop, turn-refuse, turn-record   where reading ends, stops, goes on behind a refused record, or behind an accepted one
+--   turn-over, turn-stop, turn-refuse, turn-record   where reading ends, stops, goes on behind a refused record, or
+--                                                    behind an accepted one
 --   record-solvable   an accepted record can be solved, where there is room for its line
 --   turn-fits    the line lies within the lent text
 --   turn-on      where a turn goes on, the next place is behind the record, within the file, and has the next number

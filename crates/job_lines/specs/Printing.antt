@@ -1,9 +1,11 @@
 -- What is printed for a record, and for a file (docs/RULES.md section 6).
---   turnedLine  the line of a record that is refused;  solvedLine  of one that is accepted: the roots and the steps of the whole call
+--   turnedLine  the line of a record that is refused;  solvedLine  of one that is accepted: the roots and the steps of
+--               the whole call
 --   lineBy      the line of a number with the values that reading gave;  lineFor  of what reading gave
 --   linesFrom   the lines of what reading gave, one after the other; the first has the number k
 --   LinesOf     a text is the lines of a file
---   onFrom      the place to go on with the number of the record there, or nothing, of what reading gave;  toldNext  of the code's answer
+--   onFrom      the place to go on with the number of the record there, or nothing, of what reading
+--               gave;  toldNext  of the code's answer
 --   Turned      what a turn leaves: the line at the front of the lent text, and all else there as it was
 --   TurnedBy    the same of what was read, wherever it stands: at every place of a file that gives it with these bytes
 --   Ahead       a number lies behind what was read, wherever that stands in a file of at most 65,536 bytes
@@ -87,5 +89,6 @@ pub record Printable (m c : ℕ) (cs out : List ℕ) : Type 0 where
 
 pub data Prints (file : List ℕ) : ℕ → ℕ → List ℕ → Type 0 where
   last : {at k : ℕ} → onFrom k (readAt file at) ≡ [] → Prints file at k (lineFor file k (readAt file at))
-  more : {at k next : ℕ} {text : List ℕ} → onFrom k (readAt file at) ≡ next ∷ (k + 1) ∷ [] → Prints file next (k + 1) text
+  more : {at k next : ℕ} {text : List ℕ} → onFrom k (readAt file at) ≡ next ∷ (k + 1) ∷ []
+      → Prints file next (k + 1) text
       → Prints file at k (lineFor file k (readAt file at) ++ text)

@@ -1,7 +1,9 @@
 -- Each outcome is given exactly when docs/RULES.md section 5.2 says so.
 --   ends-exactly      reading ends exactly where no byte remains
---   stops-exactly     a number alone is given exactly when its test is the first of the bytes from the place on to hold
---   refuses-exactly   a number and the place behind the record: exactly when the record is complete and its test is the first to hold
+--   stops-exactly     a number alone is given exactly when its test is the first of the bytes from the place on to
+--                     hold
+--   refuses-exactly   a number and the place behind the record: exactly when the record is complete and its test is
+--                     the first to hold
 --   accepts-exactly   m, the cutoff as stated, the coefficient bytes as that part of the file, and the place behind:
 --                     exactly when no test holds
 -- Assumes nothing.

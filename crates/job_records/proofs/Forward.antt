@@ -1,6 +1,7 @@
 -- Where reading goes on, and where it does not.
 --   Here, here-is   what stands at a place, by cases; every place is one of them
---   onward          a number with a place to go on: exactly behind the complete record, at least five bytes ahead and within the file
+--   onward          a number with a place to go on: exactly behind the complete record, at least five bytes ahead and
+--                   within the file
 --   stops-only      a number with no place is 11 or 12;  goes-only: one with a place is at most 6
 --   accepts         an accepted record says what stands at its place, and its bytes are that part of the file
 -- Assumes nothing.
@@ -111,7 +112,8 @@ goes-only file at {k} {next} {vs} e = go (here-is at (drop at file)) e
 
 -- ---- what an accepted record says
 
--- its fields are the bytes at its place, and its coefficient bytes are the part of the file that is handed back; they pass the whole call's tests
+-- its fields are the bytes at its place, and its coefficient bytes are the part of the file that is handed back; they
+-- pass the whole call's tests
 pub record Accepts (file : List ℕ) (at next m start len : ℕ) (cutoff : List ℕ) : Type 0 where
   pub degree : m ≡ getD file (at + 2) 0
   pub cutoff-is : cutoff ≡ statedCutoff (getD file (at + 3) 0)

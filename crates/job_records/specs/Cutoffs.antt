@@ -1,7 +1,8 @@
 -- The cutoff as a record states it: the house default, or a number.
 --   statedCutoff      what a cutoff byte states: nothing, or its number
 --   statedBy          the same of the code's enum
---   asked             the number of the cutoff that is asked for: 0 where nothing is stated, which stands for the house default
+--   asked             the number of the cutoff that is asked for: 0 where nothing is stated, which stands for the
+--                     house default
 -- Assumes nothing.
 use mathlib.Core.Bool.{cond}
 use mathlib.Core.List.{List, [], _∷_}

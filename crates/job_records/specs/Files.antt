@@ -15,7 +15,8 @@ use Rattle.job_records.specs.Reading.{Outcome, judged, readAt}
 pub data Reads (file : List ℕ) : ℕ → List Outcome → Type 0 where
   over : {at : ℕ} → readAt file at ≡ Outcome.ends → Reads file at []
   stop : {at k : ℕ} → readAt file at ≡ Outcome.gives k [] → Reads file at (Outcome.gives k [] ∷ [])
-  on : {at k next : ℕ} {values : List ℕ} {os : List Outcome} → readAt file at ≡ Outcome.gives k (next ∷ values) → Reads file next os
+  on : {at k next : ℕ} {values : List ℕ} {os : List Outcome} → readAt file at ≡ Outcome.gives k (next ∷ values)
+      → Reads file next os
       → Reads file at (Outcome.gives k (next ∷ values) ∷ os)
 
 pub record Complete (r : List ℕ) : Type 0 where

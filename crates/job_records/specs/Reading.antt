@@ -1,14 +1,17 @@
 -- What reading gives at a place of a file (docs/RULES.md sections 5.2 and 5.3).
 --   Outcome      reading ends, or it gives a number with its values
---   toldRead        the outcome of each answer of the code: a place to go on comes first among the values; an accepted record also has
+--   toldRead        the outcome of each answer of the code: a place to go on comes first among the values; an accepted
+--                   record also has
 --                its m, where its coefficient bytes start, how many they are, and the cutoff that it states
 --   startTests   the tests of the bytes from a place on: one byte remains, no mark, any later shortage
---   callTests, recordTests  the tests of a complete record, in the whole call's order, and those of the record at the front of bytes
+--   callTests, recordTests  the tests of a complete record, in the whole call's order, and those of the record at the
+--                           front of bytes
 --   judged       the outcome of a complete record at a place
 --   readHere     the outcome of the bytes from a place on
 --   readAt       the outcome at a place of a file
 --   ReadsAt      THE CONTRACT of the reader: the answers that it admits there
---   HandsBack    an outcome at a place accepts: it gives m, the cutoff as stated, the coefficient bytes as that part of
+--   HandsBack    an outcome at a place accepts: it gives m, the cutoff as stated, the coefficient bytes as that part
+--                of
 --                the file, and the place behind
 --   bytesOf      the coefficient bytes of what was read, as that part of the file; none where no record was accepted
 --   Stands       what was read, with these bytes, stands somewhere in a file
@@ -26,7 +29,8 @@ use Rattle.refusals.specs.Numbers.{numberOf}
 use Rattle.slices.specs.Lists.{copied}
 use Rattle.table_rules.specs.Cutoff.{highestCutoff}
 use Rattle.table_rules.specs.Polynomials.{polynomialTests}
-use Rattle.job_records.specs.Layout.{headLength, marked, degreeByte, cutoffByte, bodyLength, recordLength, words, part, coefficients}
+use Rattle.job_records.specs.Layout.{headLength, marked, degreeByte, cutoffByte}
+use Rattle.job_records.specs.Layout.{bodyLength, recordLength, words, part, coefficients}
 use Rattle.job_records.specs.Cutoffs.{statedCutoff, statedBy}
 use Rattle.job_records.specs.declared.Cutoff.{Cutoff}
 use Rattle.job_records.specs.declared.Read.{Read}
@@ -45,7 +49,8 @@ toldRead (Refused k next) = Outcome.gives (numberOf k) (next ∷ [])
 toldRead (Stopped k) = Outcome.gives (numberOf k) []
 
 abbrev pub startTests : List ℕ → List (ℕ × Bool)
-startTests rest = (12, ltb (length rest) 2) ∷ (11, not (marked rest)) ∷ (12, ltb (length rest) (recordLength rest)) ∷ []
+startTests rest =
+    (12, ltb (length rest) 2) ∷ (11, not (marked rest)) ∷ (12, ltb (length rest) (recordLength rest)) ∷ []
 
 abbrev pub callTests : ℕ → ℕ → List ℕ → List (ℕ × Bool)
 callTests m c cs = polynomialTests m cs ((6, ltb highestCutoff c) ∷ [])
@@ -58,7 +63,8 @@ recordTests r = callTests (degreeByte r) (cutoffByte r) (coefficients r)
 unfoldable pub judged : ℕ → List ℕ → Outcome
 judged at r =
     decide (recordTests r) (λ k. Outcome.gives k ((at + recordLength r) ∷ []))
-    (Outcome.gives 0 ((at + recordLength r) ∷ degreeByte r ∷ (at + headLength) ∷ bodyLength r ∷ statedCutoff (cutoffByte r)))
+    (Outcome.gives 0 ((at + recordLength r) ∷ degreeByte r ∷ (at + headLength) ∷ bodyLength r
+    ∷ statedCutoff (cutoffByte r)))
 
 -- 11 and 12 say of no place to go on
 unfoldable pub readHere : ℕ → List ℕ → Outcome
@@ -97,7 +103,8 @@ pub record Stands (r : Read) (bytes : List ℕ) : Type 0 where
   pub lent : bytes ≡ bytesOf file r
 
 abbrev pub answered : ℕ → ℕ → Cutoff → ℕ → Admission → Read
-answered at m cutoff len In = Record (record { m = m; cutoff = cutoff; start = at + headLength; len = len; next = at + headLength + len })
+answered at m cutoff len In =
+    Record (record { m = m; cutoff = cutoff; start = at + headLength; len = len; next = at + headLength + len })
 answered at m cutoff len (Out k) = Refused k (at + headLength + len)
 
 pub record Spelled (bytes room : List ℕ) (n : ℕ) (after : List ℕ) : Type 0 where

@@ -26,7 +26,8 @@ pub enum Cutoff {
     Stated(u8),
 }
 
-// A record that the whole call accepts: its coefficient bytes are `len` bytes of the file from `start` on, and `next` is the place behind it.
+// A record that the whole call accepts: its coefficient bytes are `len` bytes of the file from `start` on, and `next`
+// is the place behind it.
 pub struct Job {
     pub m: u8,
     pub cutoff: Cutoff,
@@ -35,7 +36,8 @@ pub struct Job {
     pub next: usize,
 }
 
-// What stands at a place: no more, a record, one that is refused with the place to go on, or something at which reading stops.
+// What stands at a place: no more, a record, one that is refused with the place to go on, or something at which
+// reading stops.
 pub enum Read {
     End,
     Record(Job),

@@ -3,7 +3,8 @@
 --   decimal-short    a number below a power of ten has no more digits than the power says
 --   decimal-digits   each is a digit
 --   decimal-lead     a number above 0 does not begin with a 0;  0 has the one digit 0 by `decimal-small`
---   spell            the number that digits spell;  decimal-value: a number's digits spell it;  decimal-once: so two numbers have not the same
+--   spell            the number that digits spell;  decimal-value: a number's digits spell it;  decimal-once: so two
+--                    numbers have not the same
 -- Assumes nothing.
 use mathlib.Core.Path.{_≡_, refl, sym, ap, _∙_}
 use mathlib.Core.List.{List, [], _∷_, _++_}

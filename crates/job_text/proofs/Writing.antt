@@ -3,7 +3,8 @@
 --   wrote-then     a text, and then another behind it, are both
 --   wrote-long     nothing gets longer
 --   wrote-small, wrote-large        the digits of a number, as they are written
---   wrote-spaced, spaced-append     a number behind a space, and numbers one behind the other;  spaced-end: at most six bytes for each
+--   wrote-spaced, spaced-append     a number behind a space, and numbers one behind the other;  spaced-end: at most
+--                                   six bytes for each
 --   Rowing         the first i roots stand in the list;  roots-from, roots-on, roots-end
 --   line-refused, line-accepted     the line from its parts
 -- Assumes nothing.

@@ -4,8 +4,10 @@
 --   decimalIn      the same, in so many divisions by ten
 --   spaced         numbers in decimal, a space before each
 --   behindOutcome  what a line has behind the outcome
---   lineOf         the line of a record: its number, its outcome and, where it is accepted, how many roots there are, the steps and the roots
---   lineRoom       how many bytes a line with s roots has at most: ten of its number, six of each other, a line feed;  longestLine  with the most roots
+--   lineOf         the line of a record: its number, its outcome and, where it is accepted, how many roots there are,
+--                  the steps and the roots
+--   lineRoom       how many bytes a line with s roots has at most: ten of its number, six of each other, a line
+--                  feed;  longestLine  with the most roots
 --   Wrote          a text stands in a list from a place on, up to an end; all else is as it was
 -- Assumes nothing.
 use mathlib.Core.Path.{_≡_}

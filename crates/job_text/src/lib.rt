@@ -53,7 +53,8 @@ fn put_roots(s: usize, roots: &[u16], at: usize, out: &mut [u8]) -> usize
     end
 }
 
-// Writes the line of a record to the front of out: its number k, its outcome and, where that is 0, s, the steps and the first s of the roots.
+// Writes the line of a record to the front of out: its number k, its outcome and, where that is 0, s, the steps and
+// the first s of the roots.
 // Its length.
 pub fn line(k: u32, outcome: u16, s: u16, steps: u16, roots: &[u16], out: &mut [u8]) -> usize
     requires { ⌜ (s ≤ length (now roots)) × (lineRoom s ≤ length (now out)) ⌝ }

@@ -1,4 +1,5 @@
--- Two structs that the contract of an export admits are one, and so is what lent memory holds: by what the contract of the call admits.
+-- Two structs that the contract of an export admits are one, and so is what lent memory holds: by what the contract of
+-- the call admits.
 --   one-struct, one-memory   from the call to the export
 --   product-one ..           so for each export
 -- Assumes nothing.

@@ -18,7 +18,8 @@ use Rattle.locator.specs.declared.LocatorPair.{LocatorPair}
 use Rattle.locator.specs.declared.LocatorFound.{LocatorFound}
 use Rattle.locator.specs.declared.LocatorStepped.{LocatorStepped}
 use Rattle.locator.specs.declared.LocatorCorrected.{LocatorCorrected}
-use Rattle.field_elements.specs.Calls.{toldAnswer, toldQuadratic, TellsProduct, TellsInverse, TellsPosition, TellsQuadratic}
+use Rattle.field_elements.specs.Calls.{toldAnswer, toldQuadratic, TellsProduct}
+use Rattle.field_elements.specs.Calls.{TellsInverse, TellsPosition, TellsQuadratic}
 use Rattle.find_solve.specs.Calls.{toldSolved, Solves}
 use Rattle.find_search.specs.Calls.{toldSearched, Searches}
 use Rattle.table_begin.specs.Calls.{toldBegun, Begins}

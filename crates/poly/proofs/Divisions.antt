@@ -1,6 +1,7 @@
 -- Division in place, from the top: what holds at each turn.
 --   rem-short                               the remainder of a polynomial that is no longer than p: itself, and zeros
---   divided-front, divided-behind           the front of a division is the remainder, and the quotient stands behind it
+--   divided-front, divided-behind           the front of a division is the remainder, and the quotient stands behind
+--                                           it
 --   length-divided, divided-below           as long as f, and no larger
 --   divided-start, divided-on               before the first digit, and one digit more
 --   Dividing                                from k on the division is done

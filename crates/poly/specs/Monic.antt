@@ -1,6 +1,7 @@
 -- Making a polynomial monic.
 --   TopIs      k is the place behind the highest coefficient of r that is not 0, and 0 where there is none
---   monicLow   what the first j coefficients hold once they are monic: the j - 1 below the leading one; nothing where j is 0
+--   monicLow   what the first j coefficients hold once they are monic: the j - 1 below the leading one; nothing where
+--              j is 0
 --   MadeMonic  r became r′ : j coefficients were left, and they are monic
 --   Scalable   r can be multiplied by v
 -- Assumes nothing.

@@ -1,4 +1,5 @@
-// Division by a monic polynomial, in place: from the top each coefficient is the quotient's next digit, and a multiple of the row takes it back.
+// Division by a monic polynomial, in place: from the top each coefficient is the quotient's next digit, and a multiple
+// of the row takes it back.
 ghost use mathlib.Core.Path.{_≡_};
 ghost use Rattle.algebra.specs.Routines.{rem};
 ghost use Rattle.field.specs.Field.{G};
@@ -6,7 +7,8 @@ ghost use Rattle.poly.specs.Lent.{held};
 ghost use Rattle.poly.specs.Division.{divided, Divisible, Reducible};
 use crate::rows::add_row;
 
-// Divides f by the polynomial that the row holds: the remainder takes the low places, as many as the row has, and the quotient the others.
+// Divides f by the polynomial that the row holds: the remainder takes the low places, as many as the row has, and the
+// quotient the others.
 pub fn divide(m: u16, logs: &[u16], antilogs: &[u16], row: &[u16], f: &mut [u16])
     requires { ⌜ Divisible m (now logs) (now antilogs) (now row) (now f) ⌝ }
     ensures { λ _. ⌜ now (f .exit) ≡ divided m (held m (now (row .entry))) (now (f .entry)) ⌝ }

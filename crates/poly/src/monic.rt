@@ -42,7 +42,8 @@ fn scale(m: u16, logs: &[u16], antilogs: &[u16], v: u16, r: &mut [u16])
     }
 }
 
-// Divides r by its leading coefficient. Returns how many coefficients it has up to that one, 0 where all are 0; those below it are the monic polynomial's.
+// Divides r by its leading coefficient. Returns how many coefficients it has up to that one, 0 where all are 0; those
+// below it are the monic polynomial's.
 pub fn make_monic(m: u16, logs: &[u16], antilogs: &[u16], r: &mut [u16]) -> usize
     requires { ⌜ Lent m (now logs) (now antilogs) × Below (2 ^ m) (now r) ⌝ }
     ensures { λ j. ⌜ MadeMonic m (now (r .entry)) j (now (r .exit)) ⌝ }

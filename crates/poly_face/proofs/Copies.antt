@@ -1,5 +1,7 @@
--- A table that was copied to the front of lent room stands there, whole. Both kinds of table are lent by the same laws.
---   Kind     a kind of table: what the table of degree m holds, and how many entries it has;  logsKind, antilogsKind  the kinds
+-- A table that was copied to the front of lent room stands there, whole. Both kinds of table are lent by the same
+-- laws.
+--   Kind     a kind of table: what the table of degree m holds, and how many entries it has;  logsKind,
+--            antilogsKind  the kinds
 --   fits     room enough for a degree is enough for its table
 --   lent     what holds of the table holds of the front of the room
 -- Assumes nothing.

@@ -1,4 +1,5 @@
-// The inner routines on polynomials as C calls them, to be tested (tests/c/routines.c) and timed (bench/c/routines.c). Not part of the product's face: each
+// The inner routines on polynomials as C calls them, to be tested (tests/c/routines.c) and timed (bench/c/routines.c).
+// Not part of the product's face: each
 // asks what its routine asks, and the C side sees to it. A slice is a pointer, then a count.
 ghost use mathlib.Core.Path.{_≡_};
 ghost use mathlib.Core.Bool.{true};
@@ -131,12 +132,14 @@ pub extern "C" fn polynomial_z_power(
     s: &mut [u16],
 )
     requires { ⌜ Startable m (now logs) (now antilogs) (now p) (now row) (now w) (now s) ⌝ }
-    ensures { λ _. ⌜ now (w .exit) ≡ frobeniusMod (G m) (now (p .entry)) k (rem (G m) (now (p .entry)) (0 ∷ 1 ∷ [])) ⌝ }
+    ensures { λ _. ⌜ now (w .exit)
+        ≡ frobeniusMod (G m) (now (p .entry)) k (rem (G m) (now (p .entry)) (0 ∷ 1 ∷ [])) ⌝ }
 {
     poly_powers::z_power(m, logs, antilogs, p, k, row, w, s);
 }
 
-// Writes Tr(bz) modulo the monic polynomial with the low coefficients p to sum. What stands in row, w and s is used up.
+// Writes Tr(bz) modulo the monic polynomial with the low coefficients p to sum. What stands in row, w and s is used
+// up.
 #[no_mangle]
 pub extern "C" fn polynomial_trace_of(
     m: u16,
@@ -157,8 +160,10 @@ pub extern "C" fn polynomial_trace_of(
     poly_powers::trace_of(m, logs, antilogs, p, b, row, w, s, sum);
 }
 
-// The monic greatest common divisor of the monic polynomial with the n low coefficients at the front of a, and the one with the k coefficients at the
-// front of b. Its low coefficients come to the front of a, and their number is returned. What stands in row and b is used up.
+// The monic greatest common divisor of the monic polynomial with the n low coefficients at the front of a, and the one
+// with the k coefficients at the
+// front of b. Its low coefficients come to the front of a, and their number is returned. What stands in row and b is
+// used up.
 #[no_mangle]
 pub extern "C" fn polynomial_gcd(
     m: u16,
@@ -176,7 +181,8 @@ pub extern "C" fn polynomial_gcd(
     poly_gcd::gcd(m, logs, antilogs, row, a, n, b, k)
 }
 
-// Writes the monic polynomial with the low coefficients p, divided by the monic one with the low coefficients g, to h. What stands in row and f is used up.
+// Writes the monic polynomial with the low coefficients p, divided by the monic one with the low coefficients g, to h.
+// What stands in row and f is used up.
 #[no_mangle]
 pub extern "C" fn polynomial_cofactor(
     m: u16,

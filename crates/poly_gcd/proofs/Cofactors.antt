@@ -1,4 +1,5 @@
--- The cofactor, as the code comes to it: monic p is written out and divided by g, and the quotient, without its leading 1, copied.
+-- The cofactor, as the code comes to it: monic p is written out and divided by g, and the quotient, without its
+-- leading 1, copied.
 --   cofactor-asks    what the division asks
 --   cofactor-long    the work is as long as it was
 --   cofactor-is      what is copied

@@ -3,7 +3,8 @@
 --   reduce-short, reduce-long           the remainder stands at the front
 --   monicLow-some, monicLow-none              what `monicLow` holds
 --   turn-asks, turn-below, turn-is      one division
---   turn-on, turn-same, turn-last       what it leaves for the next, that the greatest common divisor is the same, and what it is where the remainder is 0
+--   turn-on, turn-same, turn-last       what it leaves for the next, that the greatest common divisor is the same, and
+--                                       what it is where the remainder is 0
 --   Looping, loop-from, loop-asks, loop-on, loop-ended, loop-copied   the loop
 -- Assumes nothing.
 use mathlib.Core.Path.{_≡_, refl, sym, ap, ap₂, _∙_, subst}

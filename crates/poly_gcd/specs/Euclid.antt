@@ -1,8 +1,10 @@
 -- Euclid's loop on two slices, and the cofactor.
---   Turnable      the monic polynomial with the n low coefficients at the front of a can divide the one with the k coefficients at the front of b
+--   Turnable      the monic polynomial with the n low coefficients at the front of a can divide the one with the k
+--                 coefficients at the front of b
 --   Reducing      the remainder of the first k coefficients of b by monic p can be left at the front of b
 --   LeftIn        so it is left
---   EuclidTurned  one division is done: the monic divisor stands in a with its 1, and the remainder, made monic, at the front of b
+--   EuclidTurned  one division is done: the monic divisor stands in a with its 1, and the remainder, made monic, at
+--                 the front of b
 --   GcdIs         the first g coefficients of a are the monic greatest common divisor's
 --   Cofactorable  monic p can be divided by monic g
 -- Assumes nothing.

@@ -1,4 +1,5 @@
-// Euclid's loop: the monic greatest common divisor of a monic polynomial and another. The two slices change roles at each division, so that nothing is copied.
+// Euclid's loop: the monic greatest common divisor of a monic polynomial and another. The two slices change roles at
+// each division, so that nothing is copied.
 ghost use mathlib.Core.Path.{_≡_};
 ghost use Rattle.algebra.specs.Routines.{cofactor};
 ghost use Rattle.field.specs.Field.{G};
@@ -7,7 +8,8 @@ use poly::division::divide;
 use poly::monic::make_monic;
 use poly::rows::log_row;
 
-// Leaves the remainder of the first k coefficients of b by the monic polynomial with the low coefficients p at the front of b.
+// Leaves the remainder of the first k coefficients of b by the monic polynomial with the low coefficients p at the
+// front of b.
 fn leave_remainder(
     m: u16,
     logs: &[u16],
@@ -48,7 +50,8 @@ fn euclid_turn(
     make_monic(m, logs, antilogs, &mut b[..n])
 }
 
-// The monic greatest common divisor of the monic polynomial with the n low coefficients at the front of a, and the one with the k coefficients at the
+// The monic greatest common divisor of the monic polynomial with the n low coefficients at the front of a, and the one
+// with the k coefficients at the
 // front of b. Its low coefficients come to the front of a, and their number is returned.
 pub fn gcd(
     m: u16,
@@ -81,7 +84,8 @@ pub fn gcd(
     }
 }
 
-// Writes what is left of the monic polynomial with the low coefficients p where the monic one with the low coefficients g, which divides it, is taken out.
+// Writes what is left of the monic polynomial with the low coefficients p where the monic one with the low
+// coefficients g, which divides it, is taken out.
 pub fn cofactor(
     m: u16,
     logs: &[u16],

@@ -2,7 +2,8 @@
 --   square-zero                                                    0 is its own square
 --   square-even, square-odd                                        the places of a square
 --   Spreading, spread-from, spread-on, spread-end                  the squares of the first i coefficients are written
---   square-room, square-asks, square-is, square-again              what the routines ask, and what the front of the division is
+--   square-room, square-asks, square-is, square-again              what the routines ask, and what the front of the
+--                                                                  division is
 --   Powering, power-from, power-on, power-end                      i squarings are done
 --   Summing, sum-from, sum-on, sum-end                             the first i elements are added
 --   Tracing, trace-from, trace-asks, trace-on, trace-end           i terms of the trace sum are added

@@ -1,4 +1,5 @@
--- What a trace sum of rows means: at a root r of p, where the rows hold the powers w, w^2, w^4, .. modulo p, it is the trace of b w(r).
+-- What a trace sum of rows means: at a root r of p, where the rows hold the powers w, w^2, w^4, .. modulo p, it is the
+-- trace of b w(r).
 --   traceSum-below   its coefficients are elements
 --   powerRows-long   how long the rows are;  powerRows-row  they are logs
 --   TRACE-VALUE      the law

@@ -4,7 +4,8 @@
 --   Startable   a row, a remainder and its square have their room beside p
 -- Tr(bz) = bz + b^2 z^2 + b^4 z^4 + .. needs the powers of z once, whatever b is:
 --   powerRows   the rows of w, w^2, w^4, .. , k of them, modulo monic p, one behind the other
---   traceSum    b w0 + b^2 w1 + b^4 w2 + .. , k terms, where the rows of n places each, one behind the other, hold w0, w1, w2, ..
+--   traceSum    b w0 + b^2 w1 + b^4 w2 + .. , k terms, where the rows of n places each, one behind the other, hold w0,
+--               w1, w2, ..
 --   Savable     w can be squared k times, and the row of each power written
 --   Saved       so it is: w is the last power, and the front of rows holds the others
 --   Summable    such a sum can be added to t
@@ -48,7 +49,8 @@ powerRows m p (suc k) w = logRow m w ++ powerRows m p k (rem (G m) p (square (G 
 
 unfoldable pub traceSum : ℕ → ℕ → ℕ → ℕ → List ℕ → List ℕ
 traceSum m n zero b rows = []
-traceSum m n (suc k) b rows = add (G m) (map (G m .mul b) (held m (take n rows))) (traceSum m n k (G m .mul b b) (drop n rows))
+traceSum m n (suc k) b rows =
+    add (G m) (map (G m .mul b) (held m (take n rows))) (traceSum m n k (G m .mul b b) (drop n rows))
 
 -- with room for k rows
 pub record Savable (m : ℕ) (ls ts row : List ℕ) (k : ℕ) (w s rows : List ℕ) : Type 0 where

@@ -1,4 +1,5 @@
-// Squares modulo a monic polynomial, and what is made of them: z^(2^k), and the sum Tr(bz), which needs the powers of z once for all b.
+// Squares modulo a monic polynomial, and what is made of them: z^(2^k), and the sum Tr(bz), which needs the powers of
+// z once for all b.
 ghost use mathlib.Core.Path.{_≡_};
 ghost use Prim.Native.Nat.{_*_, _≤_, _<_, _^_};
 ghost use mathlib.Core.List.{[], _∷_};
@@ -94,7 +95,8 @@ fn add_to(m: u16, w: &[u16], sum: &mut [u16])
     }
 }
 
-// Writes the trace sum w + w^2 + w^4 + .. , m terms, modulo the polynomial that the row holds to sum. What stands in w and s is used up.
+// Writes the trace sum w + w^2 + w^4 + .. , m terms, modulo the polynomial that the row holds to sum. What stands in w
+// and s is used up.
 pub fn trace_mod(
     m: u16,
     logs: &[u16],
@@ -129,14 +131,16 @@ pub fn z_power(
     s: &mut [u16],
 )
     requires { ⌜ Startable m (now logs) (now antilogs) (now p) (now row) (now w) (now s) ⌝ }
-    ensures { λ _. ⌜ now (w .exit) ≡ frobeniusMod (G m) (now (p .entry)) k (rem (G m) (now (p .entry)) (0 ∷ 1 ∷ [])) ⌝ }
+    ensures { λ _. ⌜ now (w .exit)
+        ≡ frobeniusMod (G m) (now (p .entry)) k (rem (G m) (now (p .entry)) (0 ∷ 1 ∷ [])) ⌝ }
 {
     log_row(m, logs, antilogs, p, row);
     linear_mod(m, logs, antilogs, row, 1, w);
     power_mod(m, logs, antilogs, row, k, w, s);
 }
 
-// Writes Tr(bz) modulo the monic polynomial with the low coefficients p to sum. What stands in row, w and s is used up.
+// Writes Tr(bz) modulo the monic polynomial with the low coefficients p to sum. What stands in row, w and s is used
+// up.
 pub fn trace_of(
     m: u16,
     logs: &[u16],
@@ -158,7 +162,8 @@ pub fn trace_of(
     trace_mod(m, logs, antilogs, row, w, s, sum);
 }
 
-// Squares w k times as `power_mod` does, and writes the row of each power before the last to rows, one behind the other.
+// Squares w k times as `power_mod` does, and writes the row of each power before the last to rows, one behind the
+// other.
 pub fn power_rows(
     m: u16,
     logs: &[u16],
@@ -184,7 +189,8 @@ pub fn power_rows(
     }
 }
 
-// Writes z^(2^k) modulo the monic polynomial with the low coefficients p to w, and the rows of z, z^2, z^4, .. before it to rows.
+// Writes z^(2^k) modulo the monic polynomial with the low coefficients p to w, and the rows of z, z^2, z^4, .. before
+// it to rows.
 pub fn z_powers(
     m: u16,
     logs: &[u16],

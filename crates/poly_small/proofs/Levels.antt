@@ -1,6 +1,7 @@
 -- The search for a level that parts a cubic.
 --   SeekingLevel                 what holds at each turn: no earlier level parts it
---   seek-level-from, seek-level-asks, seek-level-found, seek-level-on   the start, what a turn asks, its end and its going on
+--   seek-level-from, seek-level-asks, seek-level-found, seek-level-on   the start, what a turn asks, its end and its
+--   going on
 --   seek-level-never              past the last level there is nothing to find
 -- Assumes nothing.
 use mathlib.Core.Path.{_≡_, refl, sym, ap, _∙_, subst}

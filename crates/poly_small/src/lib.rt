@@ -1,5 +1,7 @@
-// The roots of polynomials of degree at most 3 over a known field, without trying the elements. A quadratic is solved by the half-table; of a cubic
-// the part that splits is taken, and parted by traces into degrees 1 and 2. No polynomial need split, and roots may repeat: each is listed once.
+// The roots of polynomials of degree at most 3 over a known field, without trying the elements. A quadratic is solved
+// by the half-table; of a cubic
+// the part that splits is taken, and parted by traces into degrees 1 and 2. No polynomial need split, and roots may
+// repeat: each is listed once.
 ghost use Rattle.poly_small.specs.Roots.{SmallSolvable, RootsOut};
 use crate::low::low_roots;
 use crate::parting::cubic_roots;
@@ -7,7 +9,8 @@ use crate::parting::cubic_roots;
 pub mod low; // degrees 0 to 2
 pub mod parting; // degree 3
 
-// Writes the roots of the monic polynomial with the low coefficients p, at most 3 of them, to the front of out, each once. Returns how many there are.
+// Writes the roots of the monic polynomial with the low coefficients p, at most 3 of them, to the front of out, each
+// once. Returns how many there are.
 pub fn small_roots(
     m: u16,
     logs: &[u16],

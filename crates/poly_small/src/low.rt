@@ -27,7 +27,8 @@ fn quadratic_roots(m: u16, halves: &[u16], a: u16, b: u16, out: &mut [u16]) -> u
     }
 }
 
-// Writes the roots of the monic polynomial with the low coefficients p, at most 2 of them, to the front of out. Returns how many there are.
+// Writes the roots of the monic polynomial with the low coefficients p, at most 2 of them, to the front of out.
+// Returns how many there are.
 pub fn low_roots(m: u16, halves: &[u16], p: &[u16], out: &mut [u16]) -> usize
     requires { ⌜ Lowly m (now halves) (now p) (now out) ⌝ }
     ensures { λ k. ⌜ Front (rootsAt m (monic (G m) (now (p .entry)))) k (now (out .exit)) ⌝ }

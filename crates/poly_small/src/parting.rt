@@ -1,4 +1,5 @@
-// Degree 3: the part of a cubic that splits, and its parting by the traces Tr(2^i z), i = 0, 1, .. , into degrees 1 and 2.
+// Degree 3: the part of a cubic that splits, and its parting by the traces Tr(2^i z), i = 0, 1, .. , into degrees 1
+// and 2.
 ghost use Prim.Native.Nat.{_<_, _^_};
 ghost use lib.ListN.{length};
 ghost use Rattle.algebra.specs.Polynomial.{fieldPoly, traceOf};
@@ -11,7 +12,8 @@ use poly_gcd::gcd;
 use poly_powers::trace_of;
 use poly_powers::z_power;
 
-// Writes the part of the monic cubic with the low coefficients p that splits, its gcd with z^(2^m) + z, to the front of g. Returns its degree.
+// Writes the part of the monic cubic with the low coefficients p that splits, its gcd with z^(2^m) + z, to the front
+// of g. Returns its degree.
 fn cubic_split_part(m: u16, logs: &[u16], antilogs: &[u16], p: &[u16], g: &mut [u16]) -> usize
     requires { ⌜ Cubic m (now logs) (now antilogs) (now p) (now g) ⌝ }
     ensures { λ n. ⌜ GcdOf m (now (p .entry)) (fieldPoly (G m) m) n (now (g .exit)) ⌝ }
@@ -39,7 +41,8 @@ fn part_at(m: u16, logs: &[u16], antilogs: &[u16], p: &[u16], b: u16, g: &mut [u
     gcd(m, logs, antilogs, &mut row, g, 3, &mut sum, 3)
 }
 
-// Writes the gcd with Tr(2^i z) at the first level i that parts the monic cubic with the low coefficients p to the front of g. Returns its degree, 1 or 2.
+// Writes the gcd with Tr(2^i z) at the first level i that parts the monic cubic with the low coefficients p to the
+// front of g. Returns its degree, 1 or 2.
 fn part_of(m: u16, logs: &[u16], antilogs: &[u16], p: &[u16], g: &mut [u16]) -> usize
     requires { ⌜ CubicPartable m (now logs) (now antilogs) (now p) (now g) ⌝ }
     ensures { λ n. ⌜ CubicParted m (now (p .entry)) n (now (g .exit)) ⌝ }
@@ -60,7 +63,8 @@ fn part_of(m: u16, logs: &[u16], antilogs: &[u16], p: &[u16], g: &mut [u16]) -> 
     0
 }
 
-// Writes the roots of the monic cubic with the low coefficients p to the front of out, those of its part g and of what is left without it. Returns their number.
+// Writes the roots of the monic cubic with the low coefficients p to the front of out, those of its part g and of what
+// is left without it. Returns their number.
 fn roots_of_parts(
     m: u16,
     logs: &[u16],
@@ -101,7 +105,8 @@ fn split_roots(
     roots_of_parts(m, logs, antilogs, halves, p, &g[..n], out)
 }
 
-// Writes the roots of the monic cubic with the low coefficients p to the front of out, each once. Returns how many there are.
+// Writes the roots of the monic cubic with the low coefficients p to the front of out, each once. Returns how many
+// there are.
 pub fn cubic_roots(
     m: u16,
     logs: &[u16],

@@ -1,4 +1,5 @@
--- The levels of a list of steps obey the laws of levels; columns, each z times the one before, bring a polynomial into their basis.
+-- The levels of a list of steps obey the laws of levels; columns, each z times the one before, bring a polynomial into
+-- their basis.
 --   vanishing-additive, vanishing-vanishes   the vanishing map respects sums, and is 0 at every step
 --   levels-hold     the levels obey the laws of levels
 --   raisedIn-value    z times what stands in the basis

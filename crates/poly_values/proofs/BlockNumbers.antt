@@ -141,7 +141,8 @@ module _ {G : Ops ℕ} {q : ℕ} (N : OnNumbers G q) where
   Goal c B f z columns =
       transform G (mults G (levels G B) c) (cosetOf G B (mixOf G f (((G .one ∷ z) ∷ []) ∷ columns)) c) ≡ map (eval G f) (points G (levels G B) c)
 
-  -- ---- THE LAW over numbers, for any number of coefficients: B the steps, zeros and columns the columns (the first is 1 and the zeros), c the coset
+  -- ---- THE LAW over numbers, for any number of coefficients: B the steps, zeros and columns the columns (the first
+  -- is 1 and the zeros), c the coset
   pub values-blocks : (B : List (Step ℕ)) → All (StepBelow q) B → RightSteps G B → (f : List ℕ) → Below q f → (z : List ℕ) → All (λ c. c ≡ G .zero) z
       → (columns : List (List (List ℕ))) → All (All (Below q)) columns → ColumnsOf G B ((G .one ∷ z) ∷ []) columns
       → Shaped (2 ^ length B) (mixOf G f (((G .one ∷ z) ∷ []) ∷ columns)) → length f ≤ suc (length columns) → (c : ℕ) → c < q

@@ -1,6 +1,7 @@
 -- What `run` does with its two halves.
 --   HalfCount, half-count   what is known of the half of n = 2^k
---   halves-back             what stands when both halves are back;  halves-back-plain  the same with no butterflies before
+--   halves-back             what stands when both halves are back;  halves-back-plain  the same with no butterflies
+--                           before
 -- Assumes nothing.
 use mathlib.Core.Path.{_≡_, refl, sym, ap, ap₂, _∙_}
 use mathlib.Core.List.{List, _++_}

@@ -1,4 +1,5 @@
--- The levels that start a transform from coefficients: those with nothing but one coefficient above the half cost two vectors.
+-- The levels that start a transform from coefficients: those with nothing but one coefficient above the half cost two
+-- vectors.
 --   start-leaf   one coefficient
 --   start-low    nothing but one coefficient above the half
 --   start-full   the first butterflies, then the transforms of the halves

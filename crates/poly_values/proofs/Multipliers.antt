@@ -31,7 +31,8 @@ use Rattle.poly_values.proofs.Scalars.{words-next}
 
 -- ---- tests
 
--- the lanes l, l + 1, .. of v, n of them, hold the values at off + l of the additive map with the values vs at 1, 2, 4, ..
+-- the lanes l, l + 1, .. of v, n of them, hold the values at off + l of the additive map with the values vs at 1, 2,
+-- 4, ..
 unfoldable pub laneTest : List ℕ → ℕ → ℕ → ℕ → List ℕ → Bool
 unfolding linearMap lane
 laneTest vs off l zero v = true

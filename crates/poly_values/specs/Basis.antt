@@ -1,14 +1,17 @@
 -- The basis of the transform, and how a polynomial comes into it.
---   Step        a step of the space, the value of the vanishing map of the steps behind it there, and the inverse of that value
+--   Step        a step of the space, the value of the vanishing map of the steps behind it there, and the inverse of
+--               that value
 --   vanishing   the product of z + u over the sums u of the steps: an additive map
 --   RightSteps  what a list of steps says of itself is so
 --   levels      the levels of a list of steps
---   raisedIn    z times what stands in the basis: what stays in it, and the multiple of the vanishing map that falls out
+--   raisedIn    z times what stands in the basis: what stays in it, and the multiple of the vanishing map that falls
+--               out
 --   whole       the value at z of coefficients in the basis, with one more behind them: that of the vanishing map
 --   Columns     each list stands for z times what the one before it stands for
 --   mix         the sum of the columns, each times its coefficient of f
 --   onCoset     coefficients and the one more, brought together for the coset of c
--- Nobody has to believe this file: it serves the inner contracts of this crate. What others cite is `Values` in Tables.
+-- Nobody has to believe this file: it serves the inner contracts of this crate. What others cite is `Values` in
+-- Tables.
 -- Assumes nothing.
 use mathlib.Core.Path.{_≡_}
 use mathlib.Core.List.{List, [], _∷_, _++_, map}
@@ -41,7 +44,8 @@ module _ {K : Type 0} (F : Ops K) where
 
   -- with V the vanishing map of the steps behind s: V part = V^2 back, and V^2 = (the vanishing map with s) + V unit
   abbrev pub joinRaised : Step K → (List K × K) → (List K × K) → List K × K
-  joinRaised s lo hi = (lo .0 ++ add F (hi .0) (F .mul (F .add (lo .1) (hi .1)) (s .unit) ∷ []), F .mul (hi .1) (s .back))
+  joinRaised s lo hi =
+      (lo .0 ++ add F (hi .0) (F .mul (F .add (lo .1) (hi .1)) (s .unit) ∷ []), F .mul (hi .1) (s .back))
 
   unfoldable pub raisedIn : List (Step K) → List K → List K × K
   unfolding add
@@ -50,7 +54,8 @@ module _ {K : Type 0} (F : Ops K) where
 
   -- one more coefficient behind the 2^k of the basis
   unfoldable pub whole : List (Step K) → List K → K → K
-  whole S a z = F .add (value F (levels S) (take (2 ^ length S) a) z) (F .mul (getD a (2 ^ length S) (F .zero)) (vanishing S z))
+  whole S a z =
+      F .add (value F (levels S) (take (2 ^ length S) a) z) (F .mul (getD a (2 ^ length S) (F .zero)) (vanishing S z))
 
   -- z times a column whose one more is 0
   unfoldable pub nextColumn : List (Step K) → List K → List K

@@ -1,11 +1,15 @@
--- Any number of coefficients: blocks of 2^k coefficients in the basis, each block times one more power of the vanishing map.
--- (The code of field 11 has one block and one coefficient more, `whole` of Basis; this is what more coefficients want.)
+-- Any number of coefficients: blocks of 2^k coefficients in the basis, each block times one more power of the
+-- vanishing map.
+-- (The code of field 11 has one block and one coefficient more, `whole` of Basis; this is what more coefficients
+-- want.)
 --   wholeOf    the value at z of blocks
 --   nextOf     z times blocks, with a carry into the first
 --   ColumnsOf  each list of blocks stands for z times what the one before it stands for
 --   mixOf      the sum of the columns, each times its coefficient of f
---   cosetOf    the blocks brought together for the coset of c, by Horner's rule in the value of the vanishing map there
--- Nobody has to believe this file: it serves the inner contracts of this crate. What others cite is `Values` in Tables.
+--   cosetOf    the blocks brought together for the coset of c, by Horner's rule in the value of the vanishing map
+--              there
+-- Nobody has to believe this file: it serves the inner contracts of this crate. What others cite is `Values` in
+-- Tables.
 -- Assumes nothing.
 use mathlib.Core.Path.{_≡_}
 use mathlib.Core.List.{List, [], _∷_, map}

@@ -1,18 +1,22 @@
--- Elements of a field as bit planes: word i of a vector holds digit i of 64 elements at once, one in each lane. A row is vectors one behind the other.
+-- Elements of a field as bit planes: word i of a vector holds digit i of 64 elements at once, one in each lane. A row
+-- is vectors one behind the other.
 --   binaryDigit            the binary digit l of a word;  lane  the element in lane l;  lanes  several lanes as a list
 --   sum              the sum in every lane;  doubled  twice the element in every lane
---   carryFreeWords, folded     the words of the carry-free product, and the words at the top taken back by the field's polynomial
+--   carryFreeWords, folded     the words of the carry-free product, and the words at the top taken back by the field's
+--                              polynomial
 --   laneProduct          the product in every lane
 --   occupied         the word of the lanes that are not 0
 --   sumWords, pairWords, doubledWords, spreadWords, wordsAt   the same word by word, as the code writes them
 --   butterflyAt, butterfliesAt, transformAt, halvesAt   what the code leaves in a row
---   planeOps         planes as values that are added and multiplied;  fieldBy  the field whose polynomial has the digits q below its top
+--   planeOps         planes as values that are added and multiplied;  fieldBy  the field whose polynomial has the
+--                    digits q below its top
 --   flat, treeOf     vectors in a row; the multipliers that a row holds
 --   laneRow            one lane of a row;  columnsOf  vectors in a row as lists of lanes
 --   mixAt            one lane of the sum of vectors, each times its coefficient
 --   Multiple, FourMultiples, Spread, Mixed, First, Firsts, RowStartable, RowStarted   what the routines take and leave
 --   taps11           the polynomial of field 11 below its top
--- Nobody has to believe this file: it serves the inner contracts of this crate. What others cite is `Values` in Tables.
+-- Nobody has to believe this file: it serves the inner contracts of this crate. What others cite is `Values` in
+-- Tables.
 -- Assumes nothing.
 use mathlib.Core.Bool.{true}
 use mathlib.Core.List.{List, [], _∷_, _++_, map}
@@ -55,7 +59,8 @@ taps t [] s = []
 taps t (d ∷ q) [] = []
 taps t (d ∷ q) (w ∷ s) = tapped d t w ∷ taps t q s
 
--- each word moves one up; what falls out at the top comes back where the field's polynomial has its digits q below the top
+-- each word moves one up; what falls out at the top comes back where the field's polynomial has its digits q below the
+-- top
 unfoldable pub doubled : List ℕ → List ℕ → List ℕ
 unfolding taps
 doubled q r = taps (getD (0 ∷ r) (length q) 0) q (0 ∷ r)
@@ -108,7 +113,8 @@ wordsAt n l at = tabulate n (λ k. getD l (at + k) 0)
 abbrev pub pairWords : ℕ → ℕ → ℕ → List ℕ → List ℕ
 pairWords n v w b = tabulate n (λ k. bitXor (bitAnd v (getD b (k + 1) 0)) (bitAnd w (getD b k 0)))
 
--- the butterfly of the vectors at 0 and at up, each of as many words as q has digits: (a, b) becomes (a + e b, a + e b + b)
+-- the butterfly of the vectors at 0 and at up, each of as many words as q has digits: (a, b) becomes (a + e b, a + e b
+-- + b)
 abbrev pub butterflySum : List ℕ → List ℕ → ℕ → List ℕ → List ℕ
 butterflySum q e up p = sumWords (length q) (wordsAt (length q) p 0) (laneProduct q e (wordsAt (length q) p up))
 
@@ -121,9 +127,11 @@ unfoldable pub butterfliesAt : List ℕ → List ℕ → ℕ → ℕ → List �
 unfolding butterflyAt
 butterfliesAt q e up zero p = p
 butterfliesAt q e up (suc n) p =
-    take (n * length q) (butterfliesAt q e up n p) ++ butterflyAt q e up (drop (n * length q) (butterfliesAt q e up n p))
+    take (n * length q) (butterfliesAt q e up n p)
+    ++ butterflyAt q e up (drop (n * length q) (butterfliesAt q e up n p))
 
--- the transform of 2^k vectors in a row: the multiplier stands first in g, then those of the lower half, then those of the upper half
+-- the transform of 2^k vectors in a row: the multiplier stands first in g, then those of the lower half, then those of
+-- the upper half
 unfoldable pub transformAt : List ℕ → ℕ → List ℕ → List ℕ → List ℕ
 unfolding butterfliesAt
 transformAt q zero g p = p
@@ -148,7 +156,8 @@ flat (v ∷ vs) = v ++ flat vs
 -- the multipliers that a row of vectors holds
 unfoldable pub treeOf : List ℕ → ℕ → List ℕ → Mults (List ℕ)
 treeOf q zero g = leaf
-treeOf q (suc k) g = node (wordsAt (length q) g 0) (treeOf q k (drop (length q) g)) (treeOf q k (drop (2 ^ k * length q) g))
+treeOf q (suc k) g =
+    node (wordsAt (length q) g 0) (treeOf q k (drop (length q) g)) (treeOf q k (drop (2 ^ k * length q) g))
 
 -- n lanes of a vector, from l on
 unfoldable pub lanes : ℕ → ℕ → List ℕ → List ℕ
@@ -214,27 +223,33 @@ pub record RowStartable (q : List ℕ) (k n : ℕ) (g a p : List ℕ) : Type 0 w
 pub record RowStarted (q : List ℕ) (k : ℕ) (g x a p p′ : List ℕ) : Type 0 where
   pub long : length p′ ≡ length p
   pub rows : (l : ℕ) → l < 64
-      → laneRow (length q) l (2 ^ k) p′ ≡ transform (numbers (fieldBy q)) (mapMults (lane l) (treeOf q k g)) (lane l x ∷ drop 1 a)
+      → laneRow (length q) l (2 ^ k) p′
+      ≡ transform (numbers (fieldBy q)) (mapMults (lane l) (treeOf q k g)) (lane l x ∷ drop 1 a)
 
 -- one butterfly of two coefficients
 pub record First (q e : List ℕ) (x y i j : ℕ) (p p′ : List ℕ) : Type 0 where
   pub long : length p′ ≡ length p
   pub low : (l : ℕ) → l < 64 → lane l (wordsAt (length q) p′ (i * length q)) ≡ bitXor x (mul (fieldBy q) (lane l e) y)
-  pub up : (l : ℕ) → l < 64 → lane l (wordsAt (length q) p′ (j * length q)) ≡ bitXor (lane l (wordsAt (length q) p′ (i * length q))) y
-  pub others : (k : ℕ) → (k ≡ i → ⊥) → (k ≡ j → ⊥) → wordsAt (length q) p′ (k * length q) ≡ wordsAt (length q) p (k * length q)
+  pub up : (l : ℕ) → l < 64 → lane l (wordsAt (length q) p′ (j * length q))
+      ≡ bitXor (lane l (wordsAt (length q) p′ (i * length q))) y
+  pub others : (k : ℕ) → (k ≡ i → ⊥) → (k ≡ j → ⊥) → wordsAt (length q) p′ (k * length q)
+      ≡ wordsAt (length q) p (k * length q)
 
 -- the transforms of two halves of h vectors
 abbrev pub halvesAt : List ℕ → ℕ → ℕ → List ℕ → List ℕ → List ℕ
 halvesAt q k h g p =
-    transformAt q k (drop (length q) g) (take (h * length q) p) ++ transformAt q k (drop (h * length q) g) (drop (h * length q) p)
+    transformAt q k (drop (length q) g) (take (h * length q) p)
+    ++ transformAt q k (drop (h * length q) g) (drop (h * length q) p)
 
 -- the first w butterflies of coefficients but for the very first, those that stand h apart, with the multiplier e
 pub record Firsts (q e a : List ℕ) (h w : ℕ) (p p′ : List ℕ) : Type 0 where
   pub long : length p′ ≡ length p
   pub lows : (i : ℕ) → 0 < i → i < w → (l : ℕ) → l < 64
-      → lane l (wordsAt (length q) p′ (i * length q)) ≡ bitXor (getD a i 0) (mul (fieldBy q) (lane l e) (getD a (h + i) 0))
+      → lane l (wordsAt (length q) p′ (i * length q))
+      ≡ bitXor (getD a i 0) (mul (fieldBy q) (lane l e) (getD a (h + i) 0))
   pub ups : (i : ℕ) → 0 < i → i < w → (l : ℕ) → l < 64
-      → lane l (wordsAt (length q) p′ ((h + i) * length q)) ≡ bitXor (lane l (wordsAt (length q) p′ (i * length q))) (getD a (h + i) 0)
+      → lane l (wordsAt (length q) p′ ((h + i) * length q))
+      ≡ bitXor (lane l (wordsAt (length q) p′ (i * length q))) (getD a (h + i) 0)
 
 -- the polynomial of field 11 below its top: x^2 + 1
 abbrev pub taps11 : List ℕ

@@ -1,10 +1,12 @@
 -- What the constant tables of the transform hold.
---   steps11       the steps of the transform in field 11, the highest first: the elements whose digits are the number of the word
+--   steps11       the steps of the transform in field 11, the highest first: the elements whose digits are the number
+--                 of the word
 --   TreeTable     the multipliers: in lane l those of the coset of l
 --   TopTable      the vanishing map of the steps, in each lane
 --   ColumnTable   the powers of z in the basis: the first n + 1 of them, each with nothing above its own place
 --   Values        n words of 64 lanes hold the values of f: lane l of word w that at 64 w + l
--- `Values` is what the plain search cites, over `eval` of algebra; the rest serves the inner contracts of this crate. Nobody has to believe either: the
+-- `Values` is what the plain search cites, over `eval` of algebra; the rest serves the inner contracts of this crate.
+-- Nobody has to believe either: the
 -- search's own contract says nothing of them.
 -- Assumes nothing.
 use mathlib.Core.Path.{_≡_}
@@ -27,7 +29,8 @@ steps11 =
     ∷ []
 
 pub record TreeTable (q : List ℕ) (B : List (Step ℕ)) (g : List ℕ) : Type 0 where
-  pub multipliers : (l : ℕ) → l < 64 → mapMults (lane l) (treeOf q (length B) g) ≡ mults (numbers (fieldBy q)) (levels (numbers (fieldBy q)) B) l
+  pub multipliers : (l : ℕ) → l < 64 → mapMults (lane l) (treeOf q (length B) g)
+      ≡ mults (numbers (fieldBy q)) (levels (numbers (fieldBy q)) B) l
 
 pub record TopTable (q : List ℕ) (B : List (Step ℕ)) (v : List ℕ) : Type 0 where
   pub lanes : (l : ℕ) → l < 64 → lane l v ≡ vanishing (numbers (fieldBy q)) B l
@@ -35,8 +38,10 @@ pub record TopTable (q : List ℕ) (B : List (Step ℕ)) (v : List ℕ) : Type 0
 pub record ColumnTable (q : List ℕ) (B : List (Step ℕ)) (n : ℕ) (g : List ℕ) : Type 0 where
   pub long : length g ≡ suc n * length q
   pub first : lanes 0 (suc (2 ^ length B)) (wordsAt (length q) g 0) ≡ 1 ∷ replicate (2 ^ length B) 0
-  pub others : Columns (numbers (fieldBy q)) B (1 ∷ replicate (2 ^ length B) 0) (columnsOf (length q) (suc (2 ^ length B)) n (drop (length q) g))
+  pub others : Columns (numbers (fieldBy q)) B (1 ∷ replicate (2 ^ length B) 0)
+      (columnsOf (length q) (suc (2 ^ length B)) n (drop (length q) g))
   pub above : (j l : ℕ) → j < l → l ≤ n → lane l (wordsAt (length q) g (j * length q)) ≡ 0
 
 pub record Values (q f p : List ℕ) (n : ℕ) : Type 0 where
-  pub lanes : (w : ℕ) → w < n → (l : ℕ) → l < 64 → lane l (wordsAt (length q) p (w * length q)) ≡ eval (numbers (fieldBy q)) f (w * 64 + l)
+  pub lanes : (w : ℕ) → w < n → (l : ℕ) → l < 64 → lane l (wordsAt (length q) p (w * length q))
+      ≡ eval (numbers (fieldBy q)) f (w * 64 + l)

@@ -1,11 +1,13 @@
--- The additive Fourier transform (Lin, Chung, Han 2014): the values of a polynomial at every element of a coset of an F2-space.
+-- The additive Fourier transform (Lin, Chung, Han 2014): the values of a polynomial at every element of a coset of an
+-- F2-space.
 --   Level      one more direction of the space: a step, and an additive map that is 1 at it and 0 at every step below
 --   points     the elements c + (sum of some of the steps), in order
 --   value      what a list of coefficients in the basis of the levels says at x
 --   Mults      the multipliers of the butterflies, as a tree
 --   transform  the butterflies: values out of coefficients
 --   mults      the multipliers that belong to the coset of c
--- Nobody has to believe this file: it serves the inner contracts of this crate. What others cite is `Values` in Tables.
+-- Nobody has to believe this file: it serves the inner contracts of this crate. What others cite is `Values` in
+-- Tables.
 -- Assumes nothing.
 use mathlib.Core.Path.{_≡_}
 use mathlib.Core.List.{List, [], _∷_, _++_, map}

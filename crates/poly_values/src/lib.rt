@@ -1,14 +1,21 @@
 // The values of a polynomial at every element of field 11: an additive Fourier transform on bit planes.
 //
-// After Cantor (On arithmetical algorithms over finite fields, 1989), who takes the values over a space of sums of steps; Gao and Mateer (Additive
-// fast Fourier transforms over finite fields, 2010); and Lin, Chung and Han (Novel polynomial basis and its application to Reed-Solomon erasure
+// After Cantor (On arithmetical algorithms over finite fields, 1989), who takes the values over a space of sums of
+// steps; Gao and Mateer (Additive
+// fast Fourier transforms over finite fields, 2010); and Lin, Chung and Han (Novel polynomial basis and its
+// application to Reed-Solomon erasure
 // codes, 2014), whose basis this is.
 //
-// A vector of 11 words holds an element in each of 64 lanes: word i holds digit i of all of them. Element 64 w + l stands in lane l of
-// vector w, so the steps of the transform are 64, 128, .. , 1024, and each lane is a coset of the space that they span. With V_k the
-// product of z + u over the sums u of the k lowest steps, and p_k = V_k / V_k(next step), the basis is the products of some p_k. The value
-// of (lower half) + p_k (upper half) at both halves of a coset is a butterfly: (a, b) becomes (a + e b, a + e b + b), e the value of p_k there.
-//   mixed       the coefficients in the basis: the sum of the powers of z in the basis (a table), each times its coefficient
+// A vector of 11 words holds an element in each of 64 lanes: word i holds digit i of all of them. Element 64 w + l
+// stands in lane l of
+// vector w, so the steps of the transform are 64, 128, .. , 1024, and each lane is a coset of the space that they
+// span. With V_k the
+// product of z + u over the sums u of the k lowest steps, and p_k = V_k / V_k(next step), the basis is the products of
+// some p_k. The value
+// of (lower half) + p_k (upper half) at both halves of a coset is a butterfly: (a, b) becomes (a + e b, a + e b + b),
+// e the value of p_k there.
+//   mixed       the coefficients in the basis: the sum of the powers of z in the basis (a table), each times its
+//               coefficient
 //   start       the levels while the coefficients are still the same in every lane, and nothing for those that are 0
 //   run         the other levels, each butterfly a product of two vectors
 ghost use mathlib.Core.Path.{_≡_};
@@ -94,7 +101,8 @@ fn between_zeros(b: [u64; 11]) -> [u64; 13]
     ]
 }
 
-// The words of the carry-free product with the vector at the front of e, into 22 words that are 0: the row of the last digit, then two rows
+// The words of the carry-free product with the vector at the front of e, into 22 words that are 0: the row of the last
+// digit, then two rows
 // at a time, so that every store starts at an even place and the next turn's loads find it whole.
 fn add_rows(t: &mut [u64], e: &[u64], b: [u64; 11])
     requires { do ⌜ (now t ≡ replicate 22 0) × (11 ≤ (← ⟦e.len()⟧)) ⌝ }
@@ -109,7 +117,8 @@ fn add_rows(t: &mut [u64], e: &[u64], b: [u64; 11])
     }
 }
 
-// The upper 11 of 22 words taken back by the field's polynomial, the highest first. What they hold then has no meaning.
+// The upper 11 of 22 words taken back by the field's polynomial, the highest first. What they hold then has no
+// meaning.
 fn fold(t: &mut [u64])
     requires { do ⌜ (← ⟦t.len()⟧) ≡ 22 ⌝ }
     ensures { λ _. ⌜ take 11 (now (t .exit)) ≡ folded taps11 11 (now (t .entry)) ⌝ }
@@ -262,7 +271,8 @@ fn four_multiples(b: [u64; 11]) -> [u64; 44]
     t
 }
 
-// c times the element in every lane, two digits of c at a time by a table: no branch, for multipliers that no branch foretells.
+// c times the element in every lane, two digits of c at a time by a table: no branch, for multipliers that no branch
+// foretells.
 fn multiple_by_table(c: u16, b: [u64; 11]) -> [u64; 11]
     requires { ⌜ c < 2048 ⌝ }
     ensures { λ r. ⌜ Multiple taps11 c b r ⌝ }
@@ -391,7 +401,8 @@ fn run_halves(g: &[u64], p: &mut [u64], k: usize, h: usize)
     fourier(&g[mid..], &mut p[mid..], k, h);
 }
 
-// The transform of 2 h coefficients, x in the place of the first: their butterflies, then the transforms of the halves.
+// The transform of 2 h coefficients, x in the place of the first: their butterflies, then the transforms of the
+// halves.
 fn full(g: &[u64], x: [u64; 11], a: &[u16], p: &mut [u64], k: usize, h: usize)
     requires { ⌜ (h ≡ 2 ^ k) × RowStartable taps11 (k + 1) (h + h) (now g) (now a) (now p) ⌝ }
     ensures { λ _. ⌜ RowStarted taps11 (k + 1) (now (g .entry)) x (now (a .entry)) (now (p .entry)) (now (p .exit)) ⌝ }
@@ -408,7 +419,8 @@ fn full(g: &[u64], x: [u64; 11], a: &[u16], p: &mut [u64], k: usize, h: usize)
     run_halves(g, p, k, h);
 }
 
-// The transform of n = 2^k coefficients, x in the place of the first. Where nothing but one coefficient stands above the half,
+// The transform of n = 2^k coefficients, x in the place of the first. Where nothing but one coefficient stands above
+// the half,
 // it only changes the first coefficient of each half.
 fn start(g: &[u64], x: [u64; 11], a: &[u16], p: &mut [u64], k: usize, n: usize)
     requires { ⌜ RowStartable taps11 k n (now g) (now a) (now p) ⌝ }
@@ -448,7 +460,8 @@ fn read_lanes(v: [u64; 11], a: &mut [u16])
     }
 }
 
-// The values of f at every element of field 11, on bit planes: 32 vectors of 11 words, lane l of vector w for the element 64 w + l.
+// The values of f at every element of field 11, on bit planes: 32 vectors of 11 words, lane l of vector w for the
+// element 64 w + l.
 pub fn values11(f: &[u16], p: &mut [u64])
     requires { do ⌜ Below 2048 (now f) × (1 ≤ length (now f)) × (length (now f) ≤ 33) × ((← ⟦p.len()⟧) ≡ 352) ⌝ }
     ensures { λ _. ⌜ Values taps11 (now (f .entry)) (now (p .exit)) 32 ⌝ }

@@ -1,6 +1,7 @@
 // The tables of the transform in field 11 (tools/poly_values_tables.py makes them).
 
-// The multipliers of the butterflies: one for the whole row, then those of its lower half, then those of its upper half.
+// The multipliers of the butterflies: one for the whole row, then those of its lower half, then those of its upper
+// half.
 pub const MULTIPLIERS: [u64; 341] = [
     3689348817318890700,
     1148435428713435120,

@@ -1,5 +1,6 @@
 -- Refusals in a fixed order: a refusal is given exactly when its test is the first to hold.
---   holds, fails, passes   how an entry shows which case it met, test by test;  failed, others: what a pass says of each test
+--   holds, fails, passes   how an entry shows which case it met, test by test;  failed, others: what a pass says of
+--                          each test
 --   given-before, given-behind, passed-both   tests behind others: what comes first decides first
 --   refused, accepted   the outcome of each;  unwritten, written: the lent memory of each
 --   exactly             the outcome's number is k exactly when k is given

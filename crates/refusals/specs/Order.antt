@@ -1,9 +1,11 @@
 -- Refusals in a fixed order (docs/RULES.md section 8.1). An entry has a list of tests, each behind its number; the
 -- first that holds refuses under that number.
---   decide   what an entry gives: `refuse k` where k stands beside the first test that holds, `accept` where none holds
+--   decide   what an entry gives: `refuse k` where k stands beside the first test that holds, `accept` where none
+--            holds
 --   outcome  the outcome: a refusal's number and nothing else, or 0 and the values
 --   memory   what lent memory holds afterwards: a refusal writes nothing
---   Answers  THE SHAPE OF A CONTRACT: what an answer tells, and what lent memory holds afterwards, both decided by tests in their order
+--   Answers  THE SHAPE OF A CONTRACT: what an answer tells, and what lent memory holds afterwards, both decided by
+--            tests in their order
 --   Given k  the test beside k holds, and none before it does
 --   Passed   no test holds
 -- Assumes nothing.

@@ -1,6 +1,7 @@
 -- Loops that store from the front: r is r₀ with its first i elements replaced by those of s.
 --   Filling                          what holds at each turn
---   fill-from, fill-on, fill-end     the start, a turn, the end;  fill-stop  the end where s and r₀ agree from there on
+--   fill-from, fill-on, fill-end     the start, a turn, the end;  fill-stop  the end where s and r₀ agree from there
+--                                    on
 --   fill-next                        what stands at i is still r₀'s
 --   map-at                           an element of a mapped list
 --   map-from, map-on                 the start and a turn of a loop that applies a function to each element in place

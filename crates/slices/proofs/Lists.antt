@@ -1,4 +1,5 @@
--- What copying, moving and splicing leave: the list stays as long as it is, and its parts are where they are said to be.
+-- What copying, moving and splicing leave: the list stays as long as it is, and its parts are where they are said to
+-- be.
 --   length-copied, length-pasted,
 --   length-raised, length-spliced   the list is as long as before
 --   copied-front, copied-behind     the front of a copy is what was copied, and the rest is as before

@@ -2,7 +2,8 @@
 --   copied   d with s over its front
 --   pasted   s with w over the elements at `at`
 --   raised   s with what stands from `from` on moved up by `by` places; what no longer fits falls off at the end
---   spliced  s with w in the place of the `old` elements at o; what is behind them moves up, and what no longer fits falls off at the end
+--   spliced  s with w in the place of the `old` elements at o; what is behind them moves up, and what no longer fits
+--            falls off at the end
 -- Assumes nothing.
 use mathlib.Core.List.{List, _++_}
 use Prim.Native.Nat.{ℕ, _+_, _-_}

@@ -1,4 +1,5 @@
--- Two outcomes that the contract of begin admits coincide: the answer is told by its number, and the memory by a function.
+-- Two outcomes that the contract of begin admits coincide: the answer is told by its number, and the memory by a
+-- function.
 --   begun-told       two answers with one number are one
 --   begin-coincide   so for the call
 -- Assumes nothing.

@@ -1,5 +1,6 @@
 -- What begin answers, and what it leaves in the lent table, for every input (docs/RULES.md section 4.2).
---   beginTests                 the tests of begin in their order, each behind its number: those of a polynomial, then 6 and 7
+--   beginTests                 the tests of begin in their order, each behind its number: those of a polynomial, then
+--                              6 and 7
 --   beginOutcome, beginMemory  its outcome, and the lent table afterwards
 --   toldBegun                  the number of each answer
 --   Begins                     THE CONTRACT: the answers and tables that begin admits

@@ -1,7 +1,8 @@
 -- What the routines of begin take for granted, and what they leave.
 --   Residual     z^(2^m) + z can be reduced by the monic polynomial with the low coefficients p, into b
 --   Residue      b took its place: it has the same greatest common divisor with that polynomial
---   CanSplitOff  the part of a polynomial that splits can be written to out, and the powers of z modulo the polynomial to rows
+--   CanSplitOff  the part of a polynomial that splits can be written to out, and the powers of z modulo the polynomial
+--                to rows
 --   SplitOff     k coefficients at the front of out are the product of (z + r) over all distinct roots
 --   Powered      rows are z, z^2, z^4, .. , m of them, modulo the polynomial of degree d
 --   Beginnable   the table of a polynomial can be written, with the field's tables lent

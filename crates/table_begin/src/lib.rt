@@ -41,7 +41,8 @@ pub enum Begun {
     NotBegun(Refusal),
 }
 
-// Writes z^(2^m) + z, reduced by the monic polynomial with the low coefficients p, to b: m squarings, then z is added. The rows of the powers are written to rows.
+// Writes z^(2^m) + z, reduced by the monic polynomial with the low coefficients p, to b: m squarings, then z is added.
+// The rows of the powers are written to rows.
 fn residue(m: u16, logs: &[u16], antilogs: &[u16], p: &[u16], b: &mut [u16], rows: &mut [u16])
     requires { ⌜ Residual m (now logs) (now antilogs) (now p) (now b) (now rows) ⌝ }
     ensures { λ _. ⌜ Residue m (now (p .entry)) (now (b .exit))
@@ -73,7 +74,8 @@ pub struct Degrees {
     pub part: usize,
 }
 
-// Writes the low coefficients of the product of (z + r) over all distinct roots of a polynomial that is not 0 to the front of out, and the rows of z, z^2, z^4, ..
+// Writes the low coefficients of the product of (z + r) over all distinct roots of a polynomial that is not 0 to the
+// front of out, and the rows of z, z^2, z^4, ..
 // modulo the polynomial to rows.
 pub fn split_part(
     m: u16,
@@ -97,7 +99,8 @@ pub fn split_part(
     Degrees { whole: d, part: k }
 }
 
-// Writes the table of an accepted polynomial, over lent tables, and the rows of z, z^2, z^4, .. modulo the polynomial to rows. Returns the polynomial's degree.
+// Writes the table of an accepted polynomial, over lent tables, and the rows of z, z^2, z^4, .. modulo the polynomial
+// to rows. Returns the polynomial's degree.
 pub fn begin_lent(
     m: u16,
     c: u16,
@@ -132,7 +135,8 @@ fn begin_in(m: u16, c: u16, coeffs: &[u16], table: &mut [u16])
     ;
 }
 
-// Begins a table: one factor, the product of (z + r) over all distinct roots of the polynomial, or none if it has no root.
+// Begins a table: one factor, the product of (z + r) over all distinct roots of the polynomial, or none if it has no
+// root.
 pub fn begin(m: u16, coeffs: &[u16], cutoff: u16, table: &mut [u16]) -> Begun
     ensures { λ r. ⌜ Begins m cutoff (now (coeffs .entry)) (now (table .entry)) r (now (table .exit)) ⌝ }
 {

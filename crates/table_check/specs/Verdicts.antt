@@ -1,9 +1,12 @@
 -- What is decided of a table before anything is written.
---   tableTests  the tests of a table in their order, 7 and 8, each behind its number, and those that a call has behind them
+--   tableTests  the tests of a table in their order, 7 and 8, each behind its number, and those that a call has behind
+--               them
 --   Fit         the slots are those of a sound table whose degrees sum up to s
 --   Checks      what a check tells: the test that holds, or that none does
---   Chosen      a step can be taken: the table is sound, not done and not stuck, and the first factor above the cutoff is at o
---   Judged      what a verdict tells: the refusal that is given, that the table is done, or where the factor to split stands
+--   Chosen      a step can be taken: the table is sound, not done and not stuck, and the first factor above the cutoff
+--               is at o
+--   Judged      what a verdict tells: the refusal that is given, that the table is done, or where the factor to split
+--               stands
 -- Assumes nothing.
 use mathlib.Core.Path.{_≡_}
 use mathlib.Core.Logic.{_≢_}

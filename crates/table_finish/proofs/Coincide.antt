@@ -1,4 +1,5 @@
--- Two outcomes that the contract of finish admits coincide: the answer is told by its number and value, and the list by a function.
+-- Two outcomes that the contract of finish admits coincide: the answer is told by its number and value, and the list
+-- by a function.
 --   finished-told     two answers with one number and value are one
 --   finish-coincide   so for the call
 -- Assumes nothing.

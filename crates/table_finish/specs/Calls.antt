@@ -21,7 +21,8 @@ use Rattle.table_finish.specs.declared.Finished.the-variants.{Listed, No
 
 abbrev pub finishTests : List ℕ → List ℕ → List (ℕ × Bool)
 finishTests table list =
-    (7, not (eqb (length table) slots) || ltb (length list) limit) ∷ (8, not (isSound table)) ∷ (10, not (slotsDone byFactor table)) ∷ []
+    (7, not (eqb (length table) slots) || ltb (length list) limit) ∷ (8, not (isSound table))
+    ∷ (10, not (slotsDone byFactor table)) ∷ []
 
 abbrev pub finishOutcome : List ℕ → List ℕ → ℕ × List ℕ
 finishOutcome table list = outcome (finishTests table list) (length (slotsRoots byFactor table) ∷ [])
@@ -36,4 +37,5 @@ toldFinished (NotFinished k) = (numberOf k, [])
 -- the contract: an answer, and the lent list afterwards
 abbrev pub Finishes : List ℕ → List ℕ → Finished → List ℕ → Type 0
 Finishes table list r after =
-    Answers (finishTests table list) (length (slotsRoots byFactor table) ∷ []) (copied (slotsRoots byFactor table) list) list (toldFinished r) after
+    Answers (finishTests table list) (length (slotsRoots byFactor table) ∷ [])
+    (copied (slotsRoots byFactor table) list) list (toldFinished r) after

@@ -111,7 +111,8 @@ fn finish_in(table: &[u16], roots: &mut [u16]) -> usize
     }
 }
 
-// Lists, ascending and once each, every field element at which some factor of a done table is zero, at the front of the list.
+// Lists, ascending and once each, every field element at which some factor of a done table is zero, at the front of
+// the list.
 pub fn finish(table: &[u16], roots: &mut [u16]) -> Finished
     ensures { λ r. ⌜ Finishes (now (table .entry)) (now (roots .entry)) r (now (roots .exit)) ⌝ }
 {

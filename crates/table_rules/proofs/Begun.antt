@@ -1,12 +1,17 @@
--- Begun tables, over any field that `BinaryField` describes and any list of distinct elements for the roots: after every step the factors are the products over
--- the groups. The steps on factors take greatest common divisors with trace polynomials; the steps on groups part roots by their trace bits.
+-- Begun tables, over any field that `BinaryField` describes and any list of distinct elements for the roots: after
+-- every step the factors are the products over
+-- the groups. The steps on factors take greatest common divisors with trace polynomials; the steps on groups part
+-- roots by their trace bits.
 --   after-is         n steps on a table are n steps on its factors
 --   cut-commutes     each entry on the way is halved alike, as a factor and as a group
---   FACTORS-AFTER    n steps on the factors, from the product over all roots, give the products over the groups after n steps
---   TABLE-AFTER      so the table after n steps is that of the groups after n steps;  step-next  and a step takes it to the next
+--   FACTORS-AFTER    n steps on the factors, from the product over all roots, give the products over the groups after
+--                    n steps
+--   TABLE-AFTER      so the table after n steps is that of the groups after n steps;  step-next  and a step takes it
+--                    to the next
 --   factors-are      its factors are products over nonempty groups, in ascending order of trace bits
 --   factor-levels    level m is never passed
---   done-at          it is done after as many steps as there are groups above c;  not-done-before, done-only  and after no fewer
+--   done-at          it is done after as many steps as there are groups above c;  not-done-before, done-only  and
+--                    after no fewer
 --   degrees-stay     s stays the number of roots
 --   never-stuck      refusal 9 is never met
 --   begun-valid      it is valid after each step
@@ -142,7 +147,8 @@ module _ {G : Ops ℕ} {m a : ℕ} (B : BinaryField G m a) (c : ℕ) (positive :
       (ap (step (traceHalving G m a) c) (sym (factors-after B c roots below distinct n))
       ∙ sym (steps-more (traceHalving G m a) c n (unlessEmpty 0 (monicRoots G roots))) ∙ factors-after B c roots below distinct (suc n))
 
-  -- the factors are the products over groups, nonempty and in ascending order of trace bits, each at the level of its word
+  -- the factors are the products over groups, nonempty and in ascending order of trace bits, each at the level of its
+  -- word
   pub factors-are : (n : ℕ) → (ws : List (List Bool)) × InOrder ws × All (λ w. 0 < length (group bit w roots)) ws
       × (table n .factors ≡ map (λ w. (length w, monicRoots G (group bit w roots))) ws)
   factors-are n =

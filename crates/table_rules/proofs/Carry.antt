@@ -1,4 +1,5 @@
--- A step on one kind of entries is a step on another: where f keeps lengths and carries each part to the part, it carries steps to steps.
+-- A step on one kind of entries is a step on another: where f keeps lengths and carries each part to the part, it
+-- carries steps to steps.
 --   Commutes       f carries the parts of an entry to the parts
 --   carry-entry, carry-first, carry-done, carry-split, carry-step   it carries each piece of a step
 --   CARRY-STEPS    and n steps, along all cuts

@@ -1,11 +1,13 @@
--- The count of groups: it is found by walking down the tree of halvings, it is within m times the whole part of s/(c+1), and a higher cutoff counts fewer.
+-- The count of groups: it is found by walking down the tree of halvings, it is within m times the whole part of
+-- s/(c+1), and a higher cutoff counts fewer.
 --   sharing c n i s   how many parts of s, n levels below its level i, have more than c members
 --   left c n i s      the same for the n levels from i on, together
 --   agrees-first      a word's members are found bit by bit
 --   groups-counted    the groups above c at one level;  count-left  at all levels
 --   COUNT-BOUND       they are at most m times the whole part of s/(c+1)
 --   COUNT-FALLS       a higher cutoff counts as many or fewer
---   left-none, left-large   where there are at most c no part has more; a part above c counts for itself and for its halves
+--   left-none, left-large   where there are at most c no part has more; a part above c counts for itself and for its
+--                           halves
 -- Assumes nothing.
 use mathlib.Core.Path.{_≡_, refl, sym, ap, ap₂, _∙_, fun-ext}
 use mathlib.Core.Bool.{Bool, true, false, not, cond, _&&_}

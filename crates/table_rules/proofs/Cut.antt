@@ -1,4 +1,5 @@
--- What every list of entries on the way from a begun one has: it is a cut through the tree of halvings. Laws of `splitAt` at any place above c, so they hold
+-- What every list of entries on the way from a begun one has: it is a cut through the tree of halvings. Laws of
+-- `splitAt` at any place above c, so they hold
 -- for steps (docs/RULES.md section 4.3), which take the first such place, and for picks (proofs/Picks).
 --   within                   a place above c is a place of the list;  first-above  the first entry above c is above c
 --   split-left, split-right  a split of two lists, one behind the other, is a split of the one that has the place

@@ -1,4 +1,5 @@
--- DEMAND 3 holds in each known field, at each cutoff from 1, for the roots of each polynomial: `Demand3` of specs/Demand.antt is the one record to read.
+-- DEMAND 3 holds in each known field, at each cutoff from 1, for the roots of each polynomial: `Demand3` of
+-- specs/Demand.antt is the one record to read.
 --   DEMAND-3        it holds
 --   begin-slots     what begin writes is the encoding of the groups after no step
 --   begin-sound     and it is sound
@@ -66,7 +67,8 @@ module _ (m : ℕ) (field : known m ≡ true) (c : ℕ) (positive : 1 ≤ c) (f 
       slots-more L n (encode Y (slotsFor limit) (groupsAfter m c roots 0)) ∙ ap (slotsStepped Y) (slots-after L limit most few n (omega arith))
       ∙ stepped-encode L (valid limit most few n (omega arith)) ∙ ap (encode Y (slotsFor limit)) (T.step-next B c positive roots below distinct n)
 
-  -- DEMAND 3, in each known field, at each cutoff from 1, for the distinct roots of any polynomial f: demand 2's root set
+  -- DEMAND 3, in each known field, at each cutoff from 1, for the distinct roots of any polynomial f: demand 2's root
+  -- set
   pub demand-3 : Demand3 m c roots
   demand-3 = record {
     each = T.table-after B c roots below distinct;

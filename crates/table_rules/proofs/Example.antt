@@ -1,7 +1,8 @@
 -- The definitions compute: figures of docs/RULES.md section 10 in the field of 16 elements, by evaluation.
 --   counts-three, counts-all   the steps of the roots 1, 2, 3, and of all 16 elements, at cutoffs 1, 2, 3
 --   table-three                the table of 1, 2, 3 after step 3
---   sound-at-limit             slot 3 at its limit is sound;  unsound-steps  above it is not;  unsound-last  the last slot is looked at
+--   sound-at-limit             slot 3 at its limit is sound;  unsound-steps  above it is not;  unsound-last  the last
+--                              slot is looked at
 -- Assumes nothing.
 use mathlib.Core.Path.{_≡_, refl}
 use mathlib.Core.Bool.{true, false}
@@ -35,7 +36,8 @@ table-three : take 12 (encode byFactor 100 (groupsAfter 4 1 (1 ∷ 2 ∷ 3 ∷ [
 unfolding power trace F.mul polyIn unlessEmpty parts splitAt firstAbove step steps encode blocks monicRoots fromRoots mul add
 table-three = refl
 
--- a table in the field of 16 elements, cutoff 2, one factor of degree 5: slot 3 may be 4 times the whole part of 5/3, which is 4
+-- a table in the field of 16 elements, cutoff 2, one factor of degree 5: slot 3 may be 4 times the whole part of 5/3,
+-- which is 4
 sound-at-limit : sound byFactor known 32 (padded 100 (4 ∷ 2 ∷ 1 ∷ 4 ∷ 0 ∷ 5 ∷ 1 ∷ 2 ∷ 3 ∷ 4 ∷ 15 ∷ [])) ≡ true
 unfolding sound readBlocks restBlocks statedSum every allBelow knownIn
 sound-at-limit = refl

@@ -1,8 +1,10 @@
 -- What the theory of the work table asks of a field, and that each known field has it.
---   BinaryField      the numbers below 2^m, with exclusive or for the sum, in which the first m powers of a are 1, 2, 4, ..
+--   BinaryField      the numbers below 2^m, with exclusive or for the sum, in which the first m powers of a are 1, 2,
+--                    4, ..
 --   known-field      each known field, with a = 2
 --   bits-apart       no two elements have the same trace bits
---   group-commutes   the halving of the product over a group, by gcd and cofactor, is the product over each half of the group
+--   group-commutes   the halving of the product over a group, by gcd and cofactor, is the product over each half of
+--                    the group
 -- Assumes nothing.
 use mathlib.Core.Path.{_≡_, refl, sym, ap, _∙_, fun-ext}
 use mathlib.Core.Bool.{Bool, true, false, not}

@@ -1,8 +1,12 @@
--- A step that is taken keeps every sound table sound, begun or not: degrees add up, coefficients stay in the field, levels and slot 3 stay within their limits.
---   LosslessHalving  a halving whose two parts have, together, the degree of the whole, and coefficients below 2^m;  trace-halves  the one by trace polynomials
---   stuck-exactly    refusal 9 is given exactly where some factor is above the cutoff, and the first such has level m or slot 3 is at its limit
+-- A step that is taken keeps every sound table sound, begun or not: degrees add up, coefficients stay in the field,
+-- levels and slot 3 stay within their limits.
+--   LosslessHalving  a halving whose two parts have, together, the degree of the whole, and coefficients below
+--                    2^m;  trace-halves  the one by trace polynomials
+--   stuck-exactly    refusal 9 is given exactly where some factor is above the cutoff, and the first such has level m
+--                    or slot 3 is at its limit
 --   stuck-order      on a valid table that is "or more" in both
---   Free, free       a table that is neither done nor refused by 9: the first factor above the cutoff is below level m, and slot 3 below its limit
+--   Free, free       a table that is neither done nor refused by 9: the first factor above the cutoff is below level
+--                    m, and slot 3 below its limit
 --   step-valid       a step keeps a table valid
 --   STEP-SOUND       a step keeps slots sound
 --   step-slots       the slots after a step hold the table after it

@@ -1,11 +1,14 @@
 -- Splitting in any order (docs/CHANGES.md, M-112). A pick replaces any entry above c by its parts.
 --   Picks H c n l r      n picks lead from l to r
---   PICKS-COMMUTE        two picks on different entries may change places, the one further back renumbered;  behind-stays, before-stays  each finds its entry
+--   PICKS-COMMUTE        two picks on different entries may change places, the one further back
+--                        renumbered;  behind-stays, before-stays  each finds its entry
 --   one-end              two done cuts of one list are equal
---   any-order            on groups: every sequence of picks, carried to "done", takes as many steps and ends in the same list
+--   any-order            on groups: every sequence of picks, carried to "done", takes as many steps and ends in the
+--                        same list
 --   picks-never-refused  and none is refused by 9
 --   picks-carried        picks on factors are picks on groups
---   PICKS-END            in the known fields, on factors: every sequence of picks from a begun table, carried to "done", ends in the same factors after as many steps
+--   PICKS-END            in the known fields, on factors: every sequence of picks from a begun table, carried to
+--                        "done", ends in the same factors after as many steps
 -- Assumes nothing.
 use mathlib.Core.Path.{_≡_, refl, sym, ap, ap₂, _∙_, subst}
 use mathlib.Core.Bool.{Bool, true}
@@ -42,7 +45,8 @@ module _ {A : Type 0} (H : Halving A) where
     stop : {l : List (Entry A)} → Picks c 0 l l
     pick : {n : ℕ} {l r : List (Entry A)} (k : ℕ) → above c (entryAt l k) ≡ true → Picks c n (splitAt H k l) r → Picks c (suc n) l r
 
-  -- TWO PICKS CHANGE PLACES: the entry that stands d places behind the one after place j moves back by as many places as the parts at j take
+  -- TWO PICKS CHANGE PLACES: the entry that stands d places behind the one after place j moves back by as many places
+  -- as the parts at j take
   pub picks-commute : (j d : ℕ) (l : List (Entry A)) → j < length l
       → splitAt H (j + (length (parts H (entryAt l j)) + d)) (splitAt H j l) ≡ splitAt H j (splitAt H (suc (j + d)) l)
   unfolding splitAt
@@ -111,7 +115,8 @@ module _ {A : Type 0} (bit : ℕ → A → Bool) (c m : ℕ) (positive : 1 ≤ c
   picks-work stop p = omega arith
   picks-work (pick {l = l} k h q) p = omega (arith, S.work-falls bit c m l k h (level-below k p h), picks-work q (cut-split (byBit bit) c k p h))
 
-  -- EVERY ORDER of picks, carried to "done", takes as many steps as there are groups above c, and ends in the same list
+  -- EVERY ORDER of picks, carried to "done", takes as many steps as there are groups above c, and ends in the same
+  -- list
   pub any-order : {n : ℕ} {r : List (Entry A)} → Picks (byBit bit) c n (begun bit roots) r → done c r ≡ true
       → (n ≡ groupCount bit c m roots) × (r ≡ reached bit c roots (groupCount bit c m roots))
   any-order {n} {r} q d =

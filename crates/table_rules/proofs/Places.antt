@@ -1,4 +1,5 @@
--- Where the first factor above the cutoff stands in the slots of a table (RULES 4.1), and a step as a splice: what the code of a step finds and writes.
+-- Where the first factor above the cutoff stands in the slots of a table (RULES 4.1), and a step as a splice: what the
+-- code of a step finds and writes.
 --   split-is       a split replaces one entry by its parts and leaves the others untouched;  step-is  so does a step
 --   parts-few      an entry has at most two parts;  parts-some  a factor at least one
 --   encode-around  the slots around it;  level-at, degree-at, coefficients-at  its own

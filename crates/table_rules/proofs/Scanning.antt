@@ -1,5 +1,7 @@
--- Soundness in one pass over the slots of a table (RULES 4.1), as code goes: factor by factor, each test where its slots are.
---   Scanned          what a pass over n factors and the slots behind them has found;  scan-exactly  it is what `fairBlocks` tests
+-- Soundness in one pass over the slots of a table (RULES 4.1), as code goes: factor by factor, each test where its
+-- slots are.
+--   Scanned          what a pass over n factors and the slots behind them has found;  scan-exactly  it is what
+--                    `fairBlocks` tests
 --   count-follows    "slot 2 is at most the limit" follows from the rules for degrees, so a pass need not test it
 --   ScanPassed       the tests of the code
 --   SOUND-BY-PASS    they pass exactly where the slots are sound

@@ -1,11 +1,13 @@
--- Demand 3 on groups: the number of steps from a begun list to "done" is the count of groups, what each state on the way is, and that no step is refused.
+-- Demand 3 on groups: the number of steps from a begun list to "done" is the count of groups, what each state on the
+-- way is, and that no step is refused.
 --   done-none, done-stays   a list that is done has no entry above c, and a step leaves it as it is
 --   step-cut, steps-cut     steps leave a cut
 --   work c m l              the groups above c that are still to be parted, in the entries of l, below level m
 --   WORK-FALLS              it falls by exactly 1 where an entry above c, below level m, is parted
 --   below-last              an entry above c is below level m
 --   NOT-DONE-BEFORE, DONE-THEN   the list is done after as many steps as there are groups above c, and after no fewer
---   NEVER-REFUSED           until then its first entry above c is below level m, and the steps taken are below the limit
+--   NEVER-REFUSED           until then its first entry above c is below level m, and the steps taken are below the
+--                           limit
 -- Assumes nothing.
 use mathlib.Core.Path.{_≡_, refl, sym, ap, ap₂, _∙_}
 use mathlib.Core.Logic.{_⊎_, inl, inr}
@@ -165,7 +167,8 @@ module _ {A : Type 0} (bit : ℕ → A → Bool) (c m : ℕ) where
         work-done-iff (steps-cut (byBit bit) c (groupCount bit c m roots) begun-cut)
         (omega (arith, begun-work roots, after (groupCount bit c m roots) begun-cut (omega (arith, begun-work roots))))
 
-    -- NO REFUSAL 9: while a begun list is not done, its first entry above c is below level m, and the steps taken are below the limit
+    -- NO REFUSAL 9: while a begun list is not done, its first entry above c is below level m, and the steps taken are
+    -- below the limit
     pub never-refused : (n : ℕ) → n < groupCount bit c m roots
         → let l = reached bit c roots n in (entryAt l (firstAbove c l) .0 < m) × (n < m * (length roots / suc c))
     never-refused n h =

@@ -10,7 +10,8 @@
 --   groupsAt i s  the groups at level i, in ascending order of trace bits
 --   groupCount    the groups of levels 0 to m-1 with more than c members, the same roots at two levels counted twice
 --   byBit         the halving that a step makes of a group: trace bit 0 first
---   begun         the list that begin makes: one group of all roots at level 0, or none;  reached  the list after n steps
+--   begun         the list that begin makes: one group of all roots at level 0, or none;  reached  the list after n
+--                 steps
 -- Assumes nothing.
 use mathlib.Core.Path.{_≡_}
 use mathlib.Core.Bool.{Bool, true, false, not, cond, _&&_}

@@ -1,4 +1,5 @@
--- How the factors of a work table stand in its slots. A layout says how cutoff and factors are written, and how slots are read.
+-- How the factors of a work table stand in its slots. A layout says how cutoff and factors are written, and how slots
+-- are read.
 --   Factor     an entry of the table: its level, and its coefficients below the leading 1, constant first
 --   factorSlots  the slots in front of a factor's coefficients: its level and its degree
 --   degreeSum  s, the sum of the factors' degrees
@@ -6,9 +7,11 @@
 --   stated     what is to be stated of a factor;  factorOf  the factor so stated
 --   statedSum  the sum of the stated degrees
 --   Layout     how it is written and read
---   Lawful     writing and reading undo each other, and factors take two slots and their coefficients each;  ReadsBack  what reading finds where n factors fit in
+--   Lawful     writing and reading undo each other, and factors take two slots and their coefficients
+--              each;  ReadsBack  what reading finds where n factors fit in
 --   byFactor   the layout of RULES 4.1: each factor's level, degree and coefficients in turn
---   fairBlocks the rules for n factors and the slots behind them in one pass, as code goes: `left` is what the degrees may still sum up to
+--   fairBlocks the rules for n factors and the slots behind them in one pass, as code goes: `left` is what the degrees
+--   may still sum up to
 -- Assumes nothing.
 use mathlib.Core.Path.{_≡_}
 use mathlib.Core.Bool.{Bool, _&&_}
@@ -93,7 +96,8 @@ byFactor = record { mark = λ c. c; unmark = λ x. x; write = blocks; read = rea
 
 -- the factor at the front: level at most m, degree from 1 to `left`, coefficients below 2^m
 abbrev pub fairFront : ℕ → ℕ → List ℕ → Bool
-fairFront m left l = leb (getD l 0 0) m && leb 1 (getD l 1 0) && leb (getD l 1 0) left && allBelow (2 ^ m) (take (getD l 1 0) (drop factorSlots l))
+fairFront m left l = leb (getD l 0 0) m && leb 1 (getD l 1 0) && leb (getD l 1 0) left
+    && allBelow (2 ^ m) (take (getD l 1 0) (drop factorSlots l))
 
 unfoldable pub fairBlocks : ℕ → ℕ → ℕ → List ℕ → Bool
 fairBlocks m left zero l = allZero l

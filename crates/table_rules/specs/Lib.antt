@@ -1,4 +1,5 @@
--- What is meant: steps on a list of entries, the groups of demand 3, the slots of the work table, and what begin, a step and finish make of a table.
+-- What is meant: steps on a list of entries, the groups of demand 3, the slots of the work table, and what begin, a
+-- step and finish make of a table.
 pub mod Entries
 pub mod Groups
 pub mod Layout

@@ -2,9 +2,11 @@
 -- the field's operations G, its degree m and its element a; then on slots, in the known field of degree slot 0, where
 -- a is 2.
 --   traceBit      the trace bit of x at level i, Tr(a^i x)
---   traceHalving  the halving of a factor P at level i: the monic greatest common divisor g of P and Tr(a^i z), and h = P/g
+--   traceHalving  the halving of a factor P at level i: the monic greatest common divisor g of P and Tr(a^i z), and h
+--                 = P/g
 --   isDone        is no factor above the cutoff?
---   stuck         refusal 9: some factor is above the cutoff, and the first such has level m or slot 3 is already at its limit
+--   stuck         refusal 9: some factor is above the cutoff, and the first such has level m or slot 3 is already at
+--                 its limit
 --   stepTable     a step that is taken;  tableAfter  the table after n of them
 --   begunTable    the table that begin writes: the one factor p at level 0, or none where p is constant
 --   groupedTable  the table told by groups: after n steps on groups, the factors are the products over them

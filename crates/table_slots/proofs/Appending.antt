@@ -1,5 +1,6 @@
 -- The slots of a factor, written behind others.
---   solid-slots                the slots of a factor that is not constant;  some-slots  at most two more than its degree, whatever it is
+--   solid-slots                the slots of a factor that is not constant;  some-slots  at most two more than its
+--                              degree, whatever it is
 --   append-none, append-some   what `append` leaves
 -- Assumes nothing.
 use mathlib.Core.Path.{_≡_, refl, sym, ap, _∙_}

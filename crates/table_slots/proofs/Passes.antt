@@ -1,7 +1,8 @@
 -- The loops that pass over slots: the answer for all of them is the answer for what lies ahead.
 --   rest               `&s[at..]` is what lies ahead
 --   front-constant, front-short, FairFactor, front-tells, front-fails          the factor at the front
---   Walking, WalkTaken, walk-from, walk-room, walk-taken, walk-on, walk-stop, walk-end   the loop that adds up the degrees
+--   Walking, WalkTaken, walk-from, walk-room, walk-taken, walk-on, walk-stop, walk-end   the loop that adds up the
+--   degrees
 --   Seeking, seek-from, seek-cut, seek-hit, seek-on, seek-end             the loop that looks for a degree above c
 -- Assumes nothing.
 use mathlib.Core.Path.{_≡_, refl, sym, ap, ap₂, _∙_}

@@ -1,4 +1,5 @@
--- What the tests of `degrees` tell of the table: a sum is answered exactly where it is sound, and it is that of its factors.
+-- What the tests of `degrees` tell of the table: a sum is answered exactly where it is sound, and it is that of its
+-- factors.
 --   deny-field, deny-low, deny-high, deny-walk, deny-steps   a test that fails: the table is not sound
 --   few      the sum is at most the limit
 --   accept   no test fails: the table is sound, and the sum is that of its degrees

@@ -1,5 +1,6 @@
 -- What the passes over the slots compute, as functions of lists that follow the code.
---   frontSlots  the slots of the factor at the front of s where it is within the rules and its degree at most `room`, else 0
+--   frontSlots  the slots of the factor at the front of s where it is within the rules and its degree at most `room`,
+--               else 0
 --   tally       the sum of the degrees where n factors within the rules stand in s, and then zeros
 --   seek        the place of the first of n factors, from the place `at` on, whose degree is above c
 --   soughtIn    that of all factors of a table

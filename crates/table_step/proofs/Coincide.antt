@@ -1,4 +1,5 @@
--- Two outcomes that the contract of a step admits coincide: the answer is told by its number and value, and the table by a function.
+-- Two outcomes that the contract of a step admits coincide: the answer is told by its number and value, and the table
+-- by a function.
 --   stepped-told    two answers with one number and value are one
 --   step-coincide   so for the call
 -- Assumes nothing.

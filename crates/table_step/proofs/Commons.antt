@@ -1,4 +1,5 @@
--- The first part of a factor, as the code finds it: the greatest common divisor with a polynomial that stands for Tr(a^i z), as the trace sum modulo the factor does.
+-- The first part of a factor, as the code finds it: the greatest common divisor with a polynomial that stands for
+-- Tr(a^i z), as the trace sum modulo the factor does.
 --   level-fits, level-power   the antilog of the level i is a^i
 --   traced, traced-long       the trace sum that the code makes is that of a^i z, as long as the factor
 --   traced-same               it has the greatest common divisor with the factor that Tr(a^i z) has

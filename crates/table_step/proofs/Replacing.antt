@@ -1,8 +1,10 @@
 -- What a step reads around the factor to split, and what it leaves.
---   SlotsRead, slots-read                      where the factor stands;  head-there, level-there, stands  so that it can be read
+--   SlotsRead, slots-read                      where the factor stands;  head-there, level-there, stands  so that it
+--                                              can be read
 --   factor-is, level-is, level-below-width   it is the first above the cutoff
 --   known-at, lent-here               the field that the head names
---   split-asks, part-asks             it can be split, and by what is lent;  trace-within, trace-ready  as by the trace sum modulo it
+--   split-asks, part-asks             it can be split, and by what is lent;  trace-within, trace-ready  as by the
+--                                     trace sum modulo it
 --   SlotSizes, slot-sizes, new-fits            how many slots the parts take
 --   replace-asks, replaced            it can give way to its parts, and the slots are then those of a step
 -- Assumes nothing.

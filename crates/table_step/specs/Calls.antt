@@ -33,5 +33,6 @@ toldStepped (NotStepped k) = (numberOf k, [])
 -- the contract: an answer, and the lent table afterwards
 abbrev pub Steps : List ℕ → Stepped → List ℕ → Type 0
 Steps table r after =
-    Answers (stepTests table) (cond (slotsDone byFactor table) 1 0 ∷ []) (cond (slotsDone byFactor table) table (slotsStepped byFactor table)) table
+    Answers (stepTests table) (cond (slotsDone byFactor table) 1 0 ∷ [])
+    (cond (slotsDone byFactor table) table (slotsStepped byFactor table)) table
     (toldStepped r) after

@@ -1,8 +1,10 @@
 -- What the routines of a step take and leave.
---   Splittable   the factor p at a level can be split: the field's tables are lent, and it is within the rules and below level m
+--   Splittable   the factor p at a level can be split: the field's tables are lent, and it is within the rules and
+--                below level m
 --   Partable     the same with a polynomial t that has the greatest common divisor with p that Tr(a^i z) has
 --   Restable     g can be taken out of p, with the rest written to h
---   IsCommon     the first r coefficients of g are the first part's: the monic greatest common divisor of p and Tr(a^i z)
+--   IsCommon     the first r coefficients of g are the first part's: the monic greatest common divisor of p and Tr(a^i
+--                z)
 --   Parted       the parts of the factor p stand at the front of w, in r slots
 --   Steppable    the factor at o of a table is the one that a step splits, and the field's tables are lent
 --   StepReady    the same with such a polynomial t lent

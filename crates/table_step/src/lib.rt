@@ -68,7 +68,8 @@ fn trace_at(m: u16, logs: &[u16], antilogs: &[u16], p: &[u16], level: u16, t: &m
     );
 }
 
-// Leaves the monic greatest common divisor of the factor p and t, which stands for Tr(a^i z), at the front of g. Returns its degree.
+// Leaves the monic greatest common divisor of the factor p and t, which stands for Tr(a^i z), at the front of g.
+// Returns its degree.
 fn common(
     m: u16,
     logs: &[u16],
@@ -102,7 +103,8 @@ fn rest_of(m: u16, logs: &[u16], antilogs: &[u16], p: &[u16], g: &[u16], h: &mut
     cofactor(m, logs, antilogs, p, g, &mut row[..k], &mut f[..j], h);
 }
 
-// Writes the slots of the factor's two parts, at the next level, to the front of w; a constant part is omitted. Returns the number of slots.
+// Writes the slots of the factor's two parts, at the next level, to the front of w; a constant part is omitted.
+// Returns the number of slots.
 fn parts_of(
     m: u16,
     logs: &[u16],
@@ -124,7 +126,8 @@ fn parts_of(
     append(w, at, level + 1, &h[..e])
 }
 
-// Replaces the factor at o by its parts, and counts the step, over lent tables and with a polynomial t that stands for Tr(a^i z).
+// Replaces the factor at o by its parts, and counts the step, over lent tables and with a polynomial t that stands for
+// Tr(a^i z).
 pub fn step_lent(table: &mut [u16], logs: &[u16], antilogs: &[u16], o: usize, t: &[u16])
     requires { ⌜ StepReady (now table) (now logs) (now antilogs) o (now t) ⌝ }
     ensures { λ _. ⌜ now (table .exit) ≡ slotsStepped byFactor (now (table .entry)) ⌝ }
@@ -136,7 +139,8 @@ pub fn step_lent(table: &mut [u16], logs: &[u16], antilogs: &[u16], o: usize, t:
     replace(table, o, &w[..q]);
 }
 
-// Replaces the factor at o by its parts, and counts the step, over lent tables. Tr(a^i z) is taken modulo the factor, whatever the table.
+// Replaces the factor at o by its parts, and counts the step, over lent tables. Tr(a^i z) is taken modulo the factor,
+// whatever the table.
 fn step_traced(table: &mut [u16], logs: &[u16], antilogs: &[u16], o: usize)
     requires { ⌜ Steppable (now table) (now logs) (now antilogs) o ⌝ }
     ensures { λ _. ⌜ now (table .exit) ≡ slotsStepped byFactor (now (table .entry)) ⌝ }

@@ -1,4 +1,5 @@
--- `field_elements::position` meets its contract: the tests decide, and the value is the log table's, or its mirror image.
+-- `field_elements::position` meets its contract: the tests decide, and the value is the log table's, or its mirror
+-- image.
 -- Assumes nothing.
 use mathlib.Core.Path.{sym}
 use Prim.Native.Nat.{_^_, _<_, _-_}

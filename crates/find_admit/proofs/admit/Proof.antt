@@ -1,4 +1,5 @@
--- `find_admit::admit` meets its contract: the tests of a polynomial and a cutoff by two numbers, then that of the room.
+-- `find_admit::admit` meets its contract: the tests of a polynomial and a cutoff by two numbers, then that of the
+-- room.
 -- Assumes nothing.
 use mathlib.Core.Bool.{Bool}
 use mathlib.Core.List.{[], _∷_}

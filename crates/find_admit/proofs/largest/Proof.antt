@@ -1,4 +1,5 @@
--- `find_admit::largest` meets its contract: at each turn all coefficients are below a bound if `top` and those ahead are.
+-- `find_admit::largest` meets its contract: at each turn all coefficients are below a bound if `top` and those ahead
+-- are.
 -- Assumes nothing.
 use mathlib.Core.Path.{refl}
 use mathlib.Core.Logic.{⊎-elim}

@@ -1,4 +1,5 @@
--- `find_search::search_in` meets its contract: in each arm the tables are those of the field, and the last is the search in field 11.
+-- `find_search::search_in` meets its contract: in each arm the tables are those of the field, and the last is the
+-- search in field 11.
 -- Assumes nothing.
 use mathlib.Core.Path.{sym, subst}
 use Prim.Native.Nat.{ℕ}

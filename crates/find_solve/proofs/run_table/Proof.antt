@@ -1,4 +1,5 @@
--- `find_solve::run_table` meets its contract: the table is a begun one after as many steps as its head counts, and some levels have their sums.
+-- `find_solve::run_table` meets its contract: the table is a begun one after as many steps as its head counts, and
+-- some levels have their sums.
 -- Assumes nothing.
 use Prim.Native.Nat.{_-_}
 use native.Mathlib.Omega.{arith}

@@ -1,4 +1,5 @@
--- `find_solve::solve_in` meets its contract: low degrees by themselves, and in each arm the tables are those of the field.
+-- `find_solve::solve_in` meets its contract: low degrees by themselves, and in each arm the tables are those of the
+-- field.
 -- Assumes nothing.
 use Rattle.field.proofs.Known.{last-row}
 use Rattle.find_solve.proofs.Admitting.{solvable}

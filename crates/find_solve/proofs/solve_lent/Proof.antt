@@ -1,4 +1,5 @@
--- `find_solve::solve_lent` meets its contract: a table is begun and stepped to its end, and what finish lists of it is the roots.
+-- `find_solve::solve_lent` meets its contract: a table is begun and stepped to its end, and what finish lists of it is
+-- the roots.
 -- Assumes nothing.
 use mathlib.Core.Path.{refl, sym, ap, _∙_}
 use mathlib.Core.List.{List}

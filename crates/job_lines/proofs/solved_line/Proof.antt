@@ -1,4 +1,5 @@
--- `job_lines::solved_line` meets its contract: the coefficients are spelled, the engine takes them, and its roots and steps make the line.
+-- `job_lines::solved_line` meets its contract: the coefficients are spelled, the engine takes them, and its roots and
+-- steps make the line.
 -- Assumes nothing.
 use mathlib.Core.Path.{sym}
 use native.Mathlib.Omega.{arith}

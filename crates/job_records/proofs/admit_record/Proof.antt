@@ -1,4 +1,5 @@
--- `job_records::admit_record` meets its contract: the number of coefficients is stated, and the largest of them is that of the words.
+-- `job_records::admit_record` meets its contract: the number of coefficients is stated, and the largest of them is
+-- that of the words.
 -- Assumes nothing.
 use mathlib.Core.Path.{sym}
 use mathlib.Core.List.{[], _∷_}

@@ -1,4 +1,5 @@
--- `job_records::read_here` meets its contract: each return shows which test was the first to hold, and behind them the record is judged.
+-- `job_records::read_here` meets its contract: each return shows which test was the first to hold, and behind them the
+-- record is judged.
 -- Assumes nothing.
 use native.Mathlib.Omega.{arith}
 use native.Mathlib.Nat.{add-sub-cancel-left}

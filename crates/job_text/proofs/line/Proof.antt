@@ -1,4 +1,5 @@
--- `job_text::line` meets its contract: its parts are written one behind the other, and each place is bounded by what was written.
+-- `job_text::line` meets its contract: its parts are written one behind the other, and each place is bounded by what
+-- was written.
 -- Assumes nothing.
 use mathlib.Core.Path.{_≡_, sym, _∙_, subst}
 use mathlib.Core.List.{[], _∷_}

@@ -1,4 +1,5 @@
--- `poly_face::polynomial_antilogs` meets its contract: a known field is told by its degree, and what holds of the table holds of the room.
+-- `poly_face::polynomial_antilogs` meets its contract: a known field is told by its degree, and what holds of the
+-- table holds of the room.
 -- Assumes nothing.
 use borrow.Author.Needs.{needs}
 use Rattle.field.proofs.Known.{last-row}

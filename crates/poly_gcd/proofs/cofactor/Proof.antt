@@ -1,4 +1,5 @@
--- `poly_gcd::cofactor` meets its contract: the monic polynomial is written out and divided, and the quotient's low coefficients copied.
+-- `poly_gcd::cofactor` meets its contract: the monic polynomial is written out and divided, and the quotient's low
+-- coefficients copied.
 -- Assumes nothing.
 use native.Mathlib.Omega.{arith}
 use Rattle.poly_gcd.proofs.Cofactors.{cofactor-asks, cofactor-long, cofactor-is}

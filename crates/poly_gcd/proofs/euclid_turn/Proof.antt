@@ -1,4 +1,5 @@
--- `poly_gcd::euclid_turn` meets its contract: the remainder is taken, the divisor gets its 1, and the remainder is made monic.
+-- `poly_gcd::euclid_turn` meets its contract: the remainder is taken, the divisor gets its 1, and the remainder is
+-- made monic.
 -- Assumes nothing.
 use mathlib.Core.Path.{sym}
 use native.Mathlib.Omega.{arith}

@@ -1,4 +1,5 @@
--- `poly_powers::power_rows` meets its contract. The loop's invariant: i squarings are done, and the rows of the powers before are written.
+-- `poly_powers::power_rows` meets its contract. The loop's invariant: i squarings are done, and the rows of the powers
+-- before are written.
 -- Assumes nothing.
 use Prim.Native.Nat.{_-_}
 use native.Mathlib.Omega.{arith}

@@ -1,4 +1,5 @@
--- `poly_powers::square_into` meets its contract. The loop's invariant: the squares of the first i coefficients are written.
+-- `poly_powers::square_into` meets its contract. The loop's invariant: the squares of the first i coefficients are
+-- written.
 -- Assumes nothing.
 use Prim.Native.Nat.{_-_}
 use native.Mathlib.Omega.{arith}

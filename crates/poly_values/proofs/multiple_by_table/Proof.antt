@@ -1,4 +1,5 @@
--- `poly_values::multiple_by_table` meets its contract: from digit i up the multiple is done. (b is the table's second vector.)
+-- `poly_values::multiple_by_table` meets its contract: from digit i up the multiple is done. (b is the table's second
+-- vector.)
 -- Assumes nothing.
 use mathlib.Core.Path.{_≡_, refl, sym, ap, _∙_, subst}
 use mathlib.Core.List.{List}

@@ -1,4 +1,5 @@
--- `roots::print_turn` meets its contract: where a turn goes on, it goes on behind what was read; else the number is past any file.
+-- `roots::print_turn` meets its contract: where a turn goes on, it goes on behind what was read; else the number is
+-- past any file.
 -- Assumes nothing.
 use mathlib.Core.Path.{sym}
 use native.Mathlib.Omega.{arith}

@@ -1,4 +1,5 @@
--- `roots::read_all` ends and stays within its room: a read that gives nothing ends it, and any other leaves less to fill.
+-- `roots::read_all` ends and stays within its room: a read that gives nothing ends it, and any other leaves less to
+-- fill.
 -- Assumes nothing.
 use mathlib.Core.Path.{_≡_, sym}
 use Prim.Native.Nat.{_-_, _≤_}

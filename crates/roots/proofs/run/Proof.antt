@@ -1,7 +1,10 @@
--- `roots::run` meets its contract: a walk of its MIR, by hand, since a local holds a reader, which holds the file. All that the proof knows of `new`, `next`, `bytes`, `moved` and `print_turn` is that each meets its contract.
---   Facts t r n k      what is known where t bytes are left: r is a reader of the file at n, and the k-th record stands there
+-- `roots::run` meets its contract: a walk of its MIR, by hand, since a local holds a reader, which holds the file. All
+-- that the proof knows of `new`, `next`, `bytes`, `moved` and `print_turn` is that each meets its contract.
+--   Facts t r n k      what is known where t bytes are left: r is a reader of the file at n, and the k-th record
+--                      stands there
 --   At r u n k         what is had at the head of the loop: the reader's machine value is u
---   more, ends         a turn that prints a line and moves the reader, and the turn that leaves the loop, with the rest of the body
+--   more, ends         a turn that prints a line and moves the reader, and the turn that leaves the loop, with the
+--                      rest of the body
 --   loops              the loop, by the number of bytes that are left.        walk   the MIR up to the loop
 -- A reader is Copy: each of its functions is passed a copy of what it owns.
 -- Assumes nothing.
@@ -299,7 +302,8 @@ module _ {M : Type 1} (𝓤 : URA M) (H : Heap 𝓤) (A : Atoms 𝓤) (W : Given
     below : (t t′ : ℕ) (r : Reader) (u : Val) (n k : ℕ) → t′ < t → Facts t′ r n k → ent 𝓤 (⋆ 𝓤 H A (At r u n k)) (Below t)
     below t t′ r u n k less f = via 𝓤 _ (enters t′ r u n k f) (via 𝓤 _ (guardI 𝓤 (t′ < t) (Inv t′) less) (exI 𝓤 (λ (t″ : ℕ). guard 𝓤 (t″ < t) (Inv t″)) t′))
 
-    -- what a turn leaves of the facts: the record number fits, the next place lies behind the record, and fewer bytes are left
+    -- what a turn leaves of the facts: the record number fits, the next place lies behind the record, and fewer bytes
+    -- are left
     k-next : {t n k : ℕ} {r : Reader} → Facts t r n k → n < len → k + 1 < 2 ^ 32
     k-next f ahead = omega (arith, f .number ahead, ahead, small)
 

@@ -1,4 +1,5 @@
--- `table_begin::split_part` meets its contract: the polynomial is copied and made monic, z^(2^m) + z reduced by it, and the greatest common divisor taken.
+-- `table_begin::split_part` meets its contract: the polynomial is copied and made monic, z^(2^m) + z reduced by it,
+-- and the greatest common divisor taken.
 -- Assumes nothing.
 use mathlib.Core.Path.{refl, sym}
 use native.Mathlib.Omega.{arith}

@@ -1,4 +1,5 @@
--- `table_finish::finish_lent` meets its contract. The loop's invariant: some numbers have been merged, and what lies ahead has the others.
+-- `table_finish::finish_lent` meets its contract. The loop's invariant: some numbers have been merged, and what lies
+-- ahead has the others.
 -- Assumes nothing.
 use Rattle.table_rules.specs.Layout.{byFactor}
 use Rattle.table_rules.specs.Table.{decode}

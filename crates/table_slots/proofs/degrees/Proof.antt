@@ -1,4 +1,5 @@
--- `table_slots::degrees` meets its contract: each test that fails denies that the table is sound, and where none does it is.
+-- `table_slots::degrees` meets its contract: each test that fails denies that the table is sound, and where none does
+-- it is.
 -- Assumes nothing.
 use native.Mathlib.Omega.{arith}
 use denote.Ref.{now}

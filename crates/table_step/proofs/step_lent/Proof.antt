@@ -1,4 +1,5 @@
--- `table_step::step_lent` meets its contract: what it reads is the factor to split, and what takes its place are the parts.
+-- `table_step::step_lent` meets its contract: what it reads is the factor to split, and what takes its place are the
+-- parts.
 -- Assumes nothing.
 use mathlib.Core.Path.{sym}
 use native.Mathlib.Omega.{arith}

@@ -1,4 +1,5 @@
--- `field::arithmetic::product_of` meets its contract. The loop keeps what `Halfway` says, and what is left of the first factor falls.
+-- `field::arithmetic::product_of` meets its contract. The loop keeps what `Halfway` says, and what is left of the
+-- first factor falls.
 -- Assumes nothing.
 use mathlib.Core.Path.{refl}
 use Prim.Native.Nat.{ℕ, _<_, _≤_, _^_}

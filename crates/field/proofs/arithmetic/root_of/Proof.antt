@@ -1,4 +1,5 @@
--- `field::arithmetic::root_of` meets its contract. The loop keeps what `SquaringRoot` says, once for each degree but the first.
+-- `field::arithmetic::root_of` meets its contract. The loop keeps what `SquaringRoot` says, once for each degree but
+-- the first.
 -- Assumes nothing.
 use Prim.Native.Nat.{_+_, _-_, _≤_}
 use native.Mathlib.Omega.{arith}

@@ -1,4 +1,5 @@
--- `field::rows::known_row` meets its contract. The loop's invariant: m is looked for among the rows from i on, and the row is that at i.
+-- `field::rows::known_row` meets its contract. The loop's invariant: m is looked for among the rows from i on, and the
+-- row is that at i.
 -- Assumes nothing.
 use Prim.Native.Nat.{_-_}
 use native.Mathlib.Omega.{arith}

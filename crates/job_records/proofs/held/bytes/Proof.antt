@@ -1,5 +1,9 @@
--- `job_records::held::bytes` meets its contract: a walk of its MIR, by hand. The struct is taken apart, and `job_records::body_of` is called on the slice and on what was read; the part of the slice that it answers is the result. All that the proof knows of `job_records::body_of` is that it meets its contract.
--- The struct is Copy: what it owns is had twice, one copy is kept whole for the exit, and of the other what file owns goes to the callee, beside the lifetime's token, which comes back. What an enum of numbers owns is made anew wherever it is asked.
+-- `job_records::held::bytes` meets its contract: a walk of its MIR, by hand. The struct is taken apart, and
+-- `job_records::body_of` is called on the slice and on what was read; the part of the slice that it answers is the
+-- result. All that the proof knows of `job_records::body_of` is that it meets its contract.
+-- The struct is Copy: what it owns is had twice, one copy is kept whole for the exit, and of the other what file owns
+-- goes to the callee, beside the lifetime's token, which comes back. What an enum of numbers owns is made anew
+-- wherever it is asked.
 -- Assumes nothing.
 use mathlib.Core.Path.{_≡_, refl}
 use Prim.Native.Nat.{ℕ}

@@ -1,4 +1,5 @@
--- `poly::values::evaluate_four` meets its contract. The loop's invariant: each chain is the value of the coefficients from k on.
+-- `poly::values::evaluate_four` meets its contract. The loop's invariant: each chain is the value of the coefficients
+-- from k on.
 -- Assumes nothing.
 use Prim.Native.Nat.{_+_}
 use native.Mathlib.Omega.{arith}

@@ -1,4 +1,5 @@
--- `poly_small::parting::roots_of_parts` meets its contract: the roots of the part, and behind them those of the cofactor.
+-- `poly_small::parting::roots_of_parts` meets its contract: the roots of the part, and behind them those of the
+-- cofactor.
 -- Assumes nothing.
 use mathlib.Core.Path.{refl, sym, ap, _∙_}
 use native.Mathlib.Omega.{arith}
