@@ -40,15 +40,17 @@ for j in range(0, size, 2):
 powers = [1]
 while len(powers) < order:
     powers.append(double(powers[-1]))
-log = [2 * order] + [0] * order
+# the log of an element is twice its position, that of 0 is odd: zeros stand between the powers, never in a run (crates/field/specs/Tables.antt)
+log = [1] + [0] * order
 for j in range(order):
-    log[powers[j]] = j
+    log[powers[j]] = 2 * j
+antilog = [x for power in powers + powers for x in (power, 0)]
 
 tables = (
     ("HALF", half, f"SIZE{m}"),
     ("LOG", log, f"SIZE{m}"),
     ("POWER", powers, f"SIZE{m} - 1"),
-    ("ANTILOG", powers + powers + [0] * order, f"3 * (SIZE{m} - 1)"),
+    ("ANTILOG", antilog, f"4 * (SIZE{m} - 1)"),
 )
 for name, entries, length in tables:
     print(f"pub const {name}{m}: [u16; {length}] = [")

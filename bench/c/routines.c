@@ -2,8 +2,8 @@
  * The proved polynomial routines (libpoly_face.a) beside the same algorithms in plain C, in field 11 (2048 elements, z^11 + z^2 + 1).
  *
  * Both sides hold a monic divisor by the logs of its low coefficients, divide in place from the top, spread squares,
- * and run Euclid's loop on two buffers that change roles. Tables: logs of 2048 elements, with twice the order at 0,
- * and antilogs of three times the order, the last third 0, so that a product by 0 needs no branch. Each side has its own.
+ * and run Euclid's loop on two buffers that change roles. Tables: logs of 2048 elements, even but for a 1 at 0, and
+ * antilogs of four times the order, 0 at the odd places, so that a product by 0 needs no branch. Each side has its own.
  * The loops are here, and neither side knows the lengths before it is called.
  */
 #include "../../tests/c/poly_face.h"
@@ -15,21 +15,21 @@
 enum { SIZE = 2048, ORDER = 2047, POLY = 2053, DEGREE = 32, LONG = 63, ROUNDS = 201 };
 
 /* the tables of the C side, and those that the proved side lends */
-static uint16_t logs[SIZE], antilogs[3 * ORDER], lent_logs[SIZE], lent_antilogs[3 * ORDER];
+static uint16_t logs[SIZE], antilogs[4 * ORDER], lent_logs[SIZE], lent_antilogs[4 * ORDER];
 
-#define FIELD 11, lent_logs, SIZE, lent_antilogs, 3 * ORDER
+#define FIELD 11, lent_logs, SIZE, lent_antilogs, 4 * ORDER
 
 static void make_tables(void)
 {
     unsigned x = 1;
     for (unsigned j = 0; j < ORDER; j++) {
-        antilogs[j] = antilogs[j + ORDER] = (uint16_t)x;
-        logs[x] = (uint16_t)j;
+        antilogs[2 * j] = antilogs[2 * (j + ORDER)] = (uint16_t)x;
+        logs[x] = (uint16_t)(2 * j);
         x <<= 1;
         if (x & SIZE)
             x ^= POLY;
     }
-    logs[0] = 2 * ORDER;
+    logs[0] = 1;
 }
 
 static void log_row(const uint16_t *p, size_t n, uint16_t *row)
@@ -71,7 +71,7 @@ static size_t make_monic(uint16_t *r, size_t n)
         n--;
     if (n == 0)
         return 0;
-    size_t s = logs[antilogs[ORDER - logs[r[n - 1]]]];
+    size_t s = logs[antilogs[2 * ORDER - logs[r[n - 1]]]];
     for (size_t i = 0; i + 1 < n; i++)
         r[i] = antilogs[s + logs[r[i]]];
     return n;
@@ -242,7 +242,7 @@ static double lend(void)
     for (int round = 0; round < ROUNDS; round++) {
         double start = now();
         polynomial_logs(11, lent_logs, SIZE);
-        polynomial_antilogs(11, lent_antilogs, 3 * ORDER);
+        polynomial_antilogs(11, lent_antilogs, 4 * ORDER);
         t[round] = now() - start;
     }
     return median(t);

@@ -19,7 +19,7 @@ static tables tables_of(uint16_t m)
 {
     tables *t = &lent[m];
     if (t->logs.at == NULL) {
-        *t = (tables){lend_room(1u << m), lend_room(3 * ((1u << m) - 1))};
+        *t = (tables){lend_room(1u << m), lend_room(4 * ((1u << m) - 1))};
         polynomial_logs(m, LENT(t->logs));
         polynomial_antilogs(m, LENT(t->antilogs));
         keep(t->logs);
@@ -94,13 +94,14 @@ static void run_z_power(given c)
     end(s);
 }
 
-/* 4: Tr(a^k z) modulo p; k has an antilog */
+/* 4: Tr(a^k z) modulo p; a^k is the antilog of 2k */
 static void run_trace(given c)
 {
-    if (c.k >= c.in.antilogs.n)
+    size_t twice = 2 * (size_t)c.k;
+    if (twice >= c.in.antilogs.n)
         return;
     list row = lend_room(c.p.n), w = lend_room(c.p.n), s = lend_room(2 * c.p.n), sum = lend_room(c.p.n);
-    polynomial_trace_of(FIELD(c), LENT(c.p), c.in.antilogs.at[c.k], LENT(row), LENT(w), LENT(s), LENT(sum));
+    polynomial_trace_of(FIELD(c), LENT(c.p), c.in.antilogs.at[twice], LENT(row), LENT(w), LENT(s), LENT(sum));
     print_line(TRACE, sum, sum.n);
     end(row);
     end(w);

@@ -129,7 +129,7 @@ fn power_sum(antilogs: &[u16], p: Places, k: u32) -> u16
     let mut i: usize = 0;
     while i < n {
         let e = (at[i] as u32) * k % 2047;
-        sum = sum ^ antilogs[e as usize];
+        sum = sum ^ antilogs[2 * (e as usize)];
         i += 1;
     }
     sum

@@ -43,10 +43,10 @@ pub fn root_of(degree: u16, poly: u16, b: u16) -> u16
     y
 }
 
-// The shared position of a nonzero element, over a lent log table.
+// The shared position of a nonzero element, over a lent log table: half its log.
 pub fn position_of(degree: u16, poly: u16, logs: &[u16], r: u16) -> u16
     requires { ⌜ Logs (fieldOf degree poly) (now logs) × (0 < r) × (r < 2 ^ degree) ⌝ }
     ensures { λ j. ⌜ j ≡ position (fieldOf degree poly) r ⌝ }
 {
-    logs[r as usize]
+    logs[r as usize] / 2
 }

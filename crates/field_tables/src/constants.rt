@@ -43,21 +43,21 @@ pub fn logs11() -> [u16; SIZE11]
 }
 
 // The antilog table of the field of 16 elements.
-pub fn antilogs4() -> [u16; 3 * (SIZE4 - 1)]
+pub fn antilogs4() -> [u16; 4 * (SIZE4 - 1)]
     ensures { λ r. ⌜ Antilogs (fieldAt 4) r ⌝ }
 {
     ANTILOG4
 }
 
 // The antilog table of the field of 256 elements.
-pub fn antilogs8() -> [u16; 3 * (SIZE8 - 1)]
+pub fn antilogs8() -> [u16; 4 * (SIZE8 - 1)]
     ensures { λ r. ⌜ Antilogs (fieldAt 8) r ⌝ }
 {
     ANTILOG8
 }
 
 // The antilog table of the field of 2048 elements.
-pub fn antilogs11() -> [u16; 3 * (SIZE11 - 1)]
+pub fn antilogs11() -> [u16; 4 * (SIZE11 - 1)]
     ensures { λ r. ⌜ Antilogs (fieldAt 11) r ⌝ }
 {
     ANTILOG11

@@ -123,16 +123,16 @@ module _ {m : ℕ} {ls ts : List ℕ} {n : ℕ} {rows : List ℕ} {i : ℕ} {tra
       let d : at + n - at ≡ n = omega arith in
       ap₂ (λ j l. take j l) d (ap (λ j. drop j traces) (p .place) ∙ p .given .traced .rest) ∙ take-zeros n (length traces - k * n) (omega (arith, p .place))
 
-  -- the level indexes the antilog table
-  pub levelling-fits : k ≤ i → k < length ts
+  -- twice the level indexes the antilog table
+  pub levelling-fits : k ≤ i → 2 * k < length ts
   levelling-fits h = level-fits {p = []} (record { tables = p .given .tables; small = tt; few = omega arith; level = omega (arith, p .given .level) })
 
   -- a^k
-  base : k ≤ i → getD ts k 0 ≡ power (G m) 2 k
+  base : k ≤ i → getD ts (2 * k) 0 ≡ power (G m) 2 k
   base h = level-power {p = []} (record { tables = p .given .tables; small = tt; few = omega arith; level = omega (arith, p .given .level) })
 
   -- the sum can be added there
-  pub levelling-asks : k ≤ i → Summable m ls ts rows m (getD ts k 0) (take (at + n - at) (drop at traces))
+  pub levelling-asks : k ≤ i → Summable m ls ts rows m (getD ts (2 * k) 0) (take (at + n - at) (drop at traces))
   levelling-asks h =
       let z = zeros-at h in
       record {
@@ -144,7 +144,7 @@ module _ {m : ℕ} {ls ts : List ℕ} {n : ℕ} {rows : List ℕ} {i : ℕ} {tra
 
   -- one level more
   pub levelling-on : {y : List ℕ} → k ≤ i
-      → y ≡ add (G m) (take (at + n - at) (drop at traces)) (traceSum m (length (take (at + n - at) (drop at traces))) m (getD ts k 0) rows)
+      → y ≡ add (G m) (take (at + n - at) (drop at traces)) (traceSum m (length (take (at + n - at) (drop at traces))) m (getD ts (2 * k) 0) rows)
       → Levelling m ls ts n rows i traces₀ (take at traces ++ (y ++ drop (at + n - at) (drop at traces))) (k + 1) (at + n)
   unfolding levelSum levelSums
   levelling-on {y} h e =

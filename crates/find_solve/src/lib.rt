@@ -71,7 +71,7 @@ fn trace_to(
     let mut at = (ready as usize) * n;
     while k <= level {
         let e = at + n;
-        let b = antilogs[k as usize];
+        let b = antilogs[2 * (k as usize)];
         add_trace(m, logs, antilogs, rows, m, b, &mut traces[at..e]);
         at = e;
         k += 1;

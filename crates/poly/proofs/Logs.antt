@@ -6,27 +6,26 @@
 --   antilog-log, log-is-log        the antilog of a log is the element
 --   held-row, row-is-row           a polynomial is held by its row
 --   held-below, held-long          what a row holds are elements, as many as its logs
---   inverse-fits, inverse-at       the antilog of the order less the log is the inverse
+--   inverse-fits, inverse-at       the antilog of twice the order less the log is the inverse
 -- Assumes nothing.
 use mathlib.Core.Path.{_≡_, refl, sym, ap, ap₂, _∙_, subst}
 use mathlib.Core.Bool.{Bool, true, false, cond}
 use mathlib.Core.List.{List, [], _∷_}
-use Prim.Native.Nat.{ℕ, zero, suc, _+_, _-_, _*_, _^_, _≤_, _<_}
+use Prim.Native.Nat.{ℕ, zero, suc, _+_, _-_, _*_, _/_, _%_, _^_, _≤_, _<_}
 use native.Mathlib.Nat.{not-suc-le-zero, le-of-suc-le-suc}
 use native.Mathlib.Decide.{decLt}
 use native.Mathlib.Omega.{arith}
-use borrow.Author.Tests.{lt-ltb, le-ltb}
-use lib.Dec.{ltb}
+use lib.Dec.{eqb}
 use lib.Pow.{pow-pos}
 use lib.ListN.{length, getD, length-map}
 use Rattle.algebra.specs.Field.{OnNumbers, power}
 use Rattle.algebra.specs.Polynomial.{Below}
 use Rattle.field.proofs.Known.{listed}
-use Rattle.field.specs.Field.{Field, size, order, mul, inverse, numbers, fieldAt, G}
+use Rattle.field.specs.Field.{Field, size, order, mul, inverse, numbers, position, fieldAt, G}
 use Rattle.field.specs.Tables.{logOf, antilogOf}
 use Rattle.field.proofs.Ring.{power-lt, power-add}
 use Rattle.field.proofs.Generator.{Generated, generated, Small, small, one-below, position-is, power-order, inverse-only}
-use Rattle.field.proofs.Logarithms.{log-position, log-lt, log-le, log-product}
+use Rattle.field.proofs.Logarithms.{log-position, antilog-even, log-lt, log-product}
 use Rattle.field.proofs.Instance.{known-numbers}
 use Rattle.poly.specs.Lent.{Lent, IsLog, LogRow, logRow, held}
 
@@ -36,16 +35,11 @@ module _ (F : Field) (gen : Generated F) where
   -- an antilog is an element
   antilog-lt : (j : ℕ) → antilogOf F j < size F
   unfolding antilogOf
-  antilog-lt j = go (ltb j (2 * order F))
+  antilog-lt j = go (eqb (j % 2) 0)
     where
-      go : (b : Bool) → cond b (power (numbers F) 2 j) 0 < size F
-      go true = power-lt F (gen .monic) (one-below F gen) 2 j
+      go : (b : Bool) → cond b (power (numbers F) 2 (j / 2)) 0 < size F
+      go true = power-lt F (gen .monic) (one-below F gen) 2 (j / 2)
       go false = pow-pos (F .degree)
-
-  -- below twice the order the table holds the powers
-  antilog-power : (j : ℕ) → j < 2 * order F → antilogOf F j ≡ power (numbers F) 2 j
-  unfolding antilogOf
-  antilog-power j h = rw (lt-ltb j (2 * order F) h)
 
   -- the antilog of a log
   back : (x : ℕ) → x < size F → antilogOf F (logOf F x) ≡ x
@@ -53,24 +47,22 @@ module _ (F : Field) (gen : Generated F) where
   back x h = go (decLt 0 x)
     where
       go : Dec (0 < x) → antilogOf F (logOf F x) ≡ x
-      go (yes p) =
-          let l = log-lt F gen x p h in
-          antilog-power (logOf F x) (omega arith) ∙ ap (power (numbers F) 2) (log-position F x p) ∙ position-is F gen x p h .1
-      go (no z) =
-          let e : x ≡ 0 = omega arith in
-          ap (λ y. antilogOf F (logOf F y)) e ∙ rw (le-ltb (2 * order F) (2 * order F) (omega arith)) (sym e)
+      go (yes p) = ap (antilogOf F) (log-position F x p) ∙ antilog-even F (position F x) ∙ position-is F gen x p h .1
+      go (no z) = let e : x ≡ 0 = omega arith in ap (λ y. antilogOf F (logOf F y)) e ∙ sym e
 
   -- the inverse by logs
-  back-inverse : (x : ℕ) → 0 < x → x < size F → antilogOf F (order F - logOf F x) ≡ inverse F x
+  back-inverse : (x : ℕ) → 0 < x → x < size F → antilogOf F (2 * order F - logOf F x) ≡ inverse F x
   back-inverse x p h =
-      let l = log-lt F gen x p h in
-      let two = gen .two in
-      let j : ℕ = order F - logOf F x in
-      let below : antilogOf F j < size F = antilog-lt j in
-      let whole : logOf F x + j ≡ order F = omega arith in
-      sym (inverse-only F gen x (antilogOf F j) p h below
-      (ap₂ (mul F) (sym (back x h) ∙ antilog-power (logOf F x) (omega arith)) (antilog-power j (omega arith))
-      ∙ sym (power-add F (gen .monic) (one-below F gen) 2 (logOf F x) j) ∙ ap (power (numbers F) 2) whole ∙ power-order F gen))
+      let at = position-is F gen x p h in
+      let l = at .0 in
+      let i : ℕ = position F x in
+      let j : ℕ = order F - i in
+      let whole : i + j ≡ order F = omega arith in
+      let place : 2 * order F - logOf F x ≡ 2 * j = omega (arith, log-position F x p) in
+      ap (antilogOf F) place ∙ antilog-even F j
+      ∙ sym (inverse-only F gen x (power (numbers F) 2 j) p h (power-lt F (gen .monic) (one-below F gen) 2 j)
+      (ap (λ (y : ℕ). mul F y (power (numbers F) 2 j)) (sym (at .1))
+      ∙ sym (power-add F (gen .monic) (one-below F gen) 2 i j) ∙ ap (power (numbers F) 2) whole ∙ power-order F gen))
 
 -- ---- over lent tables
 
@@ -98,8 +90,8 @@ module _ {m : ℕ} {logs antilogs : List ℕ} (l : Lent m logs antilogs) where
         arith,
         l .antilogs .entries,
         log-at h,
-        log-lt (fieldAt m) field-of t p h,
-        log-le (fieldAt m) field-of (antilogOf (fieldAt m) x) (antilog-lt (fieldAt m) field-of x),
+        log-lt (fieldAt m) field-of t h,
+        log-lt (fieldAt m) field-of (antilogOf (fieldAt m) x) (antilog-lt (fieldAt m) field-of x),
         e,
       )
 
@@ -141,16 +133,16 @@ module _ {m : ℕ} {logs antilogs : List ℕ} (l : Lent m logs antilogs) where
   held-below (x ∷ row) = (antilog-lt (fieldAt m) field-of x, held-below row)
 
   -- the inverse
-  pub inverse-fits : {x : ℕ} → 0 < x → x < 2 ^ m → (getD logs x 0 ≤ length logs - 1) × (length logs - 1 - getD logs x 0 < length antilogs)
+  pub inverse-fits : {x : ℕ} → 0 < x → x < 2 ^ m → (getD logs x 0 ≤ 2 * (length logs - 1)) × (2 * (length logs - 1) - getD logs x 0 < length antilogs)
   inverse-fits {x} p h =
       let two = field-of .two in
-      let k = log-lt (fieldAt m) field-of x p h in
+      let k = log-lt (fieldAt m) field-of x h in
       (omega (arith, l .logs .entries, log-at h), omega (arith, l .logs .entries, l .antilogs .entries, log-at h))
 
-  pub inverse-at : {x : ℕ} → 0 < x → x < 2 ^ m → getD antilogs (length logs - 1 - getD logs x 0) 0 ≡ inverse (fieldAt m) x
+  pub inverse-at : {x : ℕ} → 0 < x → x < 2 ^ m → getD antilogs (2 * (length logs - 1) - getD logs x 0) 0 ≡ inverse (fieldAt m) x
   inverse-at {x} p h =
-      let e : length logs - 1 - getD logs x 0 ≡ order (fieldAt m) - logOf (fieldAt m) x = ap₂ (λ n i. n - 1 - i) (l .logs .entries) (log-at h) in
-      l .antilogs .entry (length logs - 1 - getD logs x 0) (omega (arith, inverse-fits p h .1, l .antilogs .entries))
+      let e : 2 * (length logs - 1) - getD logs x 0 ≡ 2 * order (fieldAt m) - logOf (fieldAt m) x = ap₂ (λ n i. 2 * (n - 1) - i) (l .logs .entries) (log-at h) in
+      l .antilogs .entry (2 * (length logs - 1) - getD logs x 0) (omega (arith, inverse-fits p h .1, l .antilogs .entries))
       ∙ ap (antilogOf (fieldAt m)) e ∙ back-inverse (fieldAt m) field-of x p h
 
 pub held-long : (m : ℕ) (row : List ℕ) → length (held m row) ≡ length row

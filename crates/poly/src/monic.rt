@@ -21,12 +21,12 @@ pub fn top(r: &[u16]) -> usize
     0
 }
 
-// The inverse of x: the antilog of the order less its log.
+// The inverse of x: the antilog of twice the order less its log.
 pub fn inverse_by_logs(m: u16, logs: &[u16], antilogs: &[u16], x: u16) -> u16
     requires { ⌜ Lent m (now logs) (now antilogs) × (0 < x) × (x < 2 ^ m) ⌝ }
     ensures { λ r. ⌜ r ≡ inverse (fieldAt m) x ⌝ }
 {
-    antilogs[logs.len() - 1 - logs[x as usize] as usize]
+    antilogs[2 * (logs.len() - 1) - logs[x as usize] as usize]
 }
 
 // Multiplies each coefficient of r by v.

@@ -26,7 +26,7 @@ logsKind = record { Holds = λ m. Logs (fieldAt m); entries = λ m. 2 ^ m; whole
 
 -- the antilog tables
 abbrev pub antilogsKind : Kind
-antilogsKind = record { Holds = λ m. Antilogs (fieldAt m); entries = λ m. 3 * (2 ^ m - 1); whole = λ h. h .entries }
+antilogsKind = record { Holds = λ m. Antilogs (fieldAt m); entries = λ m. 4 * (2 ^ m - 1); whole = λ h. h .entries }
 
 module _ (K : Kind) {m n : ℕ} {table : List ℕ} (e : m ≡ n) (h : K .Holds n table) where
   -- the table has as many entries as the room was asked for

@@ -44,8 +44,8 @@ pub extern "C" fn polynomial_logs(m: u16, room: &mut [u16])
 // Writes the antilog table of the field of degree m to the front of the room.
 #[no_mangle]
 pub extern "C" fn polynomial_antilogs(m: u16, room: &mut [u16])
-    requires { ⌜ (known m ≡ true) × (3 * (2 ^ m - 1) ≤ length (now room)) ⌝ }
-    ensures { λ _. ⌜ Antilogs (fieldAt m) (take (3 * (2 ^ m - 1)) (now (room .exit)))
+    requires { ⌜ (known m ≡ true) × (4 * (2 ^ m - 1) ≤ length (now room)) ⌝ }
+    ensures { λ _. ⌜ Antilogs (fieldAt m) (take (4 * (2 ^ m - 1)) (now (room .exit)))
         × (length (now (room .exit)) ≡ length (now (room .entry))) ⌝ }
 {
     match m {

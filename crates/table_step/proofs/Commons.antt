@@ -1,6 +1,6 @@
 -- The first part of a factor, as the code finds it: the greatest common divisor with a polynomial that stands for
 -- Tr(a^i z), as the trace sum modulo the factor does.
---   level-fits, level-power   the antilog of the level i is a^i
+--   level-fits, level-power   the antilog of twice the level i is a^i
 --   traced, traced-long       the trace sum that the code makes is that of a^i z, as long as the factor
 --   traced-same               it has the greatest common divisor with the factor that Tr(a^i z) has
 --   gcd-asks, common-is       what Euclid's loop takes and leaves
@@ -10,7 +10,6 @@ use mathlib.Core.Bool.{true}
 use mathlib.Core.List.{List, [], _∷_}
 use Prim.Native.Nat.{ℕ, suc, _-_, _*_, _^_, _≤_, _<_}
 use native.Mathlib.Omega.{arith}
-use borrow.Author.Tests.{lt-ltb}
 use lib.Dec.{lit<}
 use lib.ListN.{length, getD, take}
 use lib.Seq.{length-take-le}
@@ -22,8 +21,8 @@ use Rattle.algebra.specs.Routines.{rem, traceMod, gcd}
 use Rattle.algebra.proofs.Lengths.{length-rem, length-traceMod}
 use Rattle.algebra.proofs.StaysBelow.{power-below, rem-below, traceMod-below}
 use Rattle.algebra.proofs.NumberSteps.{trace-run}
-use Rattle.field.specs.Field.{order, fieldAt, G}
-use Rattle.field.specs.Tables.{antilogOf}
+use Rattle.field.specs.Field.{fieldAt, G}
+use Rattle.field.proofs.Logarithms.{antilogs-power}
 use Rattle.slices.specs.Lists.{copied}
 use Rattle.slices.proofs.Lists.{copied-front, length-copied}
 use Rattle.poly_gcd.specs.Euclid.{Turnable, GcdIs}
@@ -37,23 +36,22 @@ degree-less : (m : ℕ) → known m ≡ true → m < 2 ^ m
 degree-less m k = by-row (λ n p. n < 2 ^ n) (lit< tt) (lit< tt) (lit< tt) (listed m k)
 
 module _ {m : ℕ} {ls ts p : List ℕ} {i : ℕ} (s : Splittable m ls ts p i) where
-  -- the level indexes the antilog table
-  pub level-fits : i < length ts
-  level-fits = omega (arith, s .level, s .tables .antilogs .entries, degree-less m (s .tables .degree))
+  -- twice the level indexes the antilog table, and its entry there is a^i
+  level-entry : (2 * i < length ts) × (getD ts (2 * i) 0 ≡ power (G m) 2 i)
+  level-entry = antilogs-power (fieldAt m) (s .tables .antilogs) i (omega (arith, s .level, degree-less m (s .tables .degree)))
 
-  -- and its entry there is a^i
-  pub level-power : getD ts i 0 ≡ power (G m) 2 i
-  unfolding antilogOf
-  level-power =
-      let h : i < 2 * order (fieldAt m) = omega (arith, s .level, degree-less m (s .tables .degree)) in
-      s .tables .antilogs .entry i (omega arith) ∙ rw (lt-ltb i (2 * order (fieldAt m)) h)
+  pub level-fits : 2 * i < length ts
+  level-fits = level-entry .0
+
+  pub level-power : getD ts (2 * i) 0 ≡ power (G m) 2 i
+  level-power = level-entry .1
 
   -- a^i is an element
   pub power-small : power (G m) 2 i < 2 ^ m
   power-small = power-below (numbers-of (s .tables)) 2 i (field-of (s .tables) .two)
 
   -- so is the entry
-  pub level-small : getD ts i 0 < 2 ^ m
+  pub level-small : getD ts (2 * i) 0 < 2 ^ m
   level-small = subst (λ b. b < 2 ^ m) (sym level-power) power-small
 
   -- a^i z modulo the factor, and its trace sum
@@ -65,7 +63,7 @@ module _ {m : ℕ} {ls ts p : List ℕ} {i : ℕ} (s : Splittable m ls ts p i) w
   trace = traceMod (G m) p m start
 
   -- what the code sums up is that
-  pub traced : {t : List ℕ} → t ≡ traceMod (G m) p m (rem (G m) p (0 ∷ getD ts i 0 ∷ [])) → t ≡ trace
+  pub traced : {t : List ℕ} → t ≡ traceMod (G m) p m (rem (G m) p (0 ∷ getD ts (2 * i) 0 ∷ [])) → t ≡ trace
   traced e = e ∙ ap (λ b. traceMod (G m) p m (rem (G m) p (0 ∷ b ∷ []))) level-power
 
   -- it is as long as the factor

@@ -51,7 +51,7 @@ fn trace_at(m: u16, logs: &[u16], antilogs: &[u16], p: &[u16], level: u16, t: &m
 {
     let n = p.len();
     let e = n + n;
-    let b = antilogs[level as usize];
+    let b = antilogs[2 * (level as usize)];
     let mut row = [0u16; LIMIT];
     let mut w = [0u16; LIMIT];
     let mut s = [0u16; SQUARE];

@@ -37,6 +37,9 @@ cast-sum c = search needs
 mul-sum : tie.Need-mul-sum Inv-loop μ-loop
 mul-sum c = search needs
 
+mul-sum-2 : tie.Need-mul-sum-2 Inv-loop μ-loop
+mul-sum-2 c = search needs
+
 shared-slice-read-sum : tie.Need-shared-slice-read-sum Inv-loop μ-loop
 shared-slice-read-sum c = let f = c .before .before .before .before .before .pre .0 in let n = f .entries in omega arith
 
@@ -66,6 +69,7 @@ power-sum-spec =
     mul-e-2
     cast-sum
     mul-sum
+    mul-sum-2
     shared-slice-read-sum
     add-i
     loop-less

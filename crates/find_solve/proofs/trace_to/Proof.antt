@@ -26,7 +26,10 @@ cast-b : tie.Need-cast-b Inv-loop μ-loop
 cast-b c = search needs
 
 mul-b : tie.Need-mul-b Inv-loop μ-loop
-mul-b c = let h = levelling-fits (c .before .loop .inv) (omega arith) in omega arith
+mul-b c = search needs
+
+mul-b-2 : tie.Need-mul-b-2 Inv-loop μ-loop
+mul-b-2 c = let h = levelling-fits (c .before .loop .inv) (omega arith) in omega arith
 
 shared-slice-read-b : tie.Need-shared-slice-read-b Inv-loop μ-loop
 shared-slice-read-b c = levelling-fits (c .before .before .loop .inv) (omega arith)
@@ -72,6 +75,7 @@ trace-to-spec =
     add-e
     cast-b
     mul-b
+    mul-b-2
     shared-slice-read-b
     mul-add-trace
     sub-add-trace

@@ -14,6 +14,9 @@ add-e c = search needs
 mul-b : tie.Need-mul-b
 mul-b c = search needs
 
+mul-b-2 : tie.Need-mul-b-2
+mul-b-2 c = search needs
+
 shared-slice-read-b : tie.Need-shared-slice-read-b
 shared-slice-read-b c = level-fits (c .before .before .before .before .before .pre .0)
 
@@ -61,6 +64,7 @@ trace-at-spec =
     (tie.spec
     add-e
     mul-b
+    mul-b-2
     shared-slice-read-b
     array-borrow-prefix-row
     slice-aggregate-trace-of
