@@ -1,6 +1,6 @@
 #!/usr/bin/env python3
 """tables.py: prints the constant tables of a field, as crates/field_tables/src/halves.rt, logtables.rt and antilogs.rt hold
-them (the powers for field 11 alone).
+them.
 
 A new field costs a row in crates/field, these tables, and a few lines that name each (constants.rt); the prover tests every entry."""
 import sys
@@ -49,7 +49,6 @@ antilog = [x for power in powers + powers for x in (power, 0)]
 tables = (
     ("HALF", half, f"SIZE{m}"),
     ("LOG", log, f"SIZE{m}"),
-    ("POWER", powers, f"SIZE{m} - 1"),
     ("ANTILOG", antilog, f"4 * (SIZE{m} - 1)"),
 )
 for name, entries, length in tables:

@@ -1,6 +1,6 @@
 -- From elements to numbers: the theory is proved over a type of elements, whose laws have no side conditions; here is
--- what carries it to lists of numbers
--- below q, as the code holds them. `low` forgets that a number is below q, and commutes with every operation.
+-- what carries it to lists of numbers below q, as the code holds them. `low` forgets that a number is below q, and
+-- commutes with every operation.
 --   Elem         the field elements: the numbers below q
 --   elems, laws  their operations, and that they obey the laws
 --   low          a list of elements as numbers

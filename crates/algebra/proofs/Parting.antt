@@ -1,7 +1,6 @@
 -- A product over two distinct roots or more parts at some level below m. So a factor of degree 3 comes down to degrees
--- 1 and 2 with no element tried: take its
--- part that splits (`rootsOf-begin`), then the first level whose gcd is neither 1 nor all of it; the roots are those
--- of the two parts (`rootsOf-parts`).
+-- 1 and 2 with no element tried: take its part that splits (`rootsOf-begin`), then the first level whose gcd is
+-- neither 1 nor all of it; the roots are those of the two parts (`rootsOf-parts`).
 --   keep-some      a test that some element passes keeps something
 --   keep-fewer     a test that some element fails does not keep all
 --   parting-level  THE LEVEL: some i below m at which gcd with Tr(2^i z) is neither 1 nor all

@@ -1,6 +1,6 @@
 -- The ring of sequences of coefficients (formal power series). Two sequences are equal where all coefficients are, and
--- the equality is antt's own: `rw`,
--- `simp` and `cc` work on it. A polynomial is a sequence that a list holds (`Coefficients.antt`).
+-- the equality is antt's own: `rw`, `simp` and `cc` work on it. A polynomial is a sequence that a list holds
+-- (`Coefficients.antt`).
 --   Series           a sequence, constant first
 --   afterFirst           what stands behind its first place
 --   startingWith            c + z f

@@ -1,6 +1,6 @@
 -- The splitting law: a polynomial t parts the product over distinct roots into the product over those where t is 0,
--- which is the greatest common divisor with
--- t, and the product over the others, which is the quotient. No division and no Bezout identity is needed.
+-- which is the greatest common divisor with t, and the product over the others, which is the quotient. No division and
+-- no Bezout identity is needed.
 --   split-product   the product over s is the product over what a test keeps times the product over what it leaves
 --   gcd-split       THE SPLIT: the product over the roots in s at which t is 0 is a greatest common divisor of the
 --                   product over s and t

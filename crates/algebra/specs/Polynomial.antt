@@ -1,7 +1,6 @@
 -- Polynomials over a field of characteristic 2, as lists of coefficients, constant first. Zeros at the top are
--- allowed: two lists are the same
--- polynomial where they have the same coefficient at every place. All is stated over the field's operations, for
--- numbers and for elements alike.
+-- allowed: two lists are the same polynomial where they have the same coefficient at every place. All is stated over
+-- the field's operations, for numbers and for elements alike.
 --   coef           the coefficient at each place: 0 past the end
 --   eval           the value at x
 --   isRoot         is f 0 at x?

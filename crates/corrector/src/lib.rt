@@ -1,9 +1,8 @@
 // The block corrector (docs/RULES.md section 7): words of 2047 bits in field 11, in 256 bytes. A word is divided by
 // the generator of strength 8; where the remainder is 0 it is a codeword of every strength, and nothing more is done.
 // Else the remainder gives the odd syndromes, Berlekamp's register the locator polynomial, the root finder its roots
-// by
-// the engine that is cheapest at its degree, and their positions under the recorders' convention the wrong bits. They
-// are flipped where there are at most t of them and their odd power sums are the syndromes: that decides exactly
+// by the engine that is cheapest at its degree, and their positions under the recorders' convention the wrong bits.
+// They are flipped where there are at most t of them and their odd power sums are the syndromes: that decides exactly
 // whether a codeword lies within t bits.
 ghost use mathlib.Core.Path.{_≡_};
 ghost use mathlib.Core.Bool.{true, false};
@@ -59,8 +58,7 @@ fn nowhere() -> Places
 
 // Writes the roots of a locator polynomial to the front of the list, by the engine that is cheapest at its degree:
 // closed forms, and above them the trace engine (the plain search costs more at every degree up to 8). Returns how
-// many
-// there are.
+// many there are.
 fn roots_of(logs: &[u16], antilogs: &[u16], locator: [u16; 9], roots: &mut [u16]) -> u16
     requires { ⌜ Lent 11 (now logs) (now antilogs) × Findable locator (now roots) ⌝ }
     ensures { λ k. ⌜ Front (rootsAt 11 locator) k (now (roots .exit)) ⌝ }
@@ -254,8 +252,7 @@ fn mend_block(strength: u16, word: &mut [u8]) -> Corrected
 }
 
 // Makes the word the codeword of this strength within so many bits of it, if there is one, and tells how many bits
-// were
-// flipped.
+// were flipped.
 pub fn correct(strength: u16, word: &mut [u8]) -> Corrected
     ensures { λ r. ⌜ Corrects strength (now (word .entry)) (toldCorrected r) (now (word .exit)) ⌝ }
 {

@@ -1,6 +1,5 @@
 -- What is checked before a bit is flipped: the power sums of what was found are the odd syndromes. The even ones
--- follow
--- by squares.
+-- follow by squares.
 --   value-square      the value of a word at x^2 is the square of its value at x;  syndrome-square  so of a syndrome
 --   codeword-odd      a word that is zero at a, a^3, .., a^(2t-1) is a codeword
 --   check-right       w with the places of f flipped is a codeword where the odd power sums of f are the syndromes of

@@ -1,6 +1,5 @@
 -- THE CORRECTOR IS COMPLETE: where a codeword lies within t of w, the candidate is that codeword. So w can be
--- corrected
--- exactly where the candidate corrects it.
+-- corrected exactly where the candidate corrects it.
 --   difference-difference   what is different twice is as before
 --   map-upFrom-at           what stands at k in a list made of numbers in a row
 --   complete                a codeword within t of w is the candidate

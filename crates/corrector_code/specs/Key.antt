@@ -1,9 +1,8 @@
 -- The key equation of a binary code, solved by Berlekamp's shift register. From the power sums s_1, s_2, .. of unknown
 -- locators X it finds the locator polynomial, the product of 1 + X z: a polynomial whose product with s has no odd
 -- coefficient. A sequence s has s_0 = 1, so that the first turn is like the others, and the even power sums are
--- squares
--- of earlier ones, so that a turn takes two.
--- Laws and inner contracts alone cite it: what the corrector promises does not rest on it.
+-- squares of earlier ones, so that a turn takes two. Laws and inner contracts alone cite it: what the corrector
+-- promises does not rest on it.
 --   Register          locator and spare polynomial, in a fixed number of coefficients; their degrees are at most low
 --                     and high
 --   conv p s k        the coefficient at k of the product of p and s

@@ -1,6 +1,5 @@
 -- What each register of the run is, whatever the power sums: nine coefficients each, elements of the field, and
--- degrees
--- that add up. So the code's numbers fit.
+-- degrees that add up. So the code's numbers fit.
 --   Fine, register-fine    each register is so
 --   Turning, turning-sound, turning-on, turning-end   the loop over the turns
 -- Assumes nothing.

@@ -1,6 +1,5 @@
 -- The trace engine and the plain trial agree: at each cutoff that is not refused the whole call and the search answer
--- under the same number, and leave the
--- same list.
+-- under the same number, and leave the same list.
 --   skipped   a test that does not hold decides nothing;  number-is  the number of an outcome does not depend on the
 --             values
 --   agree-number, agree-list   the two calls

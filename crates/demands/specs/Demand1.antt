@@ -1,6 +1,5 @@
 -- DEMAND 1: every input gets a fixed outcome. What is wrong is refused by the entry that receives it, under its own
--- number, in a fixed order, and a refusal
--- writes nothing in lent memory.
+-- number, in a fixed order, and a refusal writes nothing in lent memory.
 --   Decides   an outcome by tests in their order: a refusal's number alone exactly when its test is the first to hold,
 --             0 with the values exactly when none holds
 --   Spares    lent memory afterwards: as it was where a test holds, and else what the entry writes
@@ -58,8 +57,7 @@ pub record Spares (tests : List (ℕ × Bool)) (new old after : List ℕ) : Type
   pub accepted : Passed tests → after ≡ new
 
 -- what refuses the corrector's word, in the order 22, 23, 24, and that a refusal writes nothing; 0 with the flips
--- exactly
--- when the word that is left is a codeword near
+-- exactly when the word that is left is a codeword near
 pub record Settles (t : ℕ) (word : List ℕ) (outcome : ℕ × List ℕ) (after : List ℕ) : Type 0 where
   pub block : (outcome ≡ (22, [])) ↔ (IsBlock word → ⊥)
   pub strength : (outcome ≡ (23, [])) ↔ (IsBlock word × (IsStrength t → ⊥))

@@ -1,6 +1,5 @@
 -- DEMAND 2: for every accepted polynomial the list holds each field element at which it is zero, once, ascending, and
--- no other. The trace engine and a plain
--- trial of every element agree.
+-- no other. The trace engine and a plain trial of every element agree.
 --   valueAt    the value of a polynomial at an element of the field of degree m
 --   RootList   a list is the root list of f
 --   Holds      a root list fills the front of a lent list, and what is behind it is as it was

@@ -1,8 +1,7 @@
 -- DEMAND 3: the splitting can be followed. From a table begun by an accepted polynomial and written by our steps
--- alone, each step parts the first group of roots
--- above the cutoff by its next trace bit and leaves the rest be; the steps to the end number exactly the groups, level
--- by level, that outnumber the cutoff; never
--- more than m times the whole part of s/(c+1). All is over demand 2's root set.
+-- alone, each step parts the first group of roots above the cutoff by its next trace bit and leaves the rest be; the
+-- steps to the end number exactly the groups, level by level, that outnumber the cutoff; never more than m times the
+-- whole part of s/(c+1). All is over demand 2's root set.
 --   After       a table is what so many calls of step leave of another, each admitted by the contract of step
 --   Followed    step and finish from a table begun by a polynomial that begin accepts, at the cutoff c: whatever their
 --               contracts admit

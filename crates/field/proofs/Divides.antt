@@ -1,6 +1,5 @@
 -- Division without carries, as far as the inverse's routine needs it: which number divides which, and that the
--- remainder by a field's polynomial
--- differs from a number by a multiple of the polynomial.
+-- remainder by a field's polynomial differs from a number by a multiple of the polynomial.
 --   CarryFreeDivides d x   d times some number is x, without carries
 --   unit-divisor           what divides 1 is 1
 --   reduce-quotient        reduce F x is x plus a multiple of the polynomial

@@ -1,7 +1,6 @@
 -- The powers of 2 run through every nonzero element, each once in 2^m - 1 steps. So each nonzero element has an
--- inverse, and a product is 0 only
--- where a factor is. What a field must pass for this is one test that antt computes: 2, 4, 8, .. come to 1 first at
--- the power 2^m - 1.
+-- inverse, and a product is 0 only where a factor is. What a field must pass for this is one test that antt computes:
+-- 2, 4, 8, .. come to 1 first at the power 2^m - 1.
 --   firstOne        x, 2x, 4x, .. are not 1 for n steps, and 1 at the next
 --   Generated       what antt computes of a field: its polynomial has its degree, and 2 comes to 1 first at the power
 --                   2^m - 1

@@ -1,6 +1,5 @@
 -- The quadratic table's rule, for any field: one test over the table, and the law that turns it into the rule at each
--- entry. The test goes by
--- the values of j^2 + j and of the trace at 1, 2, 4, .. alone.
+-- entry. The test goes by the values of j^2 + j and of the trace at 1, 2, 4, .. alone.
 --   quad            j^2 + j;  quad-xor  it is additive
 --   entryIf, entry  whether j may stand at i, by the values of j^2 + j and of the trace at 1, 2, 4, ..
 --   halfRoots       the test of a whole table: as many entries as elements, and each is right

@@ -1,7 +1,6 @@
 -- The log and antilog tables, for any field: a test over each table, the law that turns it into the rule at each
 -- entry, and the product by logs.
 --   logTest, logs-hold            the log table: along 1, 2, 4, .. the entry at a^j is 2j
---   powerTest, powers-hold        the powers: 1, 2, 4, ..
 --   antilogTest, antilogs-hold    the antilog table: the powers as they go on, a zero behind each
 --   log-position, log-half        the log of a nonzero element is twice its position;  log-lt  every log is below
 --                                 twice the order
@@ -21,7 +20,7 @@ use lib.Dec.{T, eqb, eqb→eq}
 use lib.ListN.{length, getD}
 use Rattle.algebra.specs.Field.{power}
 use Rattle.field.specs.Field.{cut, Field, size, order, mul, numbers, position}
-use Rattle.field.specs.Tables.{logOf, antilogOf, Logs, Antilogs, Powers}
+use Rattle.field.specs.Tables.{logOf, antilogOf, Logs, Antilogs}
 use Rattle.field.proofs.Table.{bothTrue, bothTrue-left, bothTrue-right}
 use Rattle.field.proofs.Tree.{Tree, grow, look, look-is}
 use Rattle.field.proofs.Ring.{RingLaws, ring, power-lt, power-add}
@@ -36,16 +35,6 @@ logsFrom F t (suc n) j y = bothTrue (eqb (look t y) (2 * j)) (logsFrom F t n (su
 unfoldable pub logTest : Field → List ℕ → Bool
 unfolding logsFrom grow
 logTest F xs = bothTrue (eqb (length xs) (size F)) (bothTrue (eqb (getD xs 0 0) 1) (logsFrom F (grow (F .degree) xs) (order F) 0 1))
-
--- y, 2y, .. to the end
-unfoldable pub powersFrom : Field → ℕ → List ℕ → Bool
-unfolding cut
-powersFrom F y [] = true
-powersFrom F y (x ∷ xs) = bothTrue (eqb x y) (powersFrom F (cut F (y * 2)) xs)
-
-unfoldable pub powerTest : Field → List ℕ → Bool
-unfolding powersFrom
-powerTest F xs = bothTrue (eqb (length xs) (order F)) (powersFrom F 1 xs)
 
 -- y, 0, 2y, 0, .. to the end
 unfoldable pub antilogsFrom : Field → ℕ → List ℕ → Bool
@@ -125,26 +114,6 @@ module _ (F : Field) (gen : Generated F) where
           ∙ ap (λ (i : ℕ). 2 * i) (zero-add (position F x)) ∙ rw (ne-eqb x 0 (λ e. let b : ⊥ = omega arith in b))
 
   -- ---- antilogs
-  powers-at : (j : ℕ) (xs : List ℕ) → T (powersFrom F (power (numbers F) 2 j) xs) → (k : ℕ) → k < length xs
-      → getD xs k 0 ≡ power (numbers F) 2 (j + k)
-  unfolding powersFrom
-  powers-at j [] h k l = absurd (not-suc-le-zero l)
-  powers-at j (x ∷ xs) h zero l =
-      eqb→eq x (power (numbers F) 2 j) (bothTrue-left (eqb x (power (numbers F) 2 j)) _ h) ∙ ap (power (numbers F) 2) (sym (add-zero j))
-  powers-at j (x ∷ xs) h (suc k) l =
-      powers-at (suc j) xs (subst (λ (y : ℕ). T (powersFrom F y xs)) (power-next j) (bothTrue-right (eqb x (power (numbers F) 2 j)) _ h)) k (omega arith)
-      ∙ ap (power (numbers F) 2) (suc-add j k ∙ sym (add-suc j k))
-
-  pub powers-hold : (xs : List ℕ) → T (powerTest F xs) → Powers F xs
-  unfolding powerTest power
-  powers-hold xs h = record {
-    entries = entries;
-    entry = λ j l. powers-at 0 xs (bothTrue-right (eqb (length xs) (order F)) _ h) j (omega (arith, entries)) ∙ ap (power (numbers F) 2) (zero-add j);
-  }
-    where
-      entries : length xs ≡ order F
-      entries = eqb→eq (length xs) (order F) (bothTrue-left (eqb (length xs) (order F)) _ h)
-
   -- an even entry of those from a^j on, and an odd entry
   antilogs-at : (j : ℕ) (xs : List ℕ) → T (antilogsFrom F (power (numbers F) 2 j) xs) → (k : ℕ) → k < length xs
       → (k % 2 ≡ 0 → getD xs k 0 ≡ power (numbers F) 2 (j + k / 2)) × (k % 2 ≡ 1 → getD xs k 0 ≡ 0)

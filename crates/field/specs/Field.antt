@@ -1,6 +1,5 @@
 -- The fields of 2^m elements. An element is a number below 2^m whose bits are the coefficients of a polynomial over
--- the two values 0 and 1,
--- bit 0 the constant. The sum of two elements is `bitXor`.
+-- the two values 0 and 1, bit 0 the constant. The sum of two elements is `bitXor`.
 --   horner     Horner's rule over the binary digits of a number, the highest digit first
 --   carryFree  the carry-free product: long multiplication of binary numbers with exclusive or in place of the sum
 --   Field      a field: its degree m and its polynomial of that degree;  fieldAt m  the known field of degree m

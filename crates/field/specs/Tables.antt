@@ -4,10 +4,8 @@
 --   antilogOf   the antilog table at j: a^(j/2) where j is even, and 0 where it is odd
 --   Halves      a list is the quadratic table;  Logs  the log table;  Antilogs  the antilog table, for sums of two
 --               logs
---   Powers      a list is 1, a, a^2, .. : as many as there are nonzero elements
 -- The log of 0 makes a sum odd, so the zeros of the antilog table stand between the powers and in no run: the compiler
--- copies the table as it is,
--- and would clear a run of zeros first.
+-- copies the table as it is, and would clear a run of zeros first.
 -- Assumes nothing.
 use mathlib.Core.Path.{_≡_}
 use mathlib.Core.Logic.{_⊎_}
@@ -40,7 +38,3 @@ pub record Logs (F : Field) (logs : List ℕ) : Type 0 where
 pub record Antilogs (F : Field) (antilogs : List ℕ) : Type 0 where
   pub entries : length antilogs ≡ 4 * order F
   pub entry : (j : ℕ) → j < 4 * order F → getD antilogs j 0 ≡ antilogOf F j
-
-pub record Powers (F : Field) (powers : List ℕ) : Type 0 where
-  pub entries : length powers ≡ order F
-  pub entry : (j : ℕ) → j < order F → getD powers j 0 ≡ power (numbers F) 2 j

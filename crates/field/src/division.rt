@@ -1,6 +1,5 @@
 // The division routine of the inverse: Euclid on the bits, with halving in place of long division. It holds r = ua and
-// s = va
-// modulo the field's polynomial; r and s shrink, with no common divisor but 1, until r is 1, and then u is 1/a.
+// s = va modulo the field's polynomial; r and s shrink, with no common divisor but 1, until r is 1, and then u is 1/a.
 ghost use mathlib.Core.Path.{_≡_};
 ghost use Prim.Native.Nat.{_<_, _^_};
 ghost use Rattle.field.specs.Rows.{ListedRow};

@@ -22,7 +22,7 @@ pub enum Answer {
 
 // What the quadratic call answers: the roots, or what is turned away.
 pub enum Roots {
-    FoundRow(Quadratic),
+    Found(Quadratic),
     Refused(Refusal),
 }
 
@@ -120,6 +120,6 @@ pub fn quadratic(m: u16, a: u16, b: u16) -> Roots
 {
     match admit_pair(m, a, b) {
         Admission::Out(k) => Roots::Refused(k),
-        Admission::In => Roots::FoundRow(roots_in(m, a, b)),
+        Admission::In => Roots::Found(roots_in(m, a, b)),
     }
 }

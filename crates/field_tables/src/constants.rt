@@ -1,7 +1,7 @@
 // Each constant table, named once: a constant array is built anew wherever it is named, and proved there entry by
 // entry.
 ghost use Rattle.field.specs.Field.{fieldAt};
-ghost use Rattle.field.specs.Tables.{Antilogs, Halves, Logs, Powers};
+ghost use Rattle.field.specs.Tables.{Antilogs, Halves, Logs};
 use crate::antilogs::ANTILOG4;
 use crate::antilogs::ANTILOG8;
 use crate::antilogs::ANTILOG11;
@@ -11,7 +11,6 @@ use crate::halves::HALF11;
 use crate::logtables::LOG4;
 use crate::logtables::LOG8;
 use crate::logtables::LOG11;
-use crate::logtables::POWER11;
 use field::rows::ROWS;
 
 // The number of elements of each field.
@@ -61,13 +60,6 @@ pub fn antilogs11() -> [u16; 4 * (SIZE11 - 1)]
     ensures { λ r. ⌜ Antilogs (fieldAt 11) r ⌝ }
 {
     ANTILOG11
-}
-
-// The powers of 2 of the field of 2048 elements.
-pub fn powers11() -> [u16; SIZE11 - 1]
-    ensures { λ r. ⌜ Powers (fieldAt 11) r ⌝ }
-{
-    POWER11
 }
 
 // The quadratic table of the field of 16 elements.

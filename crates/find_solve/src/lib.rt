@@ -8,8 +8,7 @@
 // A table is begun: the product over all distinct roots, as the greatest common divisor with z^(2^m) + z. Each step
 // parts a factor P by the roots' next trace bit: gcd(P, Tr(a^i z)), and the rest. Factors of degree at most the cutoff
 // are solved. A step divides by the trace of its level modulo the polynomial, not modulo the factor: the powers of z
-// on
-// begin's way to z^(2^m) are kept, and Tr(a^i z) is a sum of their multiples, taken once a level.
+// on begin's way to z^(2^m) are kept, and Tr(a^i z) is a sum of their multiples, taken once a level.
 ghost use Prim.Native.Nat.{_≤_};
 ghost use lib.ListN.{length};
 ghost use Rattle.table_rules.specs.Cutoff.{highestCutoff};
@@ -176,8 +175,7 @@ pub fn solve_lent(
 }
 
 // The roots of an accepted polynomial with n coefficients up to its leading one, at most 2: degree 1 has one, a
-// quotient,
-// and degree 0 has none. It takes no table and no step.
+// quotient, and degree 0 has none. It takes no table and no step.
 fn solve_low(m: u16, n: usize, coeffs: &[u16], roots: &mut [u16]) -> Counts
     requires { ⌜ AtMostLinear m (now coeffs) n × (1 ≤ length (now roots)) ⌝ }
     ensures { λ r. ⌜ SolvedAtAny m (now (coeffs .entry)) (now (roots .entry)) r (now (roots .exit)) ⌝ }

@@ -1,6 +1,5 @@
 // The file's slice and a place in it in one struct, with thin functions over it. Each takes the struct apart and calls
-// what
-// reads a slice. The program `roots` walks with it.
+// what reads a slice. The program `roots` walks with it.
 ghost use mathlib.Core.Path.{_≡_};
 ghost use Rattle.job_records.specs.Reading.{toldRead, readAt, bytesOf};
 use crate::Read;

@@ -1,6 +1,6 @@
 // The inner routines on polynomials as C calls them, to be tested (tests/c/routines.c) and timed (bench/c/routines.c).
-// Not part of the product's face: each
-// asks what its routine asks, and the C side sees to it. A slice is a pointer, then a count.
+// Not part of the product's face: each asks what its routine asks, and the C side sees to it. A slice is a pointer,
+// then a count.
 ghost use mathlib.Core.Path.{_≡_};
 ghost use mathlib.Core.Bool.{true};
 ghost use mathlib.Core.List.{[], _∷_};
@@ -161,9 +161,8 @@ pub extern "C" fn polynomial_trace_of(
 }
 
 // The monic greatest common divisor of the monic polynomial with the n low coefficients at the front of a, and the one
-// with the k coefficients at the
-// front of b. Its low coefficients come to the front of a, and their number is returned. What stands in row and b is
-// used up.
+// with the k coefficients at the front of b. Its low coefficients come to the front of a, and their number is
+// returned. What stands in row and b is used up.
 #[no_mangle]
 pub extern "C" fn polynomial_gcd(
     m: u16,

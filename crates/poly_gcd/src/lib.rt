@@ -51,8 +51,8 @@ fn euclid_turn(
 }
 
 // The monic greatest common divisor of the monic polynomial with the n low coefficients at the front of a, and the one
-// with the k coefficients at the
-// front of b. Its low coefficients come to the front of a, and their number is returned.
+// with the k coefficients at the front of b. Its low coefficients come to the front of a, and their number is
+// returned.
 pub fn gcd(
     m: u16,
     logs: &[u16],

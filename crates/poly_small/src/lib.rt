@@ -1,7 +1,6 @@
 // The roots of polynomials of degree at most 3 over a known field, without trying the elements. A quadratic is solved
-// by the half-table; of a cubic
-// the part that splits is taken, and parted by traces into degrees 1 and 2. No polynomial need split, and roots may
-// repeat: each is listed once.
+// by the half-table; of a cubic the part that splits is taken, and parted by traces into degrees 1 and 2. No
+// polynomial need split, and roots may repeat: each is listed once.
 ghost use Rattle.poly_small.specs.Roots.{SmallSolvable, RootsOut};
 use crate::low::low_roots;
 use crate::parting::cubic_roots;

@@ -6,8 +6,7 @@
 --   ColumnTable   the powers of z in the basis: the first n + 1 of them, each with nothing above its own place
 --   Values        n words of 64 lanes hold the values of f: lane l of word w that at 64 w + l
 -- `Values` is what the plain search cites, over `eval` of algebra; the rest serves the inner contracts of this crate.
--- Nobody has to believe either: the
--- search's own contract says nothing of them.
+-- Nobody has to believe either: the search's own contract says nothing of them.
 -- Assumes nothing.
 use mathlib.Core.Path.{_≡_}
 use mathlib.Core.List.{List, [], _∷_}

@@ -1,19 +1,14 @@
 // The values of a polynomial at every element of field 11: an additive Fourier transform on bit planes.
 //
 // After Cantor (On arithmetical algorithms over finite fields, 1989), who takes the values over a space of sums of
-// steps; Gao and Mateer (Additive
-// fast Fourier transforms over finite fields, 2010); and Lin, Chung and Han (Novel polynomial basis and its
-// application to Reed-Solomon erasure
-// codes, 2014), whose basis this is.
+// steps; Gao and Mateer (Additive fast Fourier transforms over finite fields, 2010); and Lin, Chung and Han (Novel
+// polynomial basis and its application to Reed-Solomon erasure codes, 2014), whose basis this is.
 //
 // A vector of 11 words holds an element in each of 64 lanes: word i holds digit i of all of them. Element 64 w + l
-// stands in lane l of
-// vector w, so the steps of the transform are 64, 128, .. , 1024, and each lane is a coset of the space that they
-// span. With V_k the
-// product of z + u over the sums u of the k lowest steps, and p_k = V_k / V_k(next step), the basis is the products of
-// some p_k. The value
-// of (lower half) + p_k (upper half) at both halves of a coset is a butterfly: (a, b) becomes (a + e b, a + e b + b),
-// e the value of p_k there.
+// stands in lane l of vector w, so the steps of the transform are 64, 128, .. , 1024, and each lane is a coset of the
+// space that they span. With V_k the product of z + u over the sums u of the k lowest steps, and p_k = V_k / V_k(next
+// step), the basis is the products of some p_k. The value of (lower half) + p_k (upper half) at both halves of a coset
+// is a butterfly: (a, b) becomes (a + e b, a + e b + b), e the value of p_k there.
 //   mixed       the coefficients in the basis: the sum of the powers of z in the basis (a table), each times its
 //               coefficient
 //   start       the levels while the coefficients are still the same in every lane, and nothing for those that are 0
@@ -102,8 +97,7 @@ fn between_zeros(b: [u64; 11]) -> [u64; 13]
 }
 
 // The words of the carry-free product with the vector at the front of e, into 22 words that are 0: the row of the last
-// digit, then two rows
-// at a time, so that every store starts at an even place and the next turn's loads find it whole.
+// digit, then two rows at a time, so that every store starts at an even place and the next turn's loads find it whole.
 fn add_rows(t: &mut [u64], e: &[u64], b: [u64; 11])
     requires { do ⌜ (now t ≡ replicate 22 0) × (11 ≤ (← ⟦e.len()⟧)) ⌝ }
     ensures { λ _. ⌜ now (t .exit) ≡ carryFreeWords (wordsAt 11 (now (e .entry)) 0) b ⌝ }
@@ -420,8 +414,7 @@ fn full(g: &[u64], x: [u64; 11], a: &[u16], p: &mut [u64], k: usize, h: usize)
 }
 
 // The transform of n = 2^k coefficients, x in the place of the first. Where nothing but one coefficient stands above
-// the half,
-// it only changes the first coefficient of each half.
+// the half, it only changes the first coefficient of each half.
 fn start(g: &[u64], x: [u64; 11], a: &[u16], p: &mut [u64], k: usize, n: usize)
     requires { ⌜ RowStartable taps11 k n (now g) (now a) (now p) ⌝ }
     ensures { λ _. ⌜ RowStarted taps11 k (now (g .entry)) x (now (a .entry)) (now (p .entry)) (now (p .exit)) ⌝ }

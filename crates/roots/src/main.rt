@@ -67,8 +67,7 @@ fn print_turn(read: Read, bytes: &[u8], k: u32) -> usize
 }
 
 // Prints the line of each record, by a reader that is made once and moved on; FAILED where a line could not be
-// printed, else
-// a number behind the last record.
+// printed, else a number behind the last record.
 fn run(file: &[u8]) -> usize
     requires { ⌜ length (now file) ≤ 65536 ⌝ }
     ensures { λ n. ⌜ length (now (file .entry)) ≤ n ⌝ }

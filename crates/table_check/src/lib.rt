@@ -1,6 +1,5 @@
 // What is decided of a work table before anything is written: whether it is sound (docs/RULES.md section 4.5), and
-// what a
-// step finds in it.
+// what a step finds in it.
 ghost use Rattle.table_check.specs.Verdicts.{Checks, Fit, Judged};
 use refusals::Refusal;
 use table_slots::SLOTS;

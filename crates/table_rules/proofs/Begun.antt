@@ -1,7 +1,6 @@
 -- Begun tables, over any field that `BinaryField` describes and any list of distinct elements for the roots: after
--- every step the factors are the products over
--- the groups. The steps on factors take greatest common divisors with trace polynomials; the steps on groups part
--- roots by their trace bits.
+-- every step the factors are the products over the groups. The steps on factors take greatest common divisors with
+-- trace polynomials; the steps on groups part roots by their trace bits.
 --   after-is         n steps on a table are n steps on its factors
 --   cut-commutes     each entry on the way is halved alike, as a factor and as a group
 --   FACTORS-AFTER    n steps on the factors, from the product over all roots, give the products over the groups after

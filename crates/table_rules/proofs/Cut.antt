@@ -1,6 +1,6 @@
 -- What every list of entries on the way from a begun one has: it is a cut through the tree of halvings. Laws of
--- `splitAt` at any place above c, so they hold
--- for steps (docs/RULES.md section 4.3), which take the first such place, and for picks (proofs/Picks).
+-- `splitAt` at any place above c, so they hold for steps (docs/RULES.md section 4.3), which take the first such place,
+-- and for picks (proofs/Picks).
 --   within                   a place above c is a place of the list;  first-above  the first entry above c is above c
 --   split-left, split-right  a split of two lists, one behind the other, is a split of the one that has the place
 --   Cut H c i s l            l comes from the list s at level i by parting, again and again, any part above c

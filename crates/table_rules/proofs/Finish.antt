@@ -1,6 +1,5 @@
 -- What finish lists: on any table the elements at which some factor is 0, ascending and once; on a begun table the
--- roots, after any number of steps and
--- whatever the cutoff, as splitting moves no root.
+-- roots, after any number of steps and whatever the cutoff, as splitting moves no root.
 --   finished-exactly    the elements listed;  finished-ascending  their order
 --   some-zero           some factor of a begun table is 0 at x exactly where x is a member of a group
 --   FINISH-IS           on a begun table the list is the root list

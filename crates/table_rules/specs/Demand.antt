@@ -1,6 +1,6 @@
 -- DEMAND 3, of begun tables: what is promised of the table after each step and of the number of steps, over the field
--- degree m, the cutoff c and the roots. The law
--- that it holds in each known field, at each cutoff from 1, for the roots of each polynomial, is `demand-3`.
+-- degree m, the cutoff c and the roots. The law that it holds in each known field, at each cutoff from 1, for the
+-- roots of each polynomial, is `demand-3`.
 --   groupsAfter  the table after n steps, told by groups
 --   stepCount    how many groups, levels 0 to m-1, have more than c members: the number of steps
 --   stepsAt      the same of a polynomial's roots, at the cutoff in force
@@ -41,8 +41,7 @@ groupsSlots m c f n = encode byFactor slots (groupsAfter m c (rootsAt m f) n)
 
 pub record Demand3 (m c : ℕ) (roots : List ℕ) : Type 0 where
   -- THE TABLE AFTER n STEPS, from begin's one factor over all roots, is the table of the groups after n steps: the
-  -- first group above c is parted by its next
-  -- trace bit, 0 before 1, and the others are untouched
+  -- first group above c is parted by its next trace bit, 0 before 1, and the others are untouched
   pub each : (n : ℕ) → tableAfter (halvingAt m) n (begunTable m c (monicRoots (G m) roots)) ≡ groupsAfter m c roots n
   -- its factors are the products over groups, in ascending order of trace bits, each at the level of its group
   pub order : (n : ℕ)

@@ -1,7 +1,6 @@
 -- The entries of a work table, and steps on a list of them. One definition serves twice: for the factors of a table,
--- whose lists are coefficients, and
--- for the groups of roots that they stand for, whose lists are roots. A factor's degree is the length of its list, and
--- so is the number of a group's members.
+-- whose lists are coefficients, and for the groups of roots that they stand for, whose lists are roots. A factor's
+-- degree is the length of its list, and so is the number of a group's members.
 --   Entry A       a level, and a list: a factor's coefficients below the leading 1, or a group's members
 --   Halving A     how a list at a level is parted in two
 --   unlessEmpty   an entry, or none where its list is empty

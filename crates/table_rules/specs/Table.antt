@@ -52,9 +52,8 @@ module _ (Y : Layout) where
   decode l = record { width = getD l 0 0; cutoff = Y .unmark (getD l 1 0); taken = getD l 3 0; factors = map factorOf (Y .read (getD l 2 0) (drop headSlots l)) }
 
   -- A TABLE IS SOUND if slot 0 is a known degree; slot 1 is 1 to 3; slot 2 is at most the limit; levels are at most m;
-  -- degrees are at least 1,
-  -- with sum s at most the limit; coefficients are below 2^m; slot 3 is at most m times the whole part of s/(c+1); all
-  -- remaining slots are 0
+  -- degrees are at least 1, with sum s at most the limit; coefficients are below 2^m; slot 3 is at most m times the
+  -- whole part of s/(c+1); all remaining slots are 0
   unfoldable pub sound : (ℕ → Bool) → ℕ → List ℕ → Bool
   sound known limit l =
       let m : ℕ = getD l 0 0 in

@@ -1,6 +1,5 @@
 // The house's numbers, beside what the theory says of them. There is no other code: the crate holds the work table,
-// its soundness and steps, the groups of roots
-// and demand 3.
+// its soundness and steps, the groups of roots and demand 3.
 
 // The highest cutoff, and what cutoff 0 stands for (specs/Cutoff.antt).
 pub const HIGHEST_CUTOFF: u16 = 3;

@@ -1,8 +1,7 @@
 // The slots of the work table: this crate alone knows which slot holds what. The head has the field degree m, the
-// cutoff
-// in force, the number of factors and that of the steps taken; then each factor in turn has its level, its degree and
-// its
-// coefficients below the leading 1; all remaining slots are 0. A factor is named by the place of its first slot.
+// cutoff in force, the number of factors and that of the steps taken; then each factor in turn has its level, its
+// degree and its coefficients below the leading 1; all remaining slots are 0. A factor is named by the place of its
+// first slot.
 ghost use mathlib.Core.Path.{_≡_};
 ghost use Prim.Native.Nat.{suc, _+_, _-_, _*_, _/_, _^_, _≤_, _<_};
 ghost use lib.ListN.{length};
