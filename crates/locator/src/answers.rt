@@ -1,5 +1,7 @@
 // What the calls answer, as the structs of the C face.
 ghost use mathlib.Core.Path.{_≡_};
+ghost use mathlib.Core.List.{[], _∷_};
+ghost use Rattle.refusals.specs.Numbers.{numberOf};
 ghost use Rattle.field.specs.Quadratics.{rootsIn};
 ghost use Rattle.field_elements.specs.Calls.{toldAnswer, toldQuadratic};
 ghost use Rattle.find_solve.specs.Calls.{toldSolved};
@@ -20,6 +22,7 @@ use field_elements::Answer;
 use field_elements::Roots;
 use find_search::Searched;
 use find_solve::Solved;
+use refusals::Refusal;
 use refusals::number;
 use table_begin::Begun;
 use table_finish::Finished;
@@ -82,21 +85,35 @@ fn roots_of(q: Quadratic) -> LocatorPair
     }
 }
 
+// What was found: the number of roots and of steps. Where no steps are taken they are 0.
+fn as_found(count: u16, steps: u16) -> LocatorFound
+    ensures { λ r. ⌜ r ≡ asFound (0, count ∷ steps ∷ []) ⌝ }
+{
+    LocatorFound {
+        outcome: 0,
+        count: count,
+        steps: steps,
+    }
+}
+
+// What is turned away: its number alone.
+fn as_refused(k: Refusal) -> LocatorFound
+    ensures { λ r. ⌜ r ≡ asFound (numberOf k, []) ⌝ }
+{
+    LocatorFound {
+        outcome: number(k),
+        count: 0,
+        steps: 0,
+    }
+}
+
 // Of the whole call.
 pub fn solved_of(a: Solved) -> LocatorFound
     ensures { λ r. ⌜ r ≡ asFound (toldSolved a) ⌝ }
 {
     match a {
-        Solved::Found { s, steps } => LocatorFound {
-            outcome: 0,
-            count: s,
-            steps: steps,
-        },
-        Solved::NotSolved(k) => LocatorFound {
-            outcome: number(k),
-            count: 0,
-            steps: 0,
-        },
+        Solved::Found { s, steps } => as_found(s, steps),
+        Solved::NotSolved(k) => as_refused(k),
     }
 }
 
@@ -105,16 +122,8 @@ pub fn searched_of(a: Searched) -> LocatorFound
     ensures { λ r. ⌜ r ≡ asFound (toldSearched a) ⌝ }
 {
     match a {
-        Searched::Seen(s) => LocatorFound {
-            outcome: 0,
-            count: s,
-            steps: 0,
-        },
-        Searched::NotSearched(k) => LocatorFound {
-            outcome: number(k),
-            count: 0,
-            steps: 0,
-        },
+        Searched::Seen(s) => as_found(s, 0),
+        Searched::NotSearched(k) => as_refused(k),
     }
 }
 
@@ -153,16 +162,8 @@ pub fn finished_of(a: Finished) -> LocatorFound
     ensures { λ r. ⌜ r ≡ asFound (toldFinished a) ⌝ }
 {
     match a {
-        Finished::Listed(s) => LocatorFound {
-            outcome: 0,
-            count: s,
-            steps: 0,
-        },
-        Finished::NotFinished(k) => LocatorFound {
-            outcome: number(k),
-            count: 0,
-            steps: 0,
-        },
+        Finished::Listed(s) => as_found(s, 0),
+        Finished::NotFinished(k) => as_refused(k),
     }
 }
 
