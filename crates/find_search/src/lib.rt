@@ -15,6 +15,8 @@ use field_tables::constants::logs8;
 use find_admit::admit_room;
 use poly::values::evaluate;
 use poly::values::evaluate_four;
+use poly_values::PLANES;
+use poly_values::VECTORS;
 use refusals::Admission;
 use refusals::Refusal;
 use table_rules::LIMIT;
@@ -98,11 +100,11 @@ fn search11(f: &[u16], roots: &mut [u16]) -> u16
     ensures { λ k. ⌜ SearchedOut 11 (now (f .entry)) (now (roots .entry)) k (now (roots .exit)) ⌝ }
 {
     // any number fills the room: zeros would be a call of memset, which is slower
-    let mut p = [1u64; 352];
+    let mut p = [1u64; PLANES];
     poly_values::values11(f, &mut p);
     let mut k: u16 = 0;
     let mut w: usize = 0;
-    while w < 32 {
+    while w < VECTORS {
         let z = poly_values::occupied11(&p, w);
         k = note_word(f, z ^ 18446744073709551615, (w * 64) as u16, roots, k);
         w += 1;

@@ -32,6 +32,11 @@ use crate::tables::COLUMNS;
 use crate::tables::MULTIPLIERS;
 use crate::tables::TOP;
 
+// The values of field 11 stand in as many vectors of 64 lanes, of 11 words each.
+pub const VECTORS: usize = 32;
+
+pub const PLANES: usize = 11 * VECTORS;
+
 // The sum in every lane.
 fn sum(a: [u64; 11], b: [u64; 11]) -> [u64; 11]
     ensures { λ s. ⌜ s ≡ sumWords 11 a b ⌝ }

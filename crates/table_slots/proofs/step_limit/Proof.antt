@@ -4,6 +4,7 @@ use native.Mathlib.Nat.{lt-of-le-of-lt, mul-le-mul, le-trans, div-le-self}
 use native.Mathlib.Numerals.{add-one}
 use native.Mathlib.Omega.{arith}
 use lib.Dec.{lit<}
+use Rattle.table_rules.specs.Limit.{limit}
 use borrow.Author.Needs.{needs}
 use Rattle.table_slots.proofs.step_limit.Statement.{statement}
 use Rattle.table_slots.proofs.step_limit.Tie as tie
@@ -15,7 +16,7 @@ div-result : tie.Need-div-result
 div-result c = search needs
 
 mul-result : tie.Need-mul-result
-mul-result c = record { fits = lt-of-le-of-lt (mul-le-mul {n₂ = 65535} {m₂ = 32} (omega arith) (le-trans (div-le-self _ _) (c .pre))) (lit< tt) }
+mul-result c = record { fits = lt-of-le-of-lt (mul-le-mul {n₂ = 65535} {m₂ = limit} (omega arith) (le-trans (div-le-self _ _) (c .pre))) (lit< tt) }
 
 returns : tie.Need-returns
 returns c = rw add-one

@@ -7,6 +7,7 @@ use denote.Ref.{now}
 use lib.ListN.{length, drop, replicate}
 use lib.Seq.{length-take-le}
 use Rattle.table_step.proofs.Packing.{degree-within, first-long, first-room, rest-asks, rest-fits, rest-front, rest-long, parted}
+use Rattle.table_rules.specs.Limit.{limit}
 use borrow.Author.Needs.{needs}
 use Rattle.table_step.proofs.parts_of.Statement.{statement}
 use Rattle.table_step.proofs.parts_of.Tie as tie
@@ -83,21 +84,21 @@ array-share-prefix-h : tie.Need-array-share-prefix-h
 array-share-prefix-h c =
     let s = c .before .before .before .before .before .before .before .before .before .before .before .before .before .before .before .before .before .before .pre in
     let k = c .before .before .before .before .before .before .before .before .before .before .before .common .ensures in
-    let z = drop {A = ℕ} (length (now (c .before .before .before .before .before .before .before .before .before .before .before .before .before .before .before .before .before .before .args .p)) - c .before .before .before .before .before .before .before .before .before .before .before .common .result) (replicate 32 0) in
+    let z = drop {A = ℕ} (length (now (c .before .before .before .before .before .before .before .before .before .before .before .before .before .before .before .before .before .before .args .p)) - c .before .before .before .before .before .before .before .before .before .before .before .common .result) (replicate limit 0) in
     rest-fits (s .0 .splittable) k z (c .before .before .before .before .before .before .before .rest-of .ensures)
 
 slice-aggregate-append-2 : tie.Need-slice-aggregate-append-2
 slice-aggregate-append-2 c =
     let s = c .before .before .before .before .before .before .before .before .before .before .before .before .before .before .before .before .before .before .before .pre in
     let k = c .before .before .before .before .before .before .before .before .before .before .before .before .common .ensures in
-    let z = drop {A = ℕ} (length (now (c .before .before .before .before .before .before .before .before .before .before .before .before .before .before .before .before .before .before .before .args .p)) - c .before .before .before .before .before .before .before .before .before .before .before .before .common .result) (replicate 32 0) in
+    let z = drop {A = ℕ} (length (now (c .before .before .before .before .before .before .before .before .before .before .before .before .before .before .before .before .before .before .before .args .p)) - c .before .before .before .before .before .before .before .before .before .before .before .before .common .result) (replicate limit 0) in
     sym (rest-long (s .0 .splittable) k z (c .before .before .before .before .before .before .before .before .rest-of .ensures))
 
 append-requires-2 : tie.Need-append-requires-2
 append-requires-2 c κs =
     let s = c .before .before .before .before .before .before .before .before .before .before .before .before .before .before .before .before .before .before .before .pre in
     let k = c .before .before .before .before .before .before .before .before .before .before .before .before .common .ensures in
-    let z = drop {A = ℕ} (length (now (c .before .before .before .before .before .before .before .before .before .before .before .before .before .before .before .before .before .before .before .args .p)) - c .before .before .before .before .before .before .before .before .before .before .before .before .common .result) (replicate 32 0) in
+    let z = drop {A = ℕ} (length (now (c .before .before .before .before .before .before .before .before .before .before .before .before .before .before .before .before .before .before .before .args .p)) - c .before .before .before .before .before .before .before .before .before .before .before .before .common .result) (replicate limit 0) in
     let l = rest-long (s .0 .splittable) k z (c .before .before .before .before .before .before .before .before .rest-of .ensures) in
     let h = degree-within (s .0 .splittable) k in
     let r = first-room (s .0 .splittable) k (c .before .before .before .before .append .ensures) in
@@ -112,7 +113,7 @@ returns : tie.Need-returns
 returns c =
     let s = c .before .before .before .before .before .before .before .before .before .before .before .before .before .before .before .before .before .before .before .before .before .before .pre in
     let k = c .before .before .before .before .before .before .before .before .before .before .before .before .before .before .before .common .ensures in
-    let z = drop {A = ℕ} (length (now (c .before .before .before .before .before .before .before .before .before .before .before .before .before .before .before .before .before .before .before .before .before .before .args .p)) - c .before .before .before .before .before .before .before .before .before .before .before .before .before .before .before .common .result) (replicate 32 0) in
+    let z = drop {A = ℕ} (length (now (c .before .before .before .before .before .before .before .before .before .before .before .before .before .before .before .before .before .before .before .before .before .before .args .p)) - c .before .before .before .before .before .before .before .before .before .before .before .before .before .before .before .common .result) (replicate limit 0) in
     let h = degree-within (s .0 .splittable) k in
     let r = first-room (s .0 .splittable) k (c .before .before .before .before .before .before .before .append .ensures) in
     let f = s .0 .splittable .few in
