@@ -34,6 +34,7 @@ use Rattle.corrector_code.proofs.Odd as H
 use Rattle.corrector_code.proofs.Massey.{ShortFor}
 use Rattle.corrector_code.proofs.Massey as M
 use Rattle.corrector_code.proofs.Run as R
+use Rattle.corrector_code.proofs.Same.{register-same}
 use Rattle.algebra.proofs.Signs.{Signs, signs}
 
 -- 1, and the power sums of a list
@@ -249,7 +250,7 @@ module _ {K : Type 0} {F : Ops K} (L : Laws F) where
       → coef F (register F m u t .locator) ≡ coef F (fromLocators F s)
   unfolding sums startingWith
   key-right m t s u l d z h e =
-      ap (λ r. coef F (r .locator)) (R.register-same L m u (sums F s) t e)
+      ap (λ r. coef F (r .locator)) (register-same F m u (sums F s) t e)
       ∙ (let w = R.register-runs L (sums F s) (coef F (fromLocators F s)) (length s) m (omega arith) refl (from-first s) (from-makes s) t in
       let a = M.short-wider L (w .small) (w .good) in
       same-locator s (register F m (sums F s) t .locator) (fromLocators F s) d z (w .first) (from-first s) (a .ends) (from-ends s)

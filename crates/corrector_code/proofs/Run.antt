@@ -3,7 +3,6 @@
 --   RegisterAfter    what holds of the register after n turns
 --   conv-is          the coefficient of a product, on lists and on sequences
 --   register-runs    it holds after every turn
---   register-same    the register depends on the power sums that it takes
 -- Assumes nothing.
 use mathlib.Core.Path.{_≡_, refl, sym, ap, ap₂, _∙_, fun-ext}
 use mathlib.Core.Logic.{_≢_, _↔_}
@@ -208,18 +207,3 @@ module _ {K : Type 0} {F : Ops K} (L : Laws F) where
   unfolding register
   register-runs s f v m h start one makes zero = start-runs s v m start
   register-runs s f v m h start one makes (suc n) = turn-runs s f v (suc m) (omega arith) start one makes (register-runs s f v m h start one makes n)
-
-  -- it depends on the power sums seen so far only
-  conv-same : (p : List K) (s u : Series K) (k : ℕ) → ((j : ℕ) → j ≤ k → s j ≡ u j) → conv F p s k ≡ conv F p u k
-  unfolding conv
-  conv-same [] s u k h = refl
-  conv-same (c ∷ p) s u zero h = ap (λ x. c ⊗ x) (h 0 (omega arith))
-  conv-same (c ∷ p) s u (suc k) h = ap₂ (λ x y. c ⊗ x ⊕ y) (h (suc k) (omega arith)) (conv-same p s u k (λ j l. h j (omega arith)))
-
-  pub register-same : (m : ℕ) (s u : Series K) (n : ℕ) → ((j : ℕ) → j ≤ 2 * n → s j ≡ u j) → register F m s n ≡ register F m u n
-  unfolding register turn
-  register-same m s u zero h = refl
-  register-same m s u (suc n) h =
-      ap (λ r. turn F s n r) (register-same m s u n (λ j l. h j (omega arith)))
-      ∙ ap (λ d. cond (F .isZero d) (record { locator = register F m u n .locator; spare = shift F (register F m u n .spare); low = register F m u n .low; high = suc (suc (register F m u n .high)) })
-      (mend F d (register F m u n))) (conv-same (register F m u n .locator) s u (suc (2 * n)) (λ j l. h j (omega arith)))
