@@ -15,7 +15,7 @@ use mathlib.Core.HLevel.{Σ-prop-path}
 use mathlib.Core.Logic.{_≢_, ⊎-elim}
 use mathlib.Core.Bool.{Bool, cond, false, true}
 use mathlib.Core.Option.{Option, Option·elim, none, some}
-use mathlib.Core.List.{List, List·Memᴰ, List·Memᴰ·cases-cons, List·Memᴰ·head, List·Memᴰ·not-nil, List·Memᴰ·tail, [], _++_, _∷_, map}
+use mathlib.Core.List.{List, List·Memᴰ, List·Memᴰ·cases-cons, List·Memᴰ·head, List·Memᴰ·not-nil, List·Memᴰ·tail, [], _++_, _∷_, map, map-append}
 use Prim.Native.Nat.{_-_, _<_, suc, zero, ℕ}
 use native.Mathlib.Bridge.{le-prop}
 use native.Mathlib.Omega.{arith}
@@ -31,10 +31,6 @@ module _ {A B : Type 0} (φ : A → B) where
   map-take zero l = refl
   map-take (suc n) [] = refl
   map-take (suc n) (x ∷ l) = ap (λ r. φ x ∷ r) (map-take n l)
-
-  map-append : (s t : List A) → map φ (s ++ t) ≡ map φ s ++ map φ t
-  map-append [] t = refl
-  map-append (x ∷ s) t = ap (λ r. φ x ∷ r) (map-append s t)
 
   map-replicate : (n : ℕ) (a : A) → map φ (replicate n a) ≡ replicate n (φ a)
   map-replicate zero a = refl

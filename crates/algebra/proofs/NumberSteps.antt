@@ -93,7 +93,7 @@ module _ {G : Ops ℕ} {q : ℕ} (N : OnNumbers G q) where
   pub split-same : (s t u : List ℕ) → Below q s → Below q t → Below q u → Distinct s → All (λ r. eval G t r ≡ eval G u r) s
       → gcd G (monicRoots G s) t ≡ gcd G (monicRoots G s) u
   split-same s t u hs ht hu d e =
-      split-gcd s t hs ht d ∙ ap (monicRoots G) (keep-same (isRoot G t) (isRoot G u) s (all-map (λ r. eval G t r ≡ eval G u r) (λ r. isRoot G t r ≡ isRoot G u r) s (λ r. ap (G .isZero)) e))
+      split-gcd s t hs ht d ∙ ap (monicRoots G) (keep-same (isRoot G t) (isRoot G u) s (all-map (λ r. ap (G .isZero)) s e))
       ∙ sym (split-gcd s u hs hu d)
 
   -- the value of Tr(b z) at r is Tr(b r)

@@ -131,7 +131,7 @@ module _ {G : Ops ℕ} {q : ℕ} (N : OnNumbers G q) where
       let s : List (Elem q) = keep (isRoot K f) (all N) in
       let few : length s ≤ length u =
       roots-at-most L s f (distinct-keep (isRoot K f) (all N) (distinct-all N))
-      (all-map (λ x. T (isRoot K f x)) (λ x. eval K f x ≡ K .zero) s (λ x. L .zero-test (eval K f x) .0) (keep-passed (isRoot K f) (all N)))
+      (all-map (λ x. L .zero-test (eval K f x) .0) s (keep-passed (isRoot K f) (all N)))
       (monic-list L u) (L .one≢zero) in
       let e : low N s ≡ rootsOf G q (monic G (low N u)) = roots-low f ∙ ap (rootsOf G q) (low-monic N u) in
       let n : length (low N s) ≤ length (low N u) = omega (arith, length-map s (λ x. x .0), length-map u (λ x. x .0)) in

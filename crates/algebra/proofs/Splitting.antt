@@ -121,7 +121,7 @@ module _ {K : Type 0} {F : Ops K} (L : Laws F) where
       let in-s : g ∣ coef F (fromRoots F s) = rw (split-product (isRoot F t) s) (divides-multiple L g h) in
       let in-t : g ∣ coef F t =
       roots-divide L (keep (isRoot F t) s) t (distinct-keep (isRoot F t) s u)
-      (all-map (λ r. T (isRoot F t r)) (λ r. eval F t r ≡ 0#) (keep (isRoot F t) s) (λ r. zero-test (eval F t r) .0) (keep-passed (isRoot F t) s)) in (
+      (all-map (λ r. zero-test (eval F t r) .0) (keep (isRoot F t) s) (keep-passed (isRoot F t) s)) in (
         λ a. (divides-trans L g a in-s, divides-trans L g a in-t),
         λ b. subst (λ w. d ∣ w) (one-times L (coef F g)) (common d t s (1# ∷ []) (b .1) (rw (one-times L (coef F (fromRoots F s))) (b .0))),
       )

@@ -61,6 +61,14 @@ unfolding rootsOf
 rootsOf-below G q f = keep-below q (isRoot G f) (upFrom 0 q) (upFrom-below q)
 
 module _ {G : Ops ℕ} {q : ℕ} (N : OnNumbers G q) where
+  -- what crosses from elements is below q: of one list, and of two
+  crossed : (g : List ℕ → List ℕ) (h : List (Elem q) → List (Elem q)) → ((u : List (Elem q)) → low N (h u) ≡ g (low N u)) → (f : List ℕ) → Below q f → Below q (g f)
+  crossed g h e = by-elements N (λ f. Below q (g f)) (λ u. subst (Below q) (e u) (below-low N (h u)))
+
+  crossed-two : (g : List ℕ → List ℕ → List ℕ) (h : List (Elem q) → List (Elem q) → List (Elem q)) → ((u v : List (Elem q)) → low N (h u v) ≡ g (low N u) (low N v))
+      → (p f : List ℕ) → Below q p → Below q f → Below q (g p f)
+  crossed-two g h e = by-two N (λ p f. Below q (g p f)) (λ u v. subst (Below q) (e u v) (below-low N (h u v)))
+
   -- ---- elements
 
   pub eval-below : (p : List ℕ) (x : ℕ) → Below q p → x < q → eval G p x < q
@@ -72,23 +80,25 @@ module _ {G : Ops ℕ} {q : ℕ} (N : OnNumbers G q) where
   -- ---- polynomials
 
   pub add-below : (p r : List ℕ) → Below q p → Below q r → Below q (add G p r)
-  add-below = by-two N (λ p r. Below q (add G p r)) (λ u v. subst (Below q) (low-add N u v) (below-low N (add (elems N) u v)))
+  add-below = crossed-two (add G) (add (elems N)) (low-add N)
 
   pub mul-below : (p r : List ℕ) → Below q p → Below q r → Below q (mul G p r)
-  mul-below = by-two N (λ p r. Below q (mul G p r)) (λ u v. subst (Below q) (low-mul N u v) (below-low N (mul (elems N) u v)))
+  mul-below = crossed-two (mul G) (mul (elems N)) (low-mul N)
 
   pub scale-below : (c : ℕ) (p : List ℕ) → c < q → Below q p → Below q (map (G .mul c) p)
-  scale-below c p h =
-      by-elements N (λ p. Below q (map (G .mul c) p)) (λ u. subst (Below q) (low-scale N (c, h) u) (below-low N (map (elems N .mul (c, h)) u))) p
+  scale-below c p h = crossed (map (G .mul c)) (map (elems N .mul (c, h))) (low-scale N (c, h)) p
 
   pub linear-below : (r : ℕ) → r < q → Below q (linear G r)
   linear-below r h = (h, (N .one-below, tt))
 
   pub frobenius-below : (j : ℕ) (f : List ℕ) → Below q f → Below q (frobenius G j f)
-  frobenius-below j = by-elements N (λ f. Below q (frobenius G j f)) (λ u. subst (Below q) (low-frobenius N j u) (below-low N (frobenius (elems N) j u)))
+  frobenius-below j = crossed (frobenius G j) (frobenius (elems N) j) (low-frobenius N j)
 
   pub tracePoly-below : (j : ℕ) (f : List ℕ) → Below q f → Below q (tracePoly G j f)
-  tracePoly-below j = by-elements N (λ f. Below q (tracePoly G j f)) (λ u. subst (Below q) (low-tracePoly N j u) (below-low N (tracePoly (elems N) j u)))
+  tracePoly-below j = crossed (tracePoly G j) (tracePoly (elems N) j) (low-tracePoly N j)
+
+  pub monicRoots-below : (s : List ℕ) → Below q s → Below q (monicRoots G s)
+  monicRoots-below = crossed (monicRoots G) (monicRoots (elems N)) (low-monicRoots N)
 
   pub fieldPoly-below : (m : ℕ) → Below q (fieldPoly G m)
   fieldPoly-below m =
@@ -103,22 +113,26 @@ module _ {G : Ops ℕ} {q : ℕ} (N : OnNumbers G q) where
   pub monic-below : (p : List ℕ) → Below q p → Below q (monic G p)
   monic-below p h = append-below q p (G .one ∷ []) h (N .one-below, tt)
 
+  pub square-below : (f : List ℕ) → Below q f → Below q (square G f)
+  square-below = crossed (square G) (square (elems N)) (low-square N)
+
   pub rem-below : (p f : List ℕ) → Below q p → Below q f → Below q (rem G p f)
-  rem-below = by-two N (λ p f. Below q (rem G p f)) (λ u v. subst (Below q) (low-rem N u v) (below-low N (rem (elems N) u v)))
+  rem-below = crossed-two (rem G) (rem (elems N)) (low-rem N)
 
   pub quo-below : (p f : List ℕ) → Below q p → Below q f → Below q (quo G p f)
-  quo-below = by-two N (λ p f. Below q (quo G p f)) (λ u v. subst (Below q) (low-quo N u v) (below-low N (quo (elems N) u v)))
+  quo-below = crossed-two (quo G) (quo (elems N)) (low-quo N)
 
-  pub square-below : (f : List ℕ) → Below q f → Below q (square G f)
-  square-below = by-elements N (λ f. Below q (square G f)) (λ u. subst (Below q) (low-square N u) (below-low N (square (elems N) u)))
+  pub gcd-below : (p f : List ℕ) → Below q p → Below q f → Below q (gcd G p f)
+  gcd-below = crossed-two (gcd G) (gcd (elems N)) (low-gcd N)
+
+  pub cofactor-below : (p g : List ℕ) → Below q p → Below q g → Below q (cofactor G p g)
+  cofactor-below = crossed-two (cofactor G) (cofactor (elems N)) (low-cofactor N)
 
   pub frobeniusMod-below : (p : List ℕ) (j : ℕ) (w : List ℕ) → Below q p → Below q w → Below q (frobeniusMod G p j w)
-  frobeniusMod-below p j w =
-      by-two N (λ p w. Below q (frobeniusMod G p j w)) (λ u v. subst (Below q) (low-frobeniusMod N u j v) (below-low N (frobeniusMod (elems N) u j v))) p w
+  frobeniusMod-below p j = crossed-two (λ f w. frobeniusMod G f j w) (λ u v. frobeniusMod (elems N) u j v) (λ u v. low-frobeniusMod N u j v) p
 
   pub traceMod-below : (p : List ℕ) (j : ℕ) (w : List ℕ) → Below q p → Below q w → Below q (traceMod G p j w)
-  traceMod-below p j w =
-      by-two N (λ p w. Below q (traceMod G p j w)) (λ u v. subst (Below q) (low-traceMod N u j v) (below-low N (traceMod (elems N) u j v))) p w
+  traceMod-below p j = crossed-two (λ f w. traceMod G f j w) (λ u v. traceMod (elems N) u j v) (λ u v. low-traceMod N u j v) p
 
   pub norm-below : (k : ℕ) (r : List ℕ) {s : List ℕ} → Below q r → norm G k r ≡ some s → Below q s
   norm-below k r {s} = by-elements N (λ r. norm G k r ≡ some s → Below q s) (λ u e. go (norm (elems N) k u) (low-norm N k u ∙ e)) r
@@ -126,12 +140,3 @@ module _ {G : Ops ℕ} {q : ℕ} (N : OnNumbers G q) where
       go : (o : Option (List (Elem q))) → low? N o ≡ some s → Below q s
       go none e = let z : _≡_ {A = ℕ} 0 1 = cc in absurd (omega arith)
       go (some u) e = let same : low N u ≡ s = cc in subst (Below q) same (below-low N u)
-
-  pub gcd-below : (p f : List ℕ) → Below q p → Below q f → Below q (gcd G p f)
-  gcd-below = by-two N (λ p f. Below q (gcd G p f)) (λ u v. subst (Below q) (low-gcd N u v) (below-low N (gcd (elems N) u v)))
-
-  pub cofactor-below : (p g : List ℕ) → Below q p → Below q g → Below q (cofactor G p g)
-  cofactor-below = by-two N (λ p g. Below q (cofactor G p g)) (λ u v. subst (Below q) (low-cofactor N u v) (below-low N (cofactor (elems N) u v)))
-
-  pub monicRoots-below : (s : List ℕ) → Below q s → Below q (monicRoots G s)
-  monicRoots-below = by-elements N (λ s. Below q (monicRoots G s)) (λ u. subst (Below q) (low-monicRoots N u) (below-low N (monicRoots (elems N) u)))

@@ -104,9 +104,9 @@ pub all-at : {A : Type 0} (P : A → Type 0) (s : List A) {x : A} → All P s �
 all-at P [] h m = absurd (List·Memᴰ·not-nil m)
 all-at P (y ∷ s) h m = ⊎-elim (λ e. subst P (sym e) (h .0)) (λ i. all-at P s (h .1) i) (List·Memᴰ·cases-cons m)
 
-pub all-map : {A : Type 0} (P Q : A → Type 0) (s : List A) → ((x : A) → P x → Q x) → All P s → All Q s
-all-map P Q [] f h = tt
-all-map P Q (x ∷ s) f h = (f x (h .0), all-map P Q s f (h .1))
+pub all-map : {A : Type 0} {P Q : A → Type 0} → ((x : A) → P x → Q x) → (s : List A) → All P s → All Q s
+all-map f [] h = tt
+all-map f (x ∷ s) h = (f x (h .0), all-map f s (h .1))
 
 pub all-keep : {A : Type 0} (Q : A → Type 0) (t : A → Bool) (s : List A) → All Q s → All Q (keep t s)
 all-keep Q t [] h = tt
@@ -169,7 +169,7 @@ ascending-keep t (r ∷ s) h =
 
 pub ascending-distinct : (s : List ℕ) → Ascending s → Distinct s
 ascending-distinct [] h = tt
-ascending-distinct (x ∷ s) h = (all-map (λ y. x < y) (λ y. x ≢ y) s (λ y l. omega arith) (h .0), ascending-distinct s (h .1))
+ascending-distinct (x ∷ s) h = (all-map (λ y l. omega arith) s (h .0), ascending-distinct s (h .1))
 
 pub distinct-keep : {A : Type 0} (t : A → Bool) (s : List A) → Distinct s → Distinct (keep t s)
 distinct-keep t [] h = tt

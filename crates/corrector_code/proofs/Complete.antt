@@ -26,7 +26,7 @@ use Rattle.algebra.specs.Trial.{All, Distinct}
 use Rattle.corrector_code.specs.Word.{differs, difference, places, bitDistance, total, wordValue, Codeword, CodewordWithin, locators, DistinctPowers}
 use Rattle.corrector_code.specs.Key.{register, fromLocators}
 use Rattle.corrector_code.specs.Correct.{syndromes, locatorOf, markedAt, flips, candidate}
-use Rattle.corrector_code.proofs.Sums.{all-map}
+use Rattle.algebra.proofs.Trial.{all-map}
 use Rattle.corrector_code.proofs.Words.{length-difference}
 use Rattle.corrector_code.proofs.Words as X
 use Rattle.corrector_code.proofs.Locate.{sums}

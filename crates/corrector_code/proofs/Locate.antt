@@ -26,7 +26,7 @@ use Rattle.algebra.specs.Trial.{All, Distinct}
 use Rattle.algebra.proofs.Factors as W
 use Rattle.corrector_code.specs.Word.{total}
 use Rattle.corrector_code.specs.Key.{conv, register, fromLocators}
-use Rattle.corrector_code.proofs.Sums.{all-map}
+use Rattle.algebra.proofs.Trial.{all-map}
 use Rattle.corrector_code.proofs.Sums as Y
 use Rattle.corrector_code.proofs.Words as X
 use Rattle.corrector_code.proofs.Odd.{odd}

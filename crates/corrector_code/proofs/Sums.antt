@@ -1,7 +1,6 @@
 -- Power sums over distinct elements: weights whose sums with the first powers are all 0 are themselves 0
 -- (Vandermonde). It shows both that no two codewords lie within t of one word, and that the key equation has one
 -- solution.
---   all-map        what follows from what holds of each element
 --   total-add, total-mul, total-zero   the sum of sums, of multiples, of zeros;  times-one  x 1 = x
 --   vandermonde    weights with as many sums 0 as there are elements are 0
 --   sums-apart     no n or fewer distinct nonzero elements have power sums 0 for the powers 1 to n
@@ -16,12 +15,8 @@ use Rattle.algebra.specs.Field.{Ops, Laws, power}
 use Rattle.algebra.proofs.Series as S
 use Rattle.algebra.proofs.Elements as E
 use Rattle.algebra.specs.Trial.{All, Distinct}
+use Rattle.algebra.proofs.Trial.{all-map}
 use Rattle.corrector_code.specs.Word.{total}
-
--- what follows from what holds of each element
-pub all-map : {A : Type 0} {P Q : A → Type 0} → ((x : A) → P x → Q x) → (s : List A) → All P s → All Q s
-all-map f [] h = tt
-all-map f (x ∷ s) h = (f x (h .0), all-map f s (h .1))
 
 module _ {K : Type 0} {F : Ops K} (L : Laws F) where
   infixl 60 _⊕_

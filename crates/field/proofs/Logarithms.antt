@@ -6,7 +6,7 @@
 --                                 twice the order
 --   antilog-even, antilog-odd     what the antilog table holds at 2j and at an odd place
 --   antilogs-power                a lent antilog table holds a^j at 2j
---   log-product, logs-product     the antilog of the sum of two logs is the product
+--   log-product                   the antilog of the sum of two logs is the product
 -- Assumes nothing.
 use mathlib.Core.Path.{_≡_, refl, sym, ap, ap₂, _∙_, subst}
 use mathlib.Core.Bool.{Bool, true, cond}
@@ -180,11 +180,3 @@ module _ (F : Field) (gen : Generated F) where
           let e : y ≡ 0 = omega arith in
           let k : logOf F y ≡ 1 = ap (logOf F) e ∙ log-zero in
           antilog-odd F (logOf F x + logOf F y) (omega (arith, k, log-position F x p)) ∙ sym (mul-zero-r x) ∙ ap (mul F x) (sym e)
-
-  -- the same over lent tables: the place is within the antilogs, and the product stands there
-  pub logs-product : {logs antilogs : List ℕ} → Logs F logs → Antilogs F antilogs → (x y : ℕ) → 0 < x → x < size F → y < size F
-      → (getD logs x 0 + getD logs y 0 < length antilogs) × (getD antilogs (getD logs x 0 + getD logs y 0) 0 ≡ mul F x y)
-  logs-product {logs} {antilogs} L A x y p l m =
-      let sum : getD logs x 0 + getD logs y 0 ≡ logOf F x + logOf F y = ap₂ (λ (i j : ℕ). i + j) (L .entry x l) (L .entry y m) in
-      let within : logOf F x + logOf F y < 4 * order F = (let h = log-lt x l in let k = log-lt y m in omega arith) in
-      (omega (arith, A .entries), ap (λ (i : ℕ). getD antilogs i 0) sum ∙ A .entry (logOf F x + logOf F y) within ∙ log-product x y p l m)

@@ -3,8 +3,7 @@
 -- All that is asked is that the polynomial has the field's degree.
 --   FullDegree           the polynomial has the field's degree
 --   mul-comm, mul-assoc, mul-xor-l, mul-xor-r   the product is commutative, associative, and distributes over the sum
---   mul-zero-l ..   the product with 0 and with 1;  mul-lt  it is an element;  mul-reduced  a factor may be reduced
---                   first
+--   mul-zero-l ..   the product with 0 and with 1;  mul-lt  it is an element
 --   mul-two         twice an element;  mul-peel  the product by its first factor's last digit and the rest
 --   mul-swap        the inner factors of four change places;  square-xor  the square of a sum is the sum of the
 --                   squares
@@ -62,11 +61,6 @@ module _ (F : Field) (monic : FullDegree F) where
   pub mul-lt : (a b : ℕ) → mul F a b < size F
   unfolding mul
   mul-lt a b = reduce-lt F monic (carryFree a b)
-
-  -- a factor may be reduced first
-  pub mul-reduced : (a b : ℕ) → mul F a (mul F b 1) ≡ mul F a b
-  unfolding mul
-  mul-reduced a b = ap (λ (t : ℕ). reduce F (carryFree a (reduce F t))) (carryFree-comm b 1 ∙ carryFree-one-l b) ∙ reduce-right F monic a b
 
   -- twice an element
   pub mul-two : (a : ℕ) → a < size F → mul F 2 a ≡ cut F (a * 2)

@@ -4,7 +4,7 @@
 --   values-from   the values at every element
 -- Assumes nothing.
 use mathlib.Core.Path.{_≡_, refl, sym, ap, ap₂, _∙_, subst}
-use mathlib.Core.List.{List, [], _∷_, _++_, map, append-assoc}
+use mathlib.Core.List.{List, [], _∷_, _++_, map, map-append, append-assoc}
 use Prim.Native.Nat.{ℕ, zero, suc, _+_, _*_, _-_, _/_, _%_, _^_, _<_, _≤_}
 use native.Mathlib.Nat.{zero-add, add-zero, add-suc, suc-add}
 use native.Mathlib.Omega.{arith}
@@ -29,7 +29,7 @@ use Rattle.poly_values.specs.Tables.{steps11, TreeTable, TopTable, Colum
 use Rattle.poly_values.proofs.Planes.{lane-lt, lane-sum, lane-is-zero, sum-words}
 use Rattle.poly_values.proofs.Numbers.{transform-values}
 use Rattle.poly_values.proofs.Multipliers.{small11, right11, monic11}
-use Rattle.poly_values.proofs.Lists.{map-append, length-tabulate, getD-zeros, getD-add, getD-scaled}
+use Rattle.poly_values.proofs.Lists.{length-tabulate, getD-zeros, getD-add, getD-scaled}
 use Rattle.poly_values.proofs.Scalars.{spread-is, all-ones, mix-zero}
 use Rattle.poly_values.proofs.Lanes.{laneRow-at, length-add}
 

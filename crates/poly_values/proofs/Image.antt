@@ -4,14 +4,13 @@
 --   transform-image   the transform of the images is the image of the transform
 -- Assumes nothing.
 use mathlib.Core.Path.{_≡_, refl, sym, ap, ap₂, _∙_}
-use mathlib.Core.List.{List, [], _∷_, _++_, map}
+use mathlib.Core.List.{List, [], _∷_, _++_, map, map-append}
 use Prim.Native.Nat.{ℕ, zero, suc, _+_}
 use lib.ListN.{length, take, drop}
 use Rattle.algebra.specs.Field.{Ops}
 use Rattle.algebra.specs.Polynomial.{add}
 use Rattle.algebra.specs.Trial.{All}
 use Rattle.poly_values.specs.Transform.{Mults, leaf, node, width, scaled, lower, transform, mapMults}
-use Rattle.poly_values.proofs.Lists.{map-append}
 
 -- φ respects sums and products of F's elements of which P holds, and F's operations keep P
 pub record Respects {A B : Type 0} (F : Ops A) (G : Ops B) (P : A → Type 0) (φ : A → B) : Type 0 where

@@ -5,7 +5,7 @@
 --   node-by       one level: the two halves of the row after its butterflies, transformed
 -- Assumes nothing.
 use mathlib.Core.Path.{_≡_, refl, sym, ap, ap₂, _∙_}
-use mathlib.Core.List.{List, [], _∷_, _++_, map}
+use mathlib.Core.List.{List, [], _∷_, _++_, map, map-append}
 use Prim.Native.Nat.{ℕ, zero, suc, _+_, _*_, _^_, _<_, _≤_}
 use native.Mathlib.Nat.{suc-mul, zero-mul, add-mul, add-zero, pow-suc}
 use native.Mathlib.Omega.{arith}
@@ -20,7 +20,7 @@ use Rattle.poly_values.specs.Planes.{lane, wordsAt, tabulate, laneProduc
 use Rattle.poly_values.proofs.Image.{Respects, transform-image, all-transform}
 use Rattle.poly_values.proofs.Planes.{BinaryDigits, lane-sum, lane-product, length-sum, length-laneProduct}
 use Rattle.poly_values.proofs.Rows.{transform-rows, length-transform, length-flat, words-at, flat-append}
-use Rattle.poly_values.proofs.Lists.{map-append, length-tabulate, getD-tabulate, getD-add, getD-scaled}
+use Rattle.poly_values.proofs.Lists.{length-tabulate, getD-tabulate, getD-add, getD-scaled}
 use Rattle.poly_values.proofs.Scalars.{words-next}
 
 -- ---- rows

@@ -1,5 +1,4 @@
 -- Lists that the other files build on: what stands at a place of a table, of zeros, of a sum and of a multiple.
---   map-append          a map over two lists, one behind the other
 --   length-tabulate, getD-tabulate   the length of a table, and its entry at a place
 --   tabulate-below, tabulate-same    two tables with the same entries
 --   getD-zeros          zeros at every place, and behind them
@@ -15,10 +14,6 @@ use Rattle.algebra.specs.Field.{Ops}
 use Rattle.algebra.specs.Polynomial.{add}
 use Rattle.poly_values.specs.Transform.{scaled}
 use Rattle.poly_values.specs.Planes.{tabulate}
-
-pub map-append : {A B : Type 0} (f : A → B) (s t : List A) → map f (s ++ t) ≡ map f s ++ map f t
-map-append f [] t = refl
-map-append f (x ∷ s) t = ap (λ r. f x ∷ r) (map-append f s t)
 
 -- ---- tables
 

@@ -3,7 +3,7 @@
 --   transform-values     the transform of the mixed columns gives the values of f at the points of the coset of c
 -- Assumes nothing.
 use mathlib.Core.Path.{_≡_, refl, sym, ap, ap₂, _∙_, subst}
-use mathlib.Core.List.{List, [], _∷_, _++_, map}
+use mathlib.Core.List.{List, [], _∷_, _++_, map, map-append}
 use Prim.Native.Nat.{ℕ, zero, suc, _+_, _^_, _<_, _≤_}
 use native.Mathlib.Omega.{arith}
 use lib.ListN.{getD, length, take, drop, length-map, List·getD-map}
@@ -13,7 +13,6 @@ use Rattle.algebra.specs.Polynomial.{add, eval, Below}
 use Rattle.algebra.proofs.Crossing.{Elem, elem-equal, elems, laws, low, low-add, low-scale, low-eval, lift, low-lift}
 use Rattle.poly_values.specs.Transform.{Level, Mults, node, points, scaled, transform, mults, mapMults}
 use Rattle.poly_values.specs.Basis.{Step, vanishing, RightSteps, levels, joinRaised, raisedIn, nextColumn, Columns, mix, onCoset}
-use Rattle.poly_values.proofs.Lists.{map-append}
 use Rattle.poly_values.proofs.Image.{Respects, transform-image, map-take, map-drop}
 use Rattle.poly_values.proofs.Basis.{mixed-values}
 

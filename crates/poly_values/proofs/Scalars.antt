@@ -163,8 +163,3 @@ pub binaryDigit-next : (c : ℕ) {i j : ℕ} → i ≡ suc j → c / 2 ^ j ≡ c
 binaryDigit-next c {i} {j} e =
     let h : c / 2 ^ i ≡ c / 2 ^ j / 2 = ap (λ (n : ℕ). c / 2 ^ n) e ∙ ap (λ (t : ℕ). c / t) (pow-suc 2 j) ∙ sym (div-div-eq-div-mul c (2 ^ j) 2) in
     omega arith
-
-pub below-at : {b : ℕ} (f : List ℕ) → Below b f → (j : ℕ) → j < length f → getD f j 0 < b
-below-at [] h j k = absurd (omega arith)
-below-at (x ∷ f) h zero k = h .0
-below-at (x ∷ f) h (suc j) k = below-at f (h .1) j (omega arith)

@@ -5,7 +5,7 @@
 --   transform-values       the law: the transform of coefficients gives the values at the points, in order
 -- Assumes nothing.
 use mathlib.Core.Path.{_≡_, refl, sym, ap, ap₂, _∙_}
-use mathlib.Core.List.{List, [], _∷_, _++_, map}
+use mathlib.Core.List.{List, [], _∷_, _++_, map, map-append}
 use Prim.Native.Nat.{ℕ, zero, suc, _+_, _*_, _^_}
 use native.Mathlib.Omega.{arith}
 use native.Mathlib.Nat.{pow-suc}
@@ -15,7 +15,6 @@ use Rattle.algebra.specs.Polynomial.{add}
 use Rattle.algebra.proofs.Elements as S
 use Rattle.algebra.proofs.Evaluation as P
 use Rattle.poly_values.specs.Transform.{Level, Mults, width, Additive, Vanishes, Levels, points, value, scaled, lower, transform, mults}
-use Rattle.poly_values.proofs.Lists.{map-append}
 
 module _ {K : Type 0} {F : Ops K} (laws : Laws F) where
   infixl 60 _⊕_

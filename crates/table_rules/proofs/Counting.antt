@@ -11,7 +11,7 @@
 -- Assumes nothing.
 use mathlib.Core.Path.{_≡_, refl, sym, ap, ap₂, _∙_, fun-ext}
 use mathlib.Core.Bool.{Bool, true, false, not, cond, _&&_}
-use mathlib.Core.List.{List, [], _∷_, _++_, map, map-map}
+use mathlib.Core.List.{List, [], _∷_, _++_, map, map-append, map-map}
 use Prim.Native.Nat.{ℕ, zero, suc, _+_, _*_, _/_, _≤_, _<_}
 use native.Mathlib.Nat.{add-mul, suc-mul, zero-mul, le-div-iff-mul-le}
 use native.Mathlib.Omega.{arith}
@@ -20,7 +20,7 @@ use lib.ListN.{length, length-append}
 use Rattle.algebra.specs.Trial.{keep}
 use Rattle.table_rules.specs.Groups.{bitWords, sumBelow, largerThan, agrees, groupsAt, groupCount}
 use Rattle.algebra.proofs.Trial.{length-keep}
-use Rattle.table_rules.proofs.Lists.{Test, less, least, test, keep-all, keep-append, keep-keep, keep-both, map-append}
+use Rattle.table_rules.proofs.Lists.{Test, less, least, test, keep-all, keep-append, keep-keep, keep-both}
 
 -- ---- sums
 

@@ -11,7 +11,7 @@
 use mathlib.Core.Path.{_≡_, refl, sym, ap, ap₂, _∙_, fun-ext, subst}
 use mathlib.Core.Logic.{_↔_, ⊎-elim}
 use mathlib.Core.Bool.{Bool, true, false, not, cond, _&&_}
-use mathlib.Core.List.{List, [], _∷_, _++_, map, map-map, append-nil, append-assoc, List·Memᴰ, List·Memᴰ·head, Memᴰ·map, Memᴰ·append-left, Memᴰ·append-right, List·Memᴰ·append-cases}
+use mathlib.Core.List.{List, [], _∷_, _++_, map, map-append, map-map, append-nil, append-assoc, List·Memᴰ, List·Memᴰ·head, Memᴰ·map, Memᴰ·append-left, Memᴰ·append-right, List·Memᴰ·append-cases}
 use Prim.Native.Nat.{ℕ, zero, suc, _+_, _≤_, _<_}
 use native.Mathlib.Nat.{not-suc-le-zero, zero-add}
 use native.Mathlib.Omega.{arith}
@@ -22,7 +22,7 @@ use Rattle.algebra.specs.Trial.{All, Distinct}
 use Rattle.algebra.proofs.Trial.{all-keep, distinct-keep, keep-passed, kept-member}
 use Rattle.table_rules.specs.Entries.{Entry, Halving, unlessEmpty}
 use Rattle.table_rules.specs.Groups.{bitWords, precedes, InOrder, agrees, group, byBit}
-use Rattle.table_rules.proofs.Lists.{keep-both, all-append, all-mapped, all-to-map, map-append}
+use Rattle.table_rules.proofs.Lists.{keep-both, all-append, all-mapped, all-to-map}
 use Rattle.table_rules.proofs.Counting.{agrees-first, agrees-none}
 use Rattle.table_rules.proofs.Cut.{Cut, whole, parted}
 

@@ -4,7 +4,6 @@
 --   keep-all, keep-append, keep-keep    of what a test keeps
 --   keep-both                           those that pass a test and those that do not
 --   all-append, all-of-map, all-to-map  of what holds of each element
---   map-append                          of two lists, one behind the other
 -- Assumes nothing.
 use mathlib.Core.Path.{_≡_, refl, ap}
 use mathlib.Core.Logic.{_⊎_, inl, inr}
@@ -83,7 +82,3 @@ module _ {A B : Type 0} where
   pub all-of-map : (P : B → Type 0) (f : A → B) (s : List A) → All P (map f s) → All (λ x. P (f x)) s
   all-of-map P f [] h = tt
   all-of-map P f (x ∷ s) h = (h .0, all-of-map P f s (h .1))
-
-  pub map-append : (f : A → B) (s t : List A) → map f (s ++ t) ≡ map f s ++ map f t
-  map-append f [] t = refl
-  map-append f (x ∷ s) t = ap (λ l. f x ∷ l) (map-append f s t)

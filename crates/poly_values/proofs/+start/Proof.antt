@@ -5,9 +5,10 @@ use native.Mathlib.Omega.{arith}
 use borrow.Author.Needs.{needs}
 use lib.ListN.{length, length-take, length-drop, length-append}
 use lib.Seq.{length-take-le}
+use Rattle.algebra.proofs.StaysBelow.{below-at}
 use Rattle.poly_values.specs.Planes.{taps11, RowStarted}
 use Rattle.poly_values.proofs.Halves.{HalfCount, half-count}
-use Rattle.poly_values.proofs.Scalars.{digits11, below-at}
+use Rattle.poly_values.proofs.Scalars.{digits11}
 use Rattle.poly_values.proofs.Multipliers.{monic11}
 use Rattle.poly_values.proofs.Levels.{pair-from, start-leaf, low-joined, above-zero, below-take}
 use Prim.Native.Nat.{ℕ, _+_, _-_, _*_, _/_, _^_, _<_}
@@ -70,7 +71,7 @@ start-shared-slice-read-y : (t : ℕ) → start-lts.Need-shared-slice-read-y (la
 start-shared-slice-read-y t c = let s = c .before .before .before .before .before .before .before .before .before in let h = half-count (s .args .k) (s .args .n) (c .before .before .before .before .before .if1 .taken) (s .pre .1 .size) in let r = s .pre .1 .room in let t = s .pre .1 .table in let m = s .pre .1 .many in omega arith
 
 start-multiple-requires : (t : ℕ) → start-lts.Need-multiple-requires (laws t) (start-at t) start.Post
-start-multiple-requires t c κs = let s = c .before .before .before .before .before .before .before .before .before in let h = half-count (s .args .k) (s .args .n) (c .before .before .before .before .before .if1 .taken) (s .pre .1 .size) in let r = s .pre .1 .room in let t = s .pre .1 .table in let m = s .pre .1 .many in below-at (s .args .a .now) (s .pre .1 .small) (s .args .n / 2) (omega arith)
+start-multiple-requires t c κs = let s = c .before .before .before .before .before .before .before .before .before in let h = half-count (s .args .k) (s .args .n) (c .before .before .before .before .before .if1 .taken) (s .pre .1 .size) in let r = s .pre .1 .room in let t = s .pre .1 .table in let m = s .pre .1 .many in below-at _ (s .args .a .now) (s .pre .1 .small) (s .args .n / 2) (omega arith)
 
 start-sum-requires : (t : ℕ) → start-lts.Need-sum-requires (laws t) (start-at t) start.Post
 start-sum-requires t c κs = tt
@@ -157,7 +158,7 @@ start-same-length : (t : ℕ) → start-lts.Need-same-length (laws t) (start-at 
 start-same-length t c = c .before .p2 .given .1 ∙ c .before .before .before .before .before .before .before .p .given .1
 
 start-returns : (t : ℕ) → start-lts.Need-returns (laws t) (start-at t) start.Post
-start-returns t c = let s = c .before .before .before .before .before .before .before .before .before .before .before .before .before .before .before .before .before .before .before .before .before .before .before .before .before in let h = half-count (s .args .k) (s .args .n) (c .before .before .before .before .before .before .before .before .before .before .before .before .before .before .before .before .before .before .before .before .before .if1 .taken) (s .pre .1 .size) in let r = s .pre .1 .room in let t = s .pre .1 .table in let m = s .pre .1 .many in low-joined taps11 digits11 monic11 (s .args .k) (s .args .n / 2) (pair-from taps11 digits11 monic11 (omega arith) (below-at (s .args .a .now) (s .pre .1 .small) (s .args .n / 2) (omega arith)) (c .before .before .before .before .before .before .before .before .before .before .before .before .before .before .before .multiple .ensures) (c .before .before .before .before .before .before .before .before .before .before .before .before .before .before .sum .ensures) (c .before .before .before .before .before .before .before .before .before .before .before .before .before .spread .ensures) (c .before .before .before .before .before .before .before .before .before .before .before .before .sum2 .ensures)) (c .before .before .before .before .before .before .before .before .before .before .before .before .before .before .before .before .before .before .before .before .before .if1 .taken) (h .half) (m ∙ h .whole) refl (above-zero (s .args .a .now) (s .args .n / 2) (sym (c .before .before .before .before .before .before .before .before .before .before .before .before .before .before .before .before .before .before .before .all-zero .ensures) ∙ c .before .before .before .before .before .before .before .before .before .before .before .before .before .before .before .before .before .before .if2 .taken)) (c .before .before .before .before .before .before .before .before .before .before .before .before .before .before .before .before .before .vector .ensures) (sym r ∙ ap (λ (i : ℕ). i * 11) (h .whole)) (c .before .before .before .before .before .before .before .before .start .ensures) (c .before .before .start2 .ensures)
+start-returns t c = let s = c .before .before .before .before .before .before .before .before .before .before .before .before .before .before .before .before .before .before .before .before .before .before .before .before .before in let h = half-count (s .args .k) (s .args .n) (c .before .before .before .before .before .before .before .before .before .before .before .before .before .before .before .before .before .before .before .before .before .if1 .taken) (s .pre .1 .size) in let r = s .pre .1 .room in let t = s .pre .1 .table in let m = s .pre .1 .many in low-joined taps11 digits11 monic11 (s .args .k) (s .args .n / 2) (pair-from taps11 digits11 monic11 (omega arith) (below-at _ (s .args .a .now) (s .pre .1 .small) (s .args .n / 2) (omega arith)) (c .before .before .before .before .before .before .before .before .before .before .before .before .before .before .before .multiple .ensures) (c .before .before .before .before .before .before .before .before .before .before .before .before .before .before .sum .ensures) (c .before .before .before .before .before .before .before .before .before .before .before .before .before .spread .ensures) (c .before .before .before .before .before .before .before .before .before .before .before .before .sum2 .ensures)) (c .before .before .before .before .before .before .before .before .before .before .before .before .before .before .before .before .before .before .before .before .before .if1 .taken) (h .half) (m ∙ h .whole) refl (above-zero (s .args .a .now) (s .args .n / 2) (sym (c .before .before .before .before .before .before .before .before .before .before .before .before .before .before .before .before .before .before .before .all-zero .ensures) ∙ c .before .before .before .before .before .before .before .before .before .before .before .before .before .before .before .before .before .before .if2 .taken)) (c .before .before .before .before .before .before .before .before .before .before .before .before .before .before .before .before .before .vector .ensures) (sym r ∙ ap (λ (i : ℕ). i * 11) (h .whole)) (c .before .before .before .before .before .before .before .before .start .ensures) (c .before .before .start2 .ensures)
 
 start-same-length-2 : (t : ℕ) → start-lts.Need-same-length-2 (laws t) (start-at t) start.Post
 start-same-length-2 t c = let s = c .before .before .before .before .before .before .before .before .before .before .before in let h = half-count (s .args .k) (s .args .n) (c .before .before .before .before .before .before .before .if1 .taken) (s .pre .1 .size) in let r = s .pre .1 .room in let t = s .pre .1 .table in let m = s .pre .1 .many in c .before .before .full .kept .1 .1 .1 .0

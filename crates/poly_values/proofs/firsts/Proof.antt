@@ -5,9 +5,9 @@ use native.Mathlib.Numerals.{add-one}
 use native.Mathlib.Omega.{arith}
 use Prim.Native.Nat.{ℕ, _+_, _*_, _-_, _≤_}
 use lib.ListN.{length}
+use Rattle.algebra.proofs.StaysBelow.{below-at}
 use Rattle.poly_values.specs.Planes.{taps11, Firsts}
 use Rattle.poly_values.proofs.Starting.{firsts-from, firsts-turn}
-use Rattle.poly_values.proofs.Scalars.{below-at}
 use borrow.Author.Needs.{needs}
 use Rattle.poly_values.proofs.firsts.Statement.{statement}
 use Rattle.poly_values.proofs.firsts.Tie as tie
@@ -45,7 +45,7 @@ first-requires c κs =
     let s = c .before .before .before .before .before .before .before in
     let l = c .before .before .before .before .loop in
     let n = l .inv .1 .long in
-    (below-at (s .args .a .now) (s .pre .0) (l .w) (omega arith), below-at (s .args .a .now) (s .pre .0) (s .args .h + l .w) (omega arith), omega arith, omega arith)
+    (below-at _ (s .args .a .now) (s .pre .0) (l .w) (omega arith), below-at _ (s .args .a .now) (s .pre .0) (s .args .h + l .w) (omega arith), omega arith, omega arith)
 
 add-w : tie.Need-add-w Inv-loop μ-loop
 add-w c = omega arith

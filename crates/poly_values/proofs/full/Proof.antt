@@ -5,8 +5,9 @@ use native.Mathlib.Numerals.{add-one}
 use native.Mathlib.Omega.{arith}
 use Prim.Native.Nat.{ℕ}
 use lib.Pow.{pow-pos}
+use Rattle.algebra.proofs.StaysBelow.{below-at}
 use Rattle.poly_values.specs.Planes.{taps11, RowStarted}
-use Rattle.poly_values.proofs.Scalars.{digits11, below-at}
+use Rattle.poly_values.proofs.Scalars.{digits11}
 use Rattle.poly_values.proofs.Multipliers.{monic11}
 use Rattle.poly_values.proofs.Levels.{pair-from, start-full}
 use borrow.Author.Needs.{needs}
@@ -33,7 +34,7 @@ shared-slice-read-y : tie.Need-shared-slice-read-y
 shared-slice-read-y c = let s = c .before .before .before .before .before .before .before .before .before in let b = pow-pos (s .args .k) in let t = s .pre .1 .many in let e = s .pre .0 in omega arith
 
 multiple-requires : tie.Need-multiple-requires
-multiple-requires c κs = let s = c .before .before .before .before .before .before .before .before .before in let b = pow-pos (s .args .k) in let t = s .pre .1 .many in let e = s .pre .0 in below-at (s .args .a .now) (s .pre .1 .small) (s .args .h) (omega arith)
+multiple-requires c κs = let s = c .before .before .before .before .before .before .before .before .before in let b = pow-pos (s .args .k) in let t = s .pre .1 .many in let e = s .pre .0 in below-at _ (s .args .a .now) (s .pre .1 .small) (s .args .h) (omega arith)
 
 sum-requires : tie.Need-sum-requires
 sum-requires c κs = search needs
@@ -64,7 +65,7 @@ returns c = let s = c .before .before .before .before .before .before .before .b
     let b = pow-pos (s .args .k) in let t = s .pre .1 .many in let e = s .pre .0 in
     subst (λ (n : ℕ). RowStarted taps11 n (s .args .g .now) (s .args .x) (s .args .a .now) (s .args .p .now) (c .before .before .run-halves .last .1 .0)) (sym (add-one (s .args .k)))
     (start-full taps11 digits11 monic11
-    (pair-from taps11 digits11 monic11 (omega arith) (below-at (s .args .a .now) (s .pre .1 .small) (s .args .h) (omega arith)) (c .before .before .before .before .before .before .before .before .before .before .before .before .before .before .before .multiple .ensures) (c .before .before .before .before .before .before .before .before .before .before .before .before .before .before .sum .ensures) (c .before .before .before .before .before .before .before .before .before .before .before .before .before .spread .ensures) (c .before .before .before .before .before .before .before .before .before .before .before .before .sum2 .ensures))
+    (pair-from taps11 digits11 monic11 (omega arith) (below-at _ (s .args .a .now) (s .pre .1 .small) (s .args .h) (omega arith)) (c .before .before .before .before .before .before .before .before .before .before .before .before .before .before .before .multiple .ensures) (c .before .before .before .before .before .before .before .before .before .before .before .before .before .before .sum .ensures) (c .before .before .before .before .before .before .before .before .before .before .before .before .before .spread .ensures) (c .before .before .before .before .before .before .before .before .before .before .before .before .sum2 .ensures))
     (s .args .k) (s .args .h) (s .pre .0) (s .pre .1 .many) refl (c .before .before .before .before .before .before .before .before .before .before .before .before .before .before .before .before .before .before .before .before .before .vector .ensures) (sym (s .pre .1 .room)) (c .before .before .before .before .before .before .before .before .before .before .before .before .before .before .before .before .before .before .before .firsts .ensures) (c .before .before .before .before .before .before .before .before .before .before .put-vector .ensures) (c .before .before .before .before .before .before .put-vector2 .ensures) (c .before .before .run-halves .ensures))
 
 pub full-spec : {M : Type 1} → statement M

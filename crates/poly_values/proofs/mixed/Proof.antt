@@ -4,8 +4,9 @@ use mathlib.Core.Path.{_≡_, refl, sym, ap, _∙_, subst}
 use Prim.Native.Nat.{ℕ, suc, _+_, _*_, _-_, _≤_}
 use native.Mathlib.Omega.{arith}
 use lib.ListN.{length, drop}
+use Rattle.algebra.proofs.StaysBelow.{below-at}
 use Rattle.poly_values.specs.Planes.{taps11, Mixed}
-use Rattle.poly_values.proofs.Scalars.{digits11, mixed-from, mixed-turn, below-at}
+use Rattle.poly_values.proofs.Scalars.{digits11, mixed-from, mixed-turn}
 use borrow.Author.Needs.{needs}
 use Rattle.poly_values.proofs.mixed.Statement.{statement}
 use Rattle.poly_values.proofs.mixed.Tie as tie
@@ -38,7 +39,7 @@ shared-slice-read-multiple-by-table : tie.Need-shared-slice-read-multiple-by-tab
 shared-slice-read-multiple-by-table c = omega arith
 
 multiple-by-table-requires : tie.Need-multiple-by-table-requires Inv-loop μ-loop
-multiple-by-table-requires c κs = below-at (c .before .before .before .before .before .before .args .f .now) (c .before .before .before .before .before .before .pre .0) (c .before .before .before .loop .j - 1) (omega arith)
+multiple-by-table-requires c κs = below-at _ (c .before .before .before .before .before .before .args .f .now) (c .before .before .before .before .before .before .pre .0) (c .before .before .before .loop .j - 1) (omega arith)
 
 sum-requires : tie.Need-sum-requires Inv-loop μ-loop
 sum-requires c κs = search needs

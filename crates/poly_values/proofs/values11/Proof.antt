@@ -6,8 +6,8 @@ use Prim.Native.Nat.{ℕ}
 use native.Mathlib.Omega.{arith}
 use lib.ListN.{length, take, drop, replicate}
 use lib.Seq.{length-take-le}
+use Rattle.algebra.proofs.StaysBelow.{below-at}
 use Rattle.poly_values.specs.Planes.{lanes}
-use Rattle.poly_values.proofs.Scalars.{below-at}
 use Rattle.poly_values.proofs.Levels.{below-take}
 use Rattle.poly_values.proofs.Finishing.{lanes-read, lanes-small, lanes-long, lanes-front, first-vector, values-from}
 use borrow.Author.Needs.{needs}
@@ -56,7 +56,7 @@ array-read-multiple c = search needs
 multiple-requires : tie.Need-multiple-requires
 multiple-requires c κs = let e = (lanes-read (c .before .before .before .before .before .before .before .before .before .before .pre .2) (c .before .before .before .before .before .before .before .columns11 .ensures) (c .before .before .before .before .before .mixed .ensures) (c .before .before .before .read-lanes .ensures)) in
     let a = (c .before .before .before .read-lanes .last .1 .0 ++ drop (length (c .before .before .before .before .before .before .before .before .before .before .args .f .now)) (replicate 33 0)) in
-    below-at a (lanes-small a (c .before .before .before .before .before .mixed .result) e (c .before .before .before .before .before .mixed .ensures .long)) 32 (omega (arith, lanes-long a (c .before .before .before .before .before .mixed .result) e))
+    below-at _ a (lanes-small a (c .before .before .before .before .before .mixed .result) e (c .before .before .before .before .before .mixed .ensures .long)) 32 (omega (arith, lanes-long a (c .before .before .before .before .before .mixed .result) e))
 
 sum-requires : tie.Need-sum-requires
 sum-requires c κs = search needs
@@ -92,7 +92,7 @@ returns c = let s = c .before .before .before .before .before .before .before .b
     let e = (lanes-read (c .before .before .before .before .before .before .before .before .before .before .before .before .before .before .before .before .before .before .before .pre .2) (c .before .before .before .before .before .before .before .before .before .before .before .before .before .before .before .before .columns11 .ensures) (c .before .before .before .before .before .before .before .before .before .before .before .before .before .before .mixed .ensures) (c .before .before .before .before .before .before .before .before .before .before .before .before .read-lanes .ensures)) in
     let a = (c .before .before .before .before .before .before .before .before .before .before .before .before .read-lanes .last .1 .0 ++ drop (length (c .before .before .before .before .before .before .before .before .before .before .before .before .before .before .before .before .before .before .before .args .f .now)) (replicate 33 0)) in
     values-from (s .pre .2) (s .pre .1) (s .pre .0) (c .before .before .before .before .before .before .before .before .before .before .before .before .before .before .before .before .columns11 .ensures) (c .before .before .before .before .before .before .before .before .before .before .top11 .ensures) (c .before .before .before .before .before .before .multipliers11 .ensures) (c .before .before .before .before .before .before .before .before .before .before .before .before .before .before .mixed .ensures) e
-    (first-vector (below-at a (lanes-small a (c .before .before .before .before .before .before .before .before .before .before .before .before .before .before .mixed .result) e (c .before .before .before .before .before .before .before .before .before .before .before .before .before .before .mixed .ensures .long)) 0 (omega (arith, lanes-long a (c .before .before .before .before .before .before .before .before .before .before .before .before .before .before .mixed .result) e))) (c .before .before .before .before .before .before .before .before .before .spread .ensures) (c .before .before .before .before .before .before .before .before .multiple .ensures) (c .before .before .before .before .before .before .before .sum .ensures))
+    (first-vector (below-at _ a (lanes-small a (c .before .before .before .before .before .before .before .before .before .before .before .before .before .before .mixed .result) e (c .before .before .before .before .before .before .before .before .before .before .before .before .before .before .mixed .ensures .long)) 0 (omega (arith, lanes-long a (c .before .before .before .before .before .before .before .before .before .before .before .before .before .before .mixed .result) e))) (c .before .before .before .before .before .before .before .before .before .spread .ensures) (c .before .before .before .before .before .before .before .before .multiple .ensures) (c .before .before .before .before .before .before .before .sum .ensures))
     (c .before .before .start .ensures)
 
 pub values11-spec : {M : Type 1} → statement M
