@@ -7,26 +7,17 @@ use mathlib.Core.Path.{_≡_}
 use mathlib.Core.List.{List}
 use Prim.Native.Nat.{ℕ}
 use lib.ListN.{getD}
-use Rattle.refusals.proofs.Numbers.{by-number, refused-back, accepted-back}
-use Rattle.refusals.proofs.Told.{way-back, coincide}
+use Rattle.refusals.proofs.Numbers.{refused-back, accepted-back}
+use Rattle.refusals.proofs.Told.{told-by, coincide}
 use Rattle.table_rules.specs.RootMemory.{rootMemory}
 use Rattle.find_search.specs.Calls.{toldSearched, searchOutcome, searchTests, Searches}
 use Rattle.find_search.specs.declared.Searched.{Searched}
 use Rattle.find_search.specs.declared.Searched.the-variants.{Seen, NotSearched}
 
--- the value is the number of roots
-searchedOf : ℕ × List ℕ → Searched
-searchedOf o = by-number NotSearched (Seen (getD (o .1) 0 0)) (o .0)
-
--- it takes number and value back
-searched-back : (r : Searched) → searchedOf (toldSearched r) ≡ r
-unfolding searchedOf
-searched-back (Seen s) = accepted-back NotSearched (Seen s)
-searched-back (NotSearched k) = refused-back NotSearched (Seen 0) k
-
--- two answers with one number and value are one
+-- two answers with one number and value are one; the value is the number of roots
 pub searched-told : (r s : Searched) → toldSearched r ≡ toldSearched s → r ≡ s
-searched-told = way-back toldSearched searchedOf searched-back
+searched-told = told-by toldSearched (λ o. o .0) NotSearched (λ o. Seen (getD (o .1) 0 0))
+    (elim [ Seen s ↦ accepted-back NotSearched (Seen s) | NotSearched k ↦ refused-back NotSearched (Seen 0) k ])
 
 -- the answer and the lent list
 pub search-coincide : (m : ℕ) (cs list : List ℕ) (r s : Searched) (x y : List ℕ)

@@ -29,7 +29,6 @@ use Rattle.algebra.proofs.Trial.{all-keep, all-map, distinct-keep, keep-passed}
 use Rattle.algebra.proofs.Lengths.{length-rem, length-add, length-add-left}
 use Rattle.algebra.proofs.StaysBelow.{add-below, eval-below, keep-below, monic-below, norm-below, power-below, rem-below, replicate-below, rootsOf-below, traceOf-below}
 use Rattle.field.specs.Rows.{known}
-use Rattle.field.proofs.Known.{by-row, listed}
 use Rattle.algebra.proofs.NumberMonic.{norm-made}
 use Rattle.algebra.proofs.NumberEvaluation.{eval-add, eval-top}
 use Rattle.algebra.proofs.NumberDivision.{eval-rem}
@@ -42,6 +41,7 @@ use Rattle.table_rules.specs.Layout.{byFactor}
 use Rattle.table_rules.specs.Table.{Table, decode}
 use Rattle.table_rules.specs.Splitting.{traceBitAt, firstFactor, halvingAt}
 use Rattle.table_rules.specs.Demand.{groupsAfter}
+use Rattle.table_rules.proofs.Fields.{degree-within}
 use Rattle.table_rules.proofs.Layouts.{byFactor-lawful}
 use Rattle.table_rules.proofs.Soundness.{decode-encode}
 use Rattle.table_rules.proofs.Demand.{demand-3}
@@ -286,8 +286,7 @@ module _ {m n : ℕ} {f ls ts rows : List ℕ} (l : Lent m ls ts) (hf : Below (2
       let both : All (λ r. (r < 2 ^ m) × T (isRoot (G m) F r)) rs =
       all-both (λ r. r < 2 ^ m) (λ r. T (isRoot (G m) F r)) rs (rootsOf-below (G m) (2 ^ m) F) (keep-passed (isRoot (G m) F) (upFrom 0 (2 ^ m))) in
       subst (All (λ r. (r < 2 ^ m) × (eval (G m) F r ≡ 0))) (rootsOf-norm N f hf (g .made))
-      (all-map (λ r. (r < 2 ^ m) × T (isRoot (G m) F r)) (λ r. (r < 2 ^ m) × (eval (G m) F r ≡ 0)) rs
-      (λ r h. (h .0, N .zero-test (eval (G m) F r) (eval-below N F r small (h .0)) .0 (h .1))) both)
+      (all-map (λ r h. (h .0, N .zero-test (eval (G m) F r) (eval-below N F r small (h .0)) .0 (h .1))) rs both)
 
   -- so the sum parts the product over a group as Tr(a^i z) does
   group-same : (i : ℕ) (w : List Bool) → let p : List ℕ = monicRoots (G m) (group (traceBitAt m) w (rootsAt m f)) in
@@ -298,8 +297,7 @@ module _ {m n : ℕ} {f ls ts rows : List ℕ} (l : Lent m ls ts) (hf : Below (2
       (keep-below (2 ^ m) _ (rootsAt m f) (rootsOf-below (G m) (2 ^ m) f)) (level-below l n rows i) (traceOf-below N m b (small-power i))
       (distinct-keep _ (rootsAt m f) (rootsOf-distinct (G m) (2 ^ m) f))
       (all-keep (λ r. eval (G m) (levelSum m n rows i) r ≡ eval (G m) (traceOf (G m) m b) r) _ (rootsAt m f)
-      (all-map (λ r. (r < 2 ^ m) × (eval (G m) (monic (G m) (g .low)) r ≡ 0)) (λ r. eval (G m) (levelSum m n rows i) r ≡ eval (G m) (traceOf (G m) m b) r) (rootsAt m f)
-      (λ r h. level-value i r (h .0) (h .1)) all-roots))
+      (all-map (λ r h. level-value i r (h .0) (h .1)) (rootsAt m f) all-roots))
 
   -- what holds of the empty list and of the product over each group holds of each factor
   each-entry : (Q : List ℕ → Type 0) → Q [] → ((w : List Bool) → Q (monicRoots (G m) (group (traceBitAt m) w (rootsAt m f)))) → (ws : List (List Bool)) (k : ℕ)
@@ -359,7 +357,7 @@ powers-few {m} {f} l t e = omega (arith, norm-made (numbers-of l) f (t .small) e
 
 -- so that the sums of all levels have their room
 pub powers-fit : (m n : ℕ) → known m ≡ true → n ≤ limit → m * n ≤ widest * limit
-powers-fit m n k h = mul-le-mul {n₂ = widest} {m₂ = limit} (by-row (λ m p. m ≤ widest) (omega arith) (omega arith) (omega arith) (listed m k)) h
+powers-fit m n k h = mul-le-mul {n₂ = widest} {m₂ = limit} (degree-within m k) h
 
 -- a begun table after some steps, with the sums of the levels below k
 pub record Going (m c : ℕ) (f : List ℕ) (n : ℕ) (rows traces₀ table₀ traces table : List ℕ) (k : ℕ) : Type 0 where

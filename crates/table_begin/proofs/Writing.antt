@@ -15,7 +15,6 @@ use lib.ListN.{length, take}
 use Rattle.refusals.specs.Order.{Passed}
 use Rattle.field.specs.Rows.{known}
 use Rattle.refusals.proofs.Order.{failed, others}
-use Rattle.field.proofs.Known.{by-row, listed}
 use Rattle.field.specs.Field.{fieldAt, G, rootsAt}
 use Rattle.field.specs.Tables.{Logs, Antilogs}
 use Rattle.algebra.proofs.Lengths.{length-monicRoots}
@@ -25,13 +24,14 @@ use Rattle.table_rules.specs.Splitting.{begunTable, slotsBegun}
 use Rattle.table_rules.specs.Limit.{limit, slots, widest}
 use Rattle.table_begin.specs.SplitPart.{CanSplitOff, SplitOff, Beginnable}
 use Rattle.table_rules.specs.Polynomials.{PolynomialIn}
+use Rattle.table_rules.proofs.Fields.{degree-within}
 use Rattle.table_rules.proofs.Polynomials.{passed-rest}
 use Rattle.poly.proofs.Lending.{lent-at}
 use Rattle.table_begin.specs.Calls.{beginTests}
 
 -- the rows of m powers fit where those of the widest field do
 pub rows-room : (m : ℕ) → known m ≡ true → {l : ℕ} → widest * limit ≤ l → m * limit ≤ l
-rows-room m k h = let s : m ≤ widest = by-row (λ m p. m ≤ widest) (omega arith) (omega arith) (omega arith) (listed m k) in omega arith
+rows-room m k h = omega (arith, degree-within m k)
 
 -- what beginning a table asks, in the arm of the field of degree n
 pub begin-asks : {m n : ℕ} {cs ls ts table rows : List ℕ} → PolynomialIn m cs → length table ≡ slots → widest * limit ≤ length rows → m ≡ n

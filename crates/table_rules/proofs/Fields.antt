@@ -1,7 +1,7 @@
 -- What the theory of the work table asks of a field, and that each known field has it.
 --   BinaryField      the numbers below 2^m, with exclusive or for the sum, in which the first m powers of a are 1, 2,
 --                    4, ..
---   known-field      each known field, with a = 2
+--   known-field      each known field, with a = 2;  degree-within  its degree is at most that of the widest
 --   bits-apart       no two elements have the same trace bits
 --   group-commutes   the halving of the product over a group, by gcd and cofactor, is the product over each half of
 --                    the group
@@ -9,7 +9,8 @@
 use mathlib.Core.Path.{_≡_, refl, sym, ap, _∙_, fun-ext}
 use mathlib.Core.Bool.{Bool, true, false, not}
 use mathlib.Core.List.{List}
-use Prim.Native.Nat.{ℕ, _^_, _<_}
+use Prim.Native.Nat.{ℕ, _^_, _≤_, _<_}
+use native.Mathlib.Omega.{arith}
 use lib.Bits.{bitXor}
 use Rattle.algebra.specs.Field.{Ops, OnNumbers, power, squared, trace}
 use Rattle.algebra.specs.Trial.{Distinct, keep}
@@ -19,12 +20,13 @@ use Rattle.algebra.proofs.StaysBelow.{power-below}
 use Rattle.algebra.proofs.NumberSteps.{step-gcd, step-cofactor}
 use Rattle.algebra.proofs.NumberTrace.{tests-apart}
 use Rattle.field.specs.Rows.{known, ListedRow, polyOf}
-use Rattle.field.proofs.Known.{listed}
+use Rattle.field.proofs.Known.{by-row, listed}
 use Rattle.field.specs.Field.{numbers, fieldAt, G}
 use Rattle.field.proofs.Generator.{Generated, generated, small}
 use Rattle.field.proofs.Instance.{on-numbers, squared-size}
 use Rattle.field.proofs.Trace.{power-low}
 use Rattle.table_rules.specs.Groups.{byBit}
+use Rattle.table_rules.specs.Limit.{widest}
 use Rattle.table_rules.specs.Splitting.{traceBit, traceHalving}
 use Rattle.table_rules.proofs.Carry.{Commutes}
 
@@ -52,6 +54,10 @@ known-field m k =
       small = gen .two;
       power-is = power-low (fieldAt m) gen;
     }
+
+-- a known degree is at most the widest
+pub degree-within : (m : ℕ) → known m ≡ true → m ≤ widest
+degree-within m k = by-row (λ n p. n ≤ widest) (omega arith) (omega arith) (omega arith) (listed m k)
 
 not-not : (b : Bool) → not (not b) ≡ b
 not-not true = refl

@@ -18,7 +18,6 @@ use lib.ListN.{length, take, drop, set, replicate, length-append, length-replica
 use lib.Seq.{take-at}
 use Rattle.algebra.specs.Polynomial.{Below}
 use Rattle.field.specs.Rows.{known}
-use Rattle.field.proofs.Known.{by-row, listed}
 use Rattle.algebra.specs.Field.{power}
 use Rattle.algebra.specs.Routines.{rem, traceMod, gcd}
 use Rattle.field.specs.Field.{G}
@@ -30,7 +29,7 @@ use Rattle.table_rules.specs.Table.{Table, headSlots, encode, decode}
 use Rattle.table_rules.specs.Splitting.{isDone, firstFactor, halvingAt, slotsDone, slotsStuck, slotsStepped}
 use Rattle.table_rules.proofs.Layouts.{byFactor-lawful}
 use Rattle.table_rules.proofs.Soundness.{Valid, sound-valid, sound-encoded, count-within}
-use Rattle.table_rules.proofs.Fields.{known-field}
+use Rattle.table_rules.proofs.Fields.{known-field, degree-within}
 use Rattle.table_rules.proofs.Keeping.{Free, free, LosslessHalving, trace-halves, sound-length, step-slots}
 use Rattle.table_rules.specs.Places.{beyond, leading, place, slotsOf, spare}
 use Rattle.table_rules.proofs.Places.{encode-around, level-at, degree-at, coefficients-at, first-fair, room, parts-few, parts-some, length-new, step-spliced}
@@ -40,10 +39,6 @@ use Rattle.table_slots.specs.declared.Head.{Head}
 use Rattle.table_check.specs.Verdicts.{Chosen}
 use Rattle.table_step.specs.Parting.{Splittable, Partable, Parted, StepReady}
 use Rattle.table_step.proofs.Commons.{traced-long, trace-small, traced-same}
-
--- the known degrees are small
-degree-small : (m : ℕ) → known m ≡ true → m ≤ widest
-degree-small m k = by-row (λ n p. n ≤ widest) (omega arith) (omega arith) (omega arith) (listed m k)
 
 -- no degree is above their sum, and a list that is not done has an entry
 entry-most : (l : List Factor) (k : ℕ) → length (entryAt l k .1) ≤ degreeSum l
@@ -274,7 +269,7 @@ module _ (l : List ℕ) {o : ℕ} (c : Chosen l o) where
             arith,
             taken-is,
             is-free .steps,
-            mul-le-mul {n₂ = widest} {m₂ = limit} (degree-small (t .width) (valid .field)) (le-trans (div-le-self (degreeSum (t .factors)) (suc (t .cutoff))) (valid .sum)),
+            mul-le-mul {n₂ = widest} {m₂ = limit} (degree-within (t .width) (valid .field)) (le-trans (div-le-self (degreeSum (t .factors)) (suc (t .cutoff))) (valid .sum)),
           );
           room = omega (arith, s .room, s .long);
           least = omega (arith, new-count, z .least);
