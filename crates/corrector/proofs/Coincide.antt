@@ -14,8 +14,8 @@ use native.Mathlib.Omega.{arith}
 use lib.Arith.{lt-one}
 use lib.Dec.{eqb}
 use lib.ListN.{length, getD}
-use Rattle.refusals.proofs.Numbers.{by-number, refused-back, accepted-back}
-use Rattle.refusals.proofs.Told.{way-back}
+use Rattle.refusals.proofs.Numbers.{refused-back, accepted-back}
+use Rattle.refusals.proofs.Told.{told-by}
 use Rattle.field.specs.Field.{fieldAt}
 use Rattle.field.proofs.Digits.{bit-cases}
 use Rattle.corrector_code.specs.Digits.{bytesNumber as numberOfBytes, digits}
@@ -110,19 +110,10 @@ outcomes-coincide (mended b s x) (none-near c r y) = absurd (y _ x)
 outcomes-coincide {t} {word} (mended b s x) (mended c r y) =
     let e = within-unique x y in (ap (λ (v : List ℕ). (0, distance word v ∷ [])) e, e)
 
--- the value is the number of flips
-correctedOf : ℕ × List ℕ → Corrected
-correctedOf o = by-number NotCorrected (Flips (getD (o .1) 0 0)) (o .0)
-
--- it takes number and value back
-corrected-back : (r : Corrected) → correctedOf (toldCorrected r) ≡ r
-unfolding correctedOf
-corrected-back (Flips n) = accepted-back NotCorrected (Flips n)
-corrected-back (NotCorrected k) = refused-back NotCorrected (Flips 0) k
-
--- two answers with one number and value are one
+-- two answers with one number and value are one; the value is the number of flips
 pub corrected-told : (r s : Corrected) → toldCorrected r ≡ toldCorrected s → r ≡ s
-corrected-told = way-back toldCorrected correctedOf corrected-back
+corrected-told = told-by toldCorrected (λ o. o .0) NotCorrected (λ o. Flips (getD (o .1) 0 0))
+    (elim [ Flips n ↦ accepted-back NotCorrected (Flips n) | NotCorrected k ↦ refused-back NotCorrected (Flips 0) k ])
 
 -- the answer and the lent word
 pub correct-coincide : {t : ℕ} {word : List ℕ} (r s : Corrected) (a b : List ℕ)

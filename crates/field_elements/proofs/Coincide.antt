@@ -2,50 +2,42 @@
 --   answer-told, roots-told   two answers with one number and one list of values are one
 --   product-coincide ..       so for each call
 -- Assumes nothing.
-use mathlib.Core.Path.{_≡_, sym, _∙_}
+use mathlib.Core.Path.{_≡_, refl, sym, ap, _∙_}
 use mathlib.Core.List.{List, [], _∷_}
 use Prim.Native.Nat.{ℕ}
 use lib.ListN.{getD}
-use Rattle.refusals.proofs.Numbers.{by-number, refused-back, accepted-back}
-use Rattle.refusals.proofs.Told.{way-back}
+use Rattle.refusals.proofs.Numbers.{refused-back, accepted-back}
+use Rattle.refusals.proofs.Told.{told-by}
 use Rattle.field_elements.specs.Calls.{toldAnswer, toldQuadratic, TellsProduct, TellsInverse, TellsPosition, TellsQuadratic}
 use Rattle.field_elements.specs.declared.Answer.{Answer}
 use Rattle.field_elements.specs.declared.Answer.the-variants.{Value, Refused}
+use Rattle.field.specs.Quadratics.{rootsIn}
 use Rattle.field.specs.declared.solver.Quadratic.{Quadratic}
 use Rattle.field.specs.declared.solver.Quadratic.the-variants.{NoRoot, One, Two}
 use Rattle.field_elements.specs.declared.Roots.{Roots}
 use Rattle.field_elements.specs.declared.Roots.the-variants.{Found, Refused as Turned}
 
--- the answer that a number and values stand for
-answerOf : ℕ × List ℕ → Answer
-answerOf o = by-number Refused (Value (getD (o .1) 0 0)) (o .0)
-
-answer-back : (r : Answer) → answerOf (toldAnswer r) ≡ r
-unfolding answerOf
-answer-back (Value v) = accepted-back Refused (Value v)
-answer-back (Refused k) = refused-back Refused (Value 0) k
-
+-- two answers with one number and value are one
 pub answer-told : (r s : Answer) → toldAnswer r ≡ toldAnswer s → r ≡ s
-answer-told = way-back toldAnswer answerOf answer-back
+answer-told = told-by toldAnswer (λ o. o .0) Refused (λ o. Value (getD (o .1) 0 0))
+    (elim [ Value v ↦ accepted-back Refused (Value v) | Refused k ↦ refused-back Refused (Value 0) k ])
 
+-- the roots in a list, taken back
 rootsFrom : List ℕ → Quadratic
 rootsFrom [] = NoRoot
 rootsFrom (x ∷ []) = One x
 rootsFrom (x ∷ y ∷ l) = Two x y
 
-rootsAnswer : ℕ × List ℕ → Roots
-rootsAnswer o = by-number Turned (Found (rootsFrom (o .1))) (o .0)
+roots-back : (q : Quadratic) → rootsFrom (rootsIn q) ≡ q
+unfolding rootsFrom
+roots-back = elim [ NoRoot ↦ refl | One x ↦ refl | Two x y ↦ refl ]
 
-roots-back : (r : Roots) → rootsAnswer (toldQuadratic r) ≡ r
-unfolding rootsAnswer rootsFrom
-roots-back (Turned k) = refused-back Turned (Found NoRoot) k
-roots-back (Found NoRoot) = accepted-back Turned (Found NoRoot)
-roots-back (Found (One x)) = accepted-back Turned (Found (One x))
-roots-back (Found (Two x y)) = accepted-back Turned (Found (Two x y))
-
+-- two answers with one number and one list of roots are one
 pub roots-told : (r s : Roots) → toldQuadratic r ≡ toldQuadratic s → r ≡ s
-roots-told = way-back toldQuadratic rootsAnswer roots-back
+roots-told = told-by toldQuadratic (λ o. o .0) Turned (λ o. Found (rootsFrom (o .1)))
+    (elim [ Found q ↦ accepted-back Turned (Found (rootsFrom (rootsIn q))) ∙ ap Found (roots-back q) | Turned k ↦ refused-back Turned (Found (rootsFrom [])) k ])
 
+-- so for each call
 pub product-coincide : (m a b : ℕ) (r s : Answer) → TellsProduct m a b r → TellsProduct m a b s → r ≡ s
 product-coincide m a b r s h k = answer-told r s (h ∙ sym k)
 

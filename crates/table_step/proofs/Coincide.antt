@@ -9,26 +9,16 @@ use mathlib.Core.Bool.{cond}
 use Prim.Native.Nat.{ℕ}
 use lib.Dec.{eqb}
 use lib.ListN.{getD}
-use Rattle.refusals.proofs.Numbers.{by-number, refused-back, accepted-back}
-use Rattle.refusals.proofs.Told.{way-back, coincide}
+use Rattle.refusals.proofs.Numbers.{refused-back, accepted-back}
+use Rattle.refusals.proofs.Told.{told-by, coincide}
 use Rattle.table_step.specs.Calls.{toldStepped, stepOutcome, stepMemory, Steps}
 use Rattle.table_step.specs.declared.Stepped.{Stepped}
 use Rattle.table_step.specs.declared.Stepped.the-variants.{Taken, Done, NotStepped}
 
--- a value of 1 is "done"
-steppedOf : ℕ × List ℕ → Stepped
-steppedOf o = by-number NotStepped (cond (eqb (getD (o .1) 0 0) 1) Done Taken) (o .0)
-
--- it takes number and value back
-stepped-back : (r : Stepped) → steppedOf (toldStepped r) ≡ r
-unfolding steppedOf
-stepped-back Taken = accepted-back NotStepped Taken
-stepped-back Done = accepted-back NotStepped Done
-stepped-back (NotStepped k) = refused-back NotStepped Taken k
-
--- two answers with one number and value are one
+-- two answers with one number and value are one; a value of 1 is "done"
 pub stepped-told : (r s : Stepped) → toldStepped r ≡ toldStepped s → r ≡ s
-stepped-told = way-back toldStepped steppedOf stepped-back
+stepped-told = told-by toldStepped (λ o. o .0) NotStepped (λ o. cond (eqb (getD (o .1) 0 0) 1) Done Taken)
+    (elim [ Taken ↦ accepted-back NotStepped Taken | Done ↦ accepted-back NotStepped Done | NotStepped k ↦ refused-back NotStepped Taken k ])
 
 -- the answer and the lent table
 pub step-coincide : (table : List ℕ) (r s : Stepped) (x y : List ℕ) → Steps table r x → Steps table s y → (r ≡ s) × (x ≡ y)
