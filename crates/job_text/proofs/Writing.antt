@@ -71,17 +71,12 @@ small-long x h = ap length (decimal-small x h)
 pub large-long : (x : ℕ) → 10 ≤ x → length (decimal x) ≡ length (decimal (x / 10)) + 1
 large-long x h = ap length (decimal-large x h) ∙ length-append (decimal (x / 10)) (digitByte (x % 10) ∷ [])
 
-pub wrote-small : {x at : ℕ} {s : List ℕ} → x < 10 → at + length (decimal x) ≤ length s → Wrote (decimal x) at s (at + 1) (set s at (digitByte x))
-wrote-small {x} h l = rw (decimal-small x h) (wrote-byte (omega (arith, small-long x h)))
+pub wrote-small : {x at end : ℕ} {s s′ : List ℕ} → x < 10 → Wrote (digitByte x ∷ []) at s end s′ → Wrote (decimal x) at s end s′
+wrote-small {x} h p = rw (decimal-small x h) p
 
-pub wrote-large : {x at end : ℕ} {s s′ : List ℕ} → 10 ≤ x → at + length (decimal x) ≤ length s → Wrote (decimal (x / 10)) at s end s′
-    → Wrote (decimal x) at s (end + 1) (set s′ end (digitByte (x % 10)))
-wrote-large {x} {at} {end} {s} {s′} h l p =
-    let n = large-long x h in
-    let e : length s′ ≡ length s = wrote-long (omega arith) p in
-    let q : end ≡ at + length (decimal (x / 10)) = p .ended in
-    let b : end + 1 ≤ length s′ = omega arith in
-    rw (decimal-large x h) (wrote-then (omega arith) p (wrote-byte b))
+pub wrote-large : {x at end end′ : ℕ} {s s′ s″ : List ℕ} → 10 ≤ x → at ≤ length s → Wrote (decimal (x / 10)) at s end s′
+    → Wrote (digitByte (x % 10) ∷ []) end s′ end′ s″ → Wrote (decimal x) at s end′ s″
+wrote-large {x} h l p q = rw (decimal-large x h) (wrote-then l p q)
 
 -- ---- numbers behind a space
 

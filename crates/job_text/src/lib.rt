@@ -8,20 +8,6 @@ use table_rules::LIMIT;
 // The most bytes that a line has (specs/Lines.antt `longestLine`): it has as many roots as the limit.
 pub const LINE: usize = 29 + 6 * LIMIT;
 
-// Writes x in decimal to out from `at` on; the place behind it.
-pub fn decimal(x: u32, at: usize, out: &mut [u8]) -> usize
-    requires { ⌜ at + length (decimal x) ≤ length (now out) ⌝ }
-    ensures { λ r. ⌜ Wrote (decimal x) at (now (out .entry)) r (now (out .exit)) ⌝ }
-{
-    if x < 10 {
-        out[at] = 48 + (x as u8);
-        return at + 1;
-    }
-    let end = decimal(x / 10, at, out);
-    out[end] = 48 + ((x % 10) as u8);
-    end + 1
-}
-
 // Writes a byte to out at `at`; the place behind it.
 fn put_byte(b: u8, at: usize, out: &mut [u8]) -> usize
     requires { ⌜ at + 1 ≤ length (now out) ⌝ }
@@ -29,6 +15,18 @@ fn put_byte(b: u8, at: usize, out: &mut [u8]) -> usize
 {
     out[at] = b;
     at + 1
+}
+
+// Writes x in decimal to out from `at` on; the place behind it.
+pub fn decimal(x: u32, at: usize, out: &mut [u8]) -> usize
+    requires { ⌜ at + length (decimal x) ≤ length (now out) ⌝ }
+    ensures { λ r. ⌜ Wrote (decimal x) at (now (out .entry)) r (now (out .exit)) ⌝ }
+{
+    if x < 10 {
+        return put_byte(48 + (x as u8), at, out);
+    }
+    let end = decimal(x / 10, at, out);
+    put_byte(48 + ((x % 10) as u8), end, out)
 }
 
 // Writes a space and x in decimal to out from `at` on; the place behind them.
