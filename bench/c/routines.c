@@ -241,8 +241,7 @@ static double lend(void)
     double t[ROUNDS];
     for (int round = 0; round < ROUNDS; round++) {
         double start = now();
-        polynomial_logs(11, lent_logs, SIZE);
-        polynomial_antilogs(11, lent_antilogs, 4 * ORDER);
+        polynomial_tables(11, lent_logs, SIZE, lent_antilogs, 4 * ORDER);
         t[round] = now() - start;
     }
     return median(t);

@@ -6,8 +6,7 @@
 #define READ(x) const uint16_t *x, size_t x##_count
 #define WRITTEN(x) uint16_t *x, size_t x##_count
 
-void polynomial_logs(uint16_t m, WRITTEN(room));
-void polynomial_antilogs(uint16_t m, WRITTEN(room));
+void polynomial_tables(uint16_t m, WRITTEN(logs), WRITTEN(antilogs));
 void polynomial_log_row(uint16_t m, READ(logs), READ(antilogs), READ(p), WRITTEN(row));
 void polynomial_remainder(uint16_t m, READ(logs), READ(antilogs), READ(row), WRITTEN(f), WRITTEN(r));
 void polynomial_square_mod(uint16_t m, READ(logs), READ(antilogs), READ(row), WRITTEN(w), WRITTEN(s));

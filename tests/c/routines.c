@@ -20,8 +20,7 @@ static tables tables_of(uint16_t m)
     tables *t = &lent[m];
     if (t->logs.at == NULL) {
         *t = (tables){lend_room(1u << m), lend_room(4 * ((1u << m) - 1))};
-        polynomial_logs(m, LENT(t->logs));
-        polynomial_antilogs(m, LENT(t->antilogs));
+        polynomial_tables(m, LENT(t->logs), LENT(t->antilogs));
         keep(t->logs);
         keep(t->antilogs);
     }

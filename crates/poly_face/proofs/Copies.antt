@@ -1,46 +1,45 @@
--- A table that was copied to the front of lent room stands there, whole. Both kinds of table are lent by the same
--- laws.
---   Kind     a kind of table: what the table of degree m holds, and how many entries it has;  logsKind,
---            antilogsKind  the kinds
---   fits     room enough for a degree is enough for its table
---   lent     what holds of the table holds of the front of the room
+-- Tables that were copied to the front of lent room stand there, whole.
+--   front      what holds of a table holds of the front of the room that it is copied to
+--   room-for   room enough for a degree is enough for its tables
+--   lent-in    copied there, they are lent
 -- Assumes nothing.
 use mathlib.Core.Path.{_≡_, sym, ap, _∙_, subst}
 use mathlib.Core.List.{List}
-use Prim.Native.Nat.{ℕ, _*_, _-_, _^_, _≤_}
+use Prim.Native.Nat.{ℕ, _≤_}
 use lib.ListN.{length, take}
 use Rattle.slices.specs.Lists.{copied}
 use Rattle.slices.proofs.Lists.{copied-front, length-copied}
 use Rattle.field.specs.Field.{fieldAt}
 use Rattle.field.specs.Tables.{Logs, Antilogs}
+use Rattle.poly_face.specs.Tables.{Roomy, LentIn}
 
--- a kind of table, for every degree
-pub record Kind : Type 1 where
-  pub Holds : ℕ → List ℕ → Type 0
-  pub entries : ℕ → ℕ
-  pub whole : {m : ℕ} {table : List ℕ} → Holds m table → length table ≡ entries m
+-- what holds of a table of n entries holds of the front of the room that it is copied to
+front : (P : List ℕ → Type 0) {n : ℕ} {table exit : List ℕ} (room : List ℕ) → length table ≡ n → P table → exit ≡ copied table room → P (take n exit)
+front P {n} {table} room e h x = subst P (sym (ap (take n) x ∙ copied-front table room e)) h
 
--- the log tables
-abbrev pub logsKind : Kind
-logsKind = record { Holds = λ m. Logs (fieldAt m); entries = λ m. 2 ^ m; whole = λ h. h .entries }
+module _ {m n : ℕ} {ls ts logs antilogs : List ℕ} (e : m ≡ n) (L : Logs (fieldAt n) ls) (A : Antilogs (fieldAt n) ts) (r : Roomy m logs antilogs) where
+  -- the tables are those of the degree m
+  logs-m : Logs (fieldAt m) ls
+  logs-m = subst (λ (k : ℕ). Logs (fieldAt k) ls) (sym e) L
 
--- the antilog tables
-abbrev pub antilogsKind : Kind
-antilogsKind = record { Holds = λ m. Antilogs (fieldAt m); entries = λ m. 4 * (2 ^ m - 1); whole = λ h. h .entries }
+  antilogs-m : Antilogs (fieldAt m) ts
+  antilogs-m = subst (λ (k : ℕ). Antilogs (fieldAt k) ts) (sym e) A
 
-module _ (K : Kind) {m n : ℕ} {table : List ℕ} (e : m ≡ n) (h : K .Holds n table) where
-  -- the table has as many entries as the room was asked for
-  size : length table ≡ K .entries m
-  size = K .whole h ∙ ap (K .entries) (sym e)
-
-  -- it fits where there is so much room
-  pub fits : {k : ℕ} → K .entries m ≤ k → length table ≤ k
-  fits {k} r = subst (λ (i : ℕ). i ≤ k) (sym size) r
-
-  -- copied there, it stands at the front, and the room is as long as it was
-  pub lent : (room : List ℕ) {exit : List ℕ} → K .entries m ≤ length room → exit ≡ copied table room
-      → K .Holds m (take (K .entries m) exit) × (length exit ≡ length room)
-  lent room r x = (
-    subst (K .Holds m) (sym (ap (take (K .entries m)) x ∙ copied-front table room size)) (subst (λ (k : ℕ). K .Holds k table) (sym e) h),
-    ap length x ∙ length-copied table room (fits r),
+  -- they fit
+  pub room-for : (length ls ≤ length logs) × (length ts ≤ length antilogs)
+  room-for = (
+    subst (λ (k : ℕ). k ≤ length logs) (sym (logs-m .entries)) (r .logs),
+    subst (λ (k : ℕ). k ≤ length antilogs) (sym (antilogs-m .entries)) (r .antilogs),
   )
+
+  -- copied there, they stand at the front, and the rooms are as long as they were
+  pub lent-in : {logs′ antilogs′ : List ℕ} → (logs′ ≡ copied ls logs) × (antilogs′ ≡ copied ts antilogs) → LentIn m logs antilogs logs′ antilogs′
+  lent-in x = record {
+    tables = record {
+      degree = r .degree;
+      logs = front (Logs (fieldAt m)) logs (logs-m .entries) logs-m (x .0);
+      antilogs = front (Antilogs (fieldAt m)) antilogs (antilogs-m .entries) antilogs-m (x .1);
+    };
+    long-logs = ap length (x .0) ∙ length-copied ls logs (room-for .0);
+    long-antilogs = ap length (x .1) ∙ length-copied ts antilogs (room-for .1);
+  }

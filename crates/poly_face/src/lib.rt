@@ -2,20 +2,19 @@
 // Not part of the product's face: each asks what its routine asks, and the C side sees to it. A slice is a pointer,
 // then a count.
 ghost use mathlib.Core.Path.{_≡_};
-ghost use mathlib.Core.Bool.{true};
 ghost use mathlib.Core.List.{[], _∷_};
-ghost use Prim.Native.Nat.{_-_, _*_, _^_, _≤_, _<_};
-ghost use lib.ListN.{length, take};
+ghost use Prim.Native.Nat.{_^_, _≤_, _<_};
+ghost use lib.ListN.{length};
 ghost use Rattle.algebra.specs.Polynomial.{eval, Below};
 ghost use Rattle.algebra.specs.Routines.{rem, square, frobeniusMod, traceMod, cofactor};
-ghost use Rattle.field.specs.Rows.{known};
-ghost use Rattle.field.specs.Field.{fieldAt, G};
-ghost use Rattle.field.specs.Tables.{Logs, Antilogs};
+ghost use Rattle.field.specs.Field.{G};
+ghost use Rattle.slices.specs.Lists.{copied};
 ghost use Rattle.poly.specs.Lent.{Lent, Loggable, logRow, held};
 ghost use Rattle.poly.specs.Division.{Reducible};
 ghost use Rattle.poly.specs.Monic.{TopIs, MadeMonic};
 ghost use Rattle.poly_powers.specs.Powers.{Squarable, Startable};
 ghost use Rattle.poly_gcd.specs.Euclid.{Turnable, GcdIs, Cofactorable};
+ghost use Rattle.poly_face.specs.Tables.{Roomy, LentIn};
 use field_tables::constants::antilogs4;
 use field_tables::constants::antilogs8;
 use field_tables::constants::antilogs11;
@@ -27,31 +26,26 @@ use poly::monic;
 use poly::rows;
 use poly::values;
 
-// Writes the log table of the field of degree m to the front of the room.
-#[no_mangle]
-pub extern "C" fn polynomial_logs(m: u16, room: &mut [u16])
-    requires { ⌜ (known m ≡ true) × (2 ^ m ≤ length (now room)) ⌝ }
-    ensures { λ _. ⌜ Logs (fieldAt m) (take (2 ^ m) (now (room .exit)))
-        × (length (now (room .exit)) ≡ length (now (room .entry))) ⌝ }
+// Writes two tables, each to the front of its room.
+fn lend(ls: &[u16], ts: &[u16], logs: &mut [u16], antilogs: &mut [u16])
+    requires { ⌜ (length (now ls) ≤ length (now logs)) × (length (now ts) ≤ length (now antilogs)) ⌝ }
+    ensures { λ _. ⌜ (now (logs .exit) ≡ copied (now (ls .entry)) (now (logs .entry)))
+        × (now (antilogs .exit) ≡ copied (now (ts .entry)) (now (antilogs .entry))) ⌝ }
 {
-    match m {
-        4 => slices::copy(&logs4(), room),
-        8 => slices::copy(&logs8(), room),
-        _ => slices::copy(&logs11(), room),
-    }
+    slices::copy(ls, logs);
+    slices::copy(ts, antilogs);
 }
 
-// Writes the antilog table of the field of degree m to the front of the room.
+// Writes the tables of the field of degree m, each to the front of its room.
 #[no_mangle]
-pub extern "C" fn polynomial_antilogs(m: u16, room: &mut [u16])
-    requires { ⌜ (known m ≡ true) × (4 * (2 ^ m - 1) ≤ length (now room)) ⌝ }
-    ensures { λ _. ⌜ Antilogs (fieldAt m) (take (4 * (2 ^ m - 1)) (now (room .exit)))
-        × (length (now (room .exit)) ≡ length (now (room .entry))) ⌝ }
+pub extern "C" fn polynomial_tables(m: u16, logs: &mut [u16], antilogs: &mut [u16])
+    requires { ⌜ Roomy m (now logs) (now antilogs) ⌝ }
+    ensures { λ _. ⌜ LentIn m (now (logs .entry)) (now (antilogs .entry)) (now (logs .exit)) (now (antilogs .exit)) ⌝ }
 {
     match m {
-        4 => slices::copy(&antilogs4(), room),
-        8 => slices::copy(&antilogs8(), room),
-        _ => slices::copy(&antilogs11(), room),
+        4 => lend(&logs4(), &antilogs4(), logs, antilogs),
+        8 => lend(&logs8(), &antilogs8(), logs, antilogs),
+        _ => lend(&logs11(), &antilogs11(), logs, antilogs),
     }
 }
 

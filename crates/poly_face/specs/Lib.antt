@@ -1,0 +1,2 @@
+-- What the export of the tables asks and leaves.
+pub mod Tables
