@@ -8,3 +8,4 @@ pub mod Coincide
 pub mod Whole
 pub mod Exactly
 pub mod Example
+mod Owning
