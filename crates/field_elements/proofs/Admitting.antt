@@ -1,6 +1,6 @@
 -- The tests of the element calls: which refusal the code's tests show, and what is known where all pass.
 --   pair-outside, pair-in, pair-told   the tests on two elements
---   one-outside, one-zero, one-in, one-told   the tests on one element that must not be 0
+--   one-tests, one-told                the tests on one element that must not be 0
 --   place-tests, place-told            the tests of a position
 -- Assumes nothing.
 use mathlib.Core.Path.{_≡_, refl, sym, ap, subst, _∙_}
@@ -9,7 +9,7 @@ use mathlib.Core.List.{List, [], _∷_}
 use mathlib.Core.Logic.{_⊎_, inl, inr}
 use Prim.Native.Nat.{ℕ, _≤_, _<_, _^_}
 use native.Mathlib.Omega.{arith}
-use borrow.Author.Tests.{le-leb, lt-leb, leb-false, eq-eqb, ne-eqb, eqb-false, not-false}
+use borrow.Author.Tests.{le-leb, lt-leb, leb-false, eqb-false, not-false}
 use lib.Dec.{eqb, leb, ltb}
 use Rattle.refusals.specs.Order.{Given, Passed}
 use Rattle.refusals.specs.Order.Passed.{none}
@@ -61,14 +61,14 @@ pair-told {m} {a} {b} p =
     record { field = not-false (known m) (failed p); first = leb-false (2 ^ m) a (o .0); second = leb-false (2 ^ m) b (o .1) }
 
 -- ---- one element that must not be 0
-pub one-outside : {m a : ℕ} {row : Row} → IsRow m row → row .size ≤ a → Given 4 (nonzeroTests m a)
-one-outside i h = fails (listed-on i) (holds (outside-on i h))
+or-twice : (b : Bool) → (b || b) ≡ b
+or-twice true = refl
+or-twice false = refl
 
-pub one-zero : {m a : ℕ} {row : Row} → IsRow m row → (a < row .size) → a ≡ 0 → Given 13 (nonzeroTests m a)
-one-zero {a = a} i h z = fails (listed-on i) (fails (inside-on i h) (holds (eq-eqb a 0 z)))
-
-pub one-in : {m a : ℕ} {row : Row} → IsRow m row → (a < row .size) → (a ≡ 0 → ⊥) → Passed (nonzeroTests m a)
-one-in {a = a} i h z = passes (listed-on i) (passes (inside-on i h) (passes (ne-eqb a 0 z) none))
+-- the tests of a pair of it, and one behind them
+pub one-tests : (m a : ℕ) (found : Admission) {all : Admission} → Admits (pairTests m a a) found → all ≡ withTest found (eqb a 0) OfZero → Admits (nonzeroTests m a) all
+one-tests m a found {all} h e =
+    subst (λ t. Admits ((1, not (known m)) ∷ (4, t) ∷ (13, eqb a 0) ∷ []) all) (or-twice (outside m a)) (admits-also (pairTests m a a) found (eqb a 0) OfZero e h)
 
 -- what is known of an element that was let in
 pub record OneIn (m a : ℕ) : Type 0 where

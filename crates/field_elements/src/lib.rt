@@ -43,21 +43,11 @@ fn admit_pair(m: u16, a: u16, b: u16) -> Admission
     Admission::In
 }
 
-// The tests of the calls on one element that must not be 0.
+// The tests of the calls on one element that must not be 0: those of a pair of it, and one behind them.
 fn admit_nonzero(m: u16, a: u16) -> Admission
     ensures { λ r. ⌜ Admits (nonzeroTests m a) r ⌝ }
 {
-    let found = row_of(m);
-    let FoundRow::At(row) = found else {
-        return Admission::Out(Refusal::Field);
-    };
-    if row.size <= a {
-        return Admission::Out(Refusal::Element);
-    }
-    if a == 0 {
-        return Admission::Out(Refusal::OfZero);
-    }
-    Admission::In
+    also(admit_pair(m, a, a), a == 0, Refusal::OfZero)
 }
 
 // The product of a and b in the field of degree m.

@@ -1,32 +1,18 @@
--- `field_elements::admit_nonzero` meets its contract: each return shows which test was the first to hold.
+-- `field_elements::admit_nonzero` meets its contract: the tests of a pair, and one behind them.
 -- Assumes nothing.
 use borrow.Author.Needs.{needs}
-use Rattle.refusals.proofs.Order.{holds}
-use Rattle.field.proofs.Known.{unlisted, is-listed}
-use Rattle.field_elements.proofs.Admitting.{one-outside, one-zero, one-in}
+use Rattle.field_elements.proofs.Admitting.{one-tests}
 use Rattle.field_elements.proofs.admit_nonzero.Statement.{statement}
 use Rattle.field_elements.proofs.admit_nonzero.Tie as tie
 
-row-of-requires : tie.Need-row-of-requires
-row-of-requires c κs = search needs
+admit-pair-requires : tie.Need-admit-pair-requires
+admit-pair-requires c κs = search needs
 
-enum-known-found : tie.Need-enum-known-found
-enum-known-found c = search needs
-
-enum-told : tie.Need-enum-told
-enum-told c = search needs
+also-requires : tie.Need-also-requires
+also-requires c κs = search needs
 
 returns : tie.Need-returns
-returns c = holds (unlisted _ (c .before .before .row-of .ensures) (c .enum-told .given .1))
-
-returns-2 : tie.Need-returns-2
-returns-2 c = one-outside (is-listed _ (c .before .before .before .before .before .row-of .ensures) (c .before .before .before .found .given .1)) (c .if1 .taken)
-
-returns-3 : tie.Need-returns-3
-returns-3 c = one-zero (is-listed _ (c .before .before .before .before .before .before .row-of .ensures) (c .before .before .before .before .found .given .1)) (c .before .if1 .left) (c .if2 .taken)
-
-returns-4 : tie.Need-returns-4
-returns-4 c = one-in (is-listed _ (c .before .before .before .before .before .before .row-of .ensures) (c .before .before .before .before .found .given .1)) (c .before .if1 .left) (c .if2 .left)
+returns c = let s = c .before .before .args in one-tests (s .m) (s .a) (c .before .admit-pair .result) (c .before .admit-pair .ensures) (c .also .ensures)
 
 pub admit-nonzero-spec : {M : Type 1} → statement M
-admit-nonzero-spec = tie.close (tie.spec row-of-requires enum-known-found enum-told returns returns-2 returns-3 returns-4)
+admit-nonzero-spec = tie.close (tie.spec admit-pair-requires also-requires returns)
