@@ -1,5 +1,5 @@
 # shellcheck shell=bash
-# What bench/peers and bench/corrector share, over tools/lib.sh: where peers stand, Linux lib/bch.c, the counting of instructions, and the conditions of a run.
+# What bench/peers, bench/affine and bench/corrector share, over tools/lib.sh: where peers stand, Linux lib/bch.c, the counting of instructions, and the conditions of a run.
 #
 #   peers_at, bch_options            the folder of the peers; what lib/bch.c is compiled with
 #   need_counter, count_each, no_rep instructions: callgrind on x86-64, elsewhere a plugin of Debian's emulator (bench/c/count.c)

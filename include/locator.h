@@ -2,22 +2,25 @@
    builds it, for x86-64 Linux).
 
    Every call is proved to do what stands over it, for every input (crates/locator/src/lib.rt has the contracts). docs/RULES.md has the rules in
-   full: fields and element calls are its sections 1 and 2, polynomials 3, work tables 4, the block corrector 7, refusals and their order 8.
+   full: fields and element calls are its sections 1 and 2, polynomials 3 (affine ones 3.6), work tables 4, the block corrector 7, refusals and their order 8.
 
    FIELDS. m is 4, 8 or 11, with the polynomials x^4+x+1, x^8+x^4+x^3+x^2+1 and x^11+x^2+1. An element is a number below 2^m whose bits are
    coefficients, bit 0 the constant; a is the element 2.
 
    POLYNOMIALS. n coefficients, the constant first, n from 1 to 33. Zeros at the top are allowed. The cutoff is 1, 2 or 3, or 0 for the house
-   default, which is 2; the roots do not depend on it.
+   default, which is 2; the roots do not depend on it. An affine polynomial, with terms at z^(2^i) and a constant alone, has a call of its own, and m
+   coefficients beside its constant.
 
    OUTCOMES. 0: accepted. Any other is the number under which the input was turned away:
        1  there is no field of degree m          6  the cutoff is above 3
-       2  there are no coefficients              7  the root list has under 32 slots, or the table has not 100
+       2  there are no coefficients              7  the root list has under 32 slots (of an affine
+                                                    polynomial under 2^m), or the table has not 100
        3  there are more than 33 coefficients    8  the table is not sound
        4  an element or a coefficient            9  the table cannot be stepped: the first factor above the cutoff
           is 2^m or more                            has level m, or the steps are at their limit
        5  every coefficient is 0                10  the table is not done
                                                 13  an inverse or a position of 0
+                                                20  an affine polynomial has not m coefficients
                                                 21  the convention is neither 0 nor 1
                                                 22  the word has not 256 bytes, or its last bit is set
                                                 23  the strength is not 1 to 8
@@ -40,10 +43,12 @@
 extern "C" {
 #endif
 
-/* The slots of a work table; the fewest slots of a root list; the most coefficients; the bytes of a block corrector's word. */
+/* The slots of a work table; the fewest slots of a root list; the most coefficients; slots that are enough for the roots
+   of an affine polynomial in any field; the bytes of a block corrector's word. */
 #define LOCATOR_SLOTS 100
 #define LOCATOR_ROOTS 32
 #define LOCATOR_COEFFICIENTS 33
+#define LOCATOR_ELEMENTS 2048
 #define LOCATOR_WORD 256
 
 /* The conventions of a position, by how a locator is built from the bad bits, X = 2^place for each:
@@ -63,6 +68,9 @@ typedef struct { uint16_t outcome, count, lower, upper; } locator_pair;
 
 /* What was found: the number of roots and of steps. steps is 0 where the call takes none. */
 typedef struct { uint16_t outcome, count, steps; } locator_found;
+
+/* What an affine polynomial has: count roots, 0 where there is none, else 2^dimension. dimension is 0 where there is no root, and where there is one. */
+typedef struct { uint16_t outcome, count, dimension; } locator_space;
 
 /* What a step gives: done is 1 where there was nothing to split, else 0. */
 typedef struct { uint16_t outcome, done; } locator_stepped;
@@ -97,6 +105,15 @@ locator_found locator_solve(uint16_t m, const uint16_t *coeffs, size_t n, uint16
 /* The plain search: the same roots in the same way, by trying every element. steps is 0.
    Outcomes 0, 1 to 5 and 7, in ascending order; 7 where room is under 32. */
 locator_found locator_search(uint16_t m, const uint16_t *coeffs, size_t n, uint16_t *roots, size_t room);
+
+/* The roots of an affine polynomial: constant + coeffs[0] z + coeffs[1] z^2 + coeffs[2] z^4 + .. + coeffs[m - 1] z^(2^(m-1)), by elimination on m rows
+   of m + 1 bits; no element is tried, whatever the degree, up to 1024. It has no root, or its roots are one of them plus each element of a space over two
+   values: 2^dimension roots. "None" is outcome 0 with count 0; one root is count 1 with dimension 0. Where every coefficient and the constant are 0, every
+   element is a root, and dimension is m. The roots fill the front of the list, ascending; the slots behind the last root, all where there is none, are
+   not written.
+   Outcomes 0, 1, 20, 4, 7, in the order 1, 20, 4, 7: 20 where n is not m, whatever the coefficients are; 4 where a coefficient or the constant is 2^m or
+   more; 7 where room is under 2^m, however few the roots are. 5 is never given. examples/c/affine.c has an example. */
+locator_space locator_affine(uint16_t m, const uint16_t *coeffs, size_t n, uint16_t constant, uint16_t *roots, size_t room);
 
 /* Begins a work table of 100 slots: m, the cutoff in force (1 to 3), the number of factors, the steps taken (0), then the factor of all distinct roots
    at level 0 (level, degree d, its d coefficients below the leading 1, the constant first), or no factor where there is no root; the other slots 0.

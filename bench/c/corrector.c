@@ -17,9 +17,9 @@
 #include "corrector.h"
 #include "../../examples/c/encode.h"
 #include "../../tests/c/block_rules.h"
+#include "measure.h"
 #include <stdio.h>
 #include <stdlib.h>
-#include <time.h>
 
 enum { WORDS = 64, CHUNK = 8, FARTHEST = 12 };
 static const unsigned strengths[] = {1, 2, 4, 8};
@@ -59,17 +59,6 @@ enum { CORRECTORS = sizeof correctors / sizeof *correctors };
 
 /* a codeword, and what is received of it */
 struct sample { uint8_t sent[BLOCK_BYTES], word[BLOCK_BYTES]; };
-
-static uint64_t state;
-
-/* a number below some other */
-static unsigned draw(unsigned below)
-{
-    state ^= state << 13;
-    state ^= state >> 7;
-    state ^= state << 17;
-    return (unsigned)(state >> 20) % below;
-}
 
 /* what the corrector makes of a word: flips, or -1; the word as it leaves it */
 static int tried(const struct corrector *c, const uint8_t *word, uint8_t *left)
@@ -122,9 +111,7 @@ static bool fits(unsigned t, unsigned errors, const uint8_t *word)
 static void make_set(unsigned t, unsigned errors, struct sample *all)
 {
     encoder e = encode_for(t);
-    state = 0x9E3779B97F4A7C15ull ^ (uint64_t)(100 * t + errors) * 1000003u;
-    for (int i = 0; i < 20; i++)
-        draw(2);
+    draw_set(100 * t + errors);
     bch_usual.start(t);
     ours.start(t);
     for (size_t i = 0; i < WORDS;) {
@@ -148,14 +135,6 @@ static unsigned right_answers(const struct corrector *c, unsigned t, unsigned er
             right += t == 1 ? kept_word(flips, t, all[i].word, left) : flips == -1;
     }
     return right;
-}
-
-/* nanoseconds */
-static double now(void)
-{
-    struct timespec t;
-    clock_gettime(CLOCK_MONOTONIC, &t);
-    return (double)t.tv_sec * 1e9 + (double)t.tv_nsec;
 }
 
 /* a corrector in turn, its words in its own layout, and the least time of each chunk of them */

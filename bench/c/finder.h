@@ -4,6 +4,7 @@
 #include <stdbool.h>
 #include <stddef.h>
 #include <stdint.h>
+#include "fields.h"
 
 struct finder {
     const char *name;
@@ -15,10 +16,4 @@ struct finder {
 };
 
 extern const struct finder bch_finder, bch_fixed_finder, flint_finder;
-
-/* The field polynomials (RULES 1.1). */
-static inline unsigned field_polynomial(int m)
-{
-    return m == 4 ? 19 : m == 8 ? 285 : 2053;
-}
 #endif

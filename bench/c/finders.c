@@ -12,9 +12,9 @@
 #include <stdio.h>
 #include <stdlib.h>
 #include <string.h>
-#include <time.h>
 #include "finder.h"
 #include "locator.h"
+#include "measure.h"
 
 enum { LISTS = 64, MOST = LOCATOR_COEFFICIENTS, CHUNK = 8, SLOTS = 80 };
 
@@ -182,30 +182,6 @@ static bool is_meant(const struct set *set, const char *which)
     return strncmp(set->name, which, strlen(which)) == 0;
 }
 
-static uint64_t state;
-
-static unsigned draw(unsigned below)
-{
-    state ^= state << 13;
-    state ^= state >> 7;
-    state ^= state << 17;
-    return (unsigned)(state >> 20) % below;
-}
-
-/* The product by shifting and adding: no table that a finder uses. */
-static unsigned product(int m, unsigned a, unsigned b)
-{
-    unsigned r = 0;
-    for (; b != 0; b >>= 1) {
-        if (b & 1)
-            r ^= a;
-        a <<= 1;
-        if (a >> m)
-            a ^= field_polynomial(m);
-    }
-    return r;
-}
-
 static void times_root(int m, struct polynomial *f, unsigned root)
 {
     f->coeffs[f->n++] = 0;
@@ -240,9 +216,7 @@ static struct polynomial make(const struct set *set)
 
 static void make_all(const struct set *set, struct polynomial *all)
 {
-    state = 0x9E3779B97F4A7C15ull ^ (uint64_t)(set - sets + 1) * 1000003u;
-    for (int i = 0; i < 20; i++)
-        draw(2);
+    draw_set((uint64_t)(set - sets + 1));
     for (size_t i = 0; i < LISTS; i++)
         all[i] = make(set);
 }
@@ -287,13 +261,6 @@ static size_t right_lists(const struct finder *finder, const struct set *set, co
         right += k == s && memcmp(list, want, s * sizeof *list) == 0;
     }
     return right;
-}
-
-static double now(void)
-{
-    struct timespec t;
-    clock_gettime(CLOCK_MONOTONIC, &t);
-    return (double)t.tv_sec * 1e9 + (double)t.tv_nsec;
 }
 
 /* Whether a finder takes part: all do where none is named. */

@@ -4,7 +4,9 @@ import os
 
 # Sections of the page that have runs of their own; they stand behind the rest of the page, in this order.
 DEGREES = "## The cost by degree beside lib/bch.c"
+AFFINE = "## Affine polynomials beside every element tried"
 CORRECTOR = "## The block corrector beside lib/bch.c"
+SECTIONS = (DEGREES, AFFINE, CORRECTOR)
 
 NO_REP = '''"No rep": from 2 KB on glibc's memset is one instruction, rep stos, which both counters take as one for each byte; for this column glibc was told to
 store by vectors instead. The emulator does rep stos byte by byte, and its times hold that.'''
@@ -26,7 +28,7 @@ def rows(directory, name):
 
 
 def read(directory):
-    """A run of bench/peers: about, checks, and for each measure a map from (set, finder) to its figure, in thousand instructions or microseconds."""
+    """A run of bench/peers or bench/affine: about, checks, and for each measure a map from (set, finder) to its figure, in thousand instructions or microseconds."""
     return {
         "about": dict(rows(directory, "about")),
         "checks": [(s, f, int(right), int(all)) for s, f, right, all in rows(directory, "checks")],
@@ -39,7 +41,7 @@ def read(directory):
 def parts(path):
     """The page's text before the sections that have runs of their own, under "", and each such section under its head."""
     text = open(path).read() if os.path.exists(path) else ""
-    starts = sorted((text.index(f"\n{head}\n") + 1, head) for head in (DEGREES, CORRECTOR) if f"\n{head}\n" in text)
+    starts = sorted((text.index(f"\n{head}\n") + 1, head) for head in SECTIONS if f"\n{head}\n" in text)
     ends = [start for start, _ in starts] + [len(text)]
     return {"": text[: ends[0]]} | {head: text[start:end] for (start, head), end in zip(starts, ends[1:])}
 
@@ -48,7 +50,7 @@ def put(path, head, text):
     """Writes a part of the page in place of that which the page has; the other parts stay."""
     found = parts(path) | {head: text}
     with open(path, "w") as file:
-        file.write("\n".join(found[key].rstrip("\n") + "\n" for key in ("", DEGREES, CORRECTOR) if key in found))
+        file.write("\n".join(found[key].rstrip("\n") + "\n" for key in ("", *SECTIONS) if key in found))
 
 
 def figure(x):

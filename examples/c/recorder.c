@@ -3,6 +3,7 @@
    bits, X = 2^place, so the places are read under the convention of recorders. Prints the places, ascending; or that
    the word cannot be corrected; or the number under which the locator is refused. */
 #include "locator.h"
+#include "numbers.h"
 #include <stdio.h>
 #include <stdlib.h>
 
@@ -67,18 +68,6 @@ static void print_word(uint16_t m, const uint16_t *coeffs, size_t n)
             printf(" %u", places[i]);
         printf("\n");
     }
-}
-
-/* The numbers of a line that fit 16 bits, at most room of them. Returns how many. */
-static size_t numbers(const char *line, uint16_t *to, size_t room)
-{
-    size_t n = 0;
-    char *behind;
-    for (unsigned long x = strtoul(line, &behind, 10); behind != line && n < room; x = strtoul(line, &behind, 10)) {
-        to[n++] = x > UINT16_MAX ? UINT16_MAX : (uint16_t)x;
-        line = behind;
-    }
-    return n;
 }
 
 int main(void)

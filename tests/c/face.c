@@ -1,4 +1,5 @@
-/* face elements|tables: drives the C face on the cases of tests/second/elements.py or tables.py from standard input, and prints their lines. */
+/* face elements|tables|affine: drives the C face on the cases of tests/second/elements.py, tables.py or affine.py from standard input, and prints their
+   lines. */
 #define DRIVER "face"
 #include "lent.h"
 #include "locator.h"
@@ -127,13 +128,43 @@ static void elements(void)
     }
 }
 
+static void print_space(locator_space s, list roots)
+{
+    if (s.outcome != 0) {
+        printf("%u", s.outcome);
+        refused(s.count | s.dimension, roots);
+    } else if (s.count == 0) {
+        printf("none");
+        expect(s.dimension == 0, "a dimension where there is no root");
+        expect(unchanged(roots), "no root, and a write");
+    } else
+        printf("0 %u %u", s.count, s.dimension);
+    print_slots(roots);
+}
+
+static void affine(void)
+{
+    for (int m = word(); m != EOF; m = word()) {
+        size_t n = number();
+        uint16_t constant = number();
+        size_t room = number();
+        list coeffs = lend(n), roots = lend(room);
+        printf("%d %zu %zu | ", m, n, room);
+        print_space(locator_affine((uint16_t)m, LENT(coeffs), constant, LENT(roots)), roots);
+        end_read(coeffs);
+        end(roots);
+    }
+}
+
 int main(int count, char **words)
 {
     if (count == 2 && strcmp(words[1], "elements") == 0)
         elements();
     else if (count == 2 && strcmp(words[1], "tables") == 0)
         tables();
+    else if (count == 2 && strcmp(words[1], "affine") == 0)
+        affine();
     else
-        fail("which cases: elements or tables?");
+        fail("which cases: elements, tables or affine?");
     return fflush(stdout);
 }

@@ -1,20 +1,20 @@
-/* A libFuzzer target over the C face: arbitrary field degrees, elements, coefficients, cutoffs, tables, words and lengths. Each list that is lent stands against
+/* A libFuzzer target over the C face: arbitrary field degrees, elements, coefficients, affine polynomials, cutoffs, tables, words and lengths. Each list that is lent stands against
    a page that cannot be touched, before it or behind it, with guards on its other side. What the calls give is compared with short functions of its own:
    the refusals and their order, soundness, products, values; a refusal writes nothing; begin, steps and finish give what the whole call and the search give;
-   planted errors come back, and what the corrector accepts is a codeword.
+   an affine polynomial has the roots that its values say; planted errors come back, and what the corrector accepts is a codeword.
    tests/fuzz builds and runs it. */
 #define _GNU_SOURCE
 #include "locator.h"
 
-enum { PAGE = 65536, MOST = 512, GUARD = 64, GUARDED = 0xA5A5 };
-enum { PRODUCT, INVERSE, POSITION, QUADRATIC, SOLVE, SEARCH, BEGIN, STEP, FINISH, CORRECT, CALLS };
+enum { PAGE = 65536, MOST = 512, LONGEST = 4096, GUARD = 64, GUARDED = 0xA5A5 };
+enum { PRODUCT, INVERSE, POSITION, QUADRATIC, SOLVE, SEARCH, BEGIN, STEP, FINISH, CORRECT, AFFINE, CALLS };
 
-static const char *const name[CALLS] = {"product", "inverse", "position", "quadratic", "solve", "search", "begin", "step", "finish", "correct"};
+static const char *const name[CALLS] = {"product", "inverse", "position", "quadratic", "solve", "search", "begin", "step", "finish", "correct", "affine"};
 #include "fuzz.h"
 
 /* ---- lent memory */
 
-typedef struct { uint16_t *at, *low; size_t n; uint16_t was[MOST]; } list;
+typedef struct { uint16_t *at, *low; size_t n; uint16_t was[LONGEST]; } list;
 
 static list coefficients, table, roots;
 
@@ -307,6 +307,10 @@ static void tables(void)
     expect(now.sound && now.sum == was.sum && table.at[3] == t[3] + 1 && table.at[0] == t[0] && table.at[1] == t[1], "a step that breaks the table");
 }
 
+/* ---- affine polynomials */
+
+#include "fuzz_affine.h"
+
 /* ---- the block corrector */
 
 #include "fuzz_words.h"
@@ -325,6 +329,8 @@ int LLVMFuzzerTestOneInput(const uint8_t *data, size_t size)
         elements();
     else if (kind % 8 == 1)
         correct_word();
+    else if (kind % 8 == 2)
+        affine();
     else if (kind % 2 == 0)
         polynomials();
     else

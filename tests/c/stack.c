@@ -1,17 +1,18 @@
 /* Runs every call of the C face on a painted stack, in every field, on a polynomial of the highest degree that splits, and prints the most that was used.
-   The block corrector has eight wrong bits at strength 8, and then nine, which it turns away. Fails where it is more than LOCATOR_STACK. */
+   The block corrector has eight wrong bits at strength 8, and then nine, which it turns away. The affine polynomials have one root, half of the elements
+   as roots, every element, and none. Fails where it is more than LOCATOR_STACK. */
 #define _GNU_SOURCE
 #include "locator.h"
 #include <stdio.h>
 #include <string.h>
 #include <ucontext.h>
 
-enum { CALLS = 10, PAINT = 0xA5 };
+enum { CALLS = 11, WIDEST = 11, PAINT = 0xA5 };
 
-static const char *const name[CALLS] = {"product", "inverse", "position", "quadratic", "solve", "search", "begin", "step", "finish", "correct"};
+static const char *const name[CALLS] = {"product", "inverse", "position", "quadratic", "solve", "search", "begin", "step", "finish", "correct", "affine"};
 static unsigned char stack[1 << 20];
 static ucontext_t home, there;
-static uint16_t field, f[LOCATOR_COEFFICIENTS], roots[LOCATOR_ROOTS], table[LOCATOR_SLOTS];
+static uint16_t field, f[LOCATOR_COEFFICIENTS], roots[LOCATOR_ROOTS], table[LOCATOR_SLOTS], elements[LOCATOR_ELEMENTS];
 static uint8_t word[LOCATOR_WORD];
 static int call;
 static unsigned failed;
@@ -27,6 +28,16 @@ static void correct(void)
     failed |= c.outcome != 0 || c.flips != 8;
 }
 
+/* One term alone, the trace, all zeros, and zeros beside a constant. */
+static void affine(void)
+{
+    uint16_t one[WIDEST] = {5}, trace[WIDEST] = {1, 1, 1, 1, 1, 1, 1, 1, 1, 1, 1}, zeros[WIDEST] = {0};
+    failed |= locator_affine(field, one, field, 9, elements, LOCATOR_ELEMENTS).count != 1;
+    failed |= locator_affine(field, trace, field, 1, elements, LOCATOR_ELEMENTS).dimension != field - 1;
+    failed |= locator_affine(field, zeros, field, 0, elements, LOCATOR_ELEMENTS).dimension != field;
+    failed |= locator_affine(field, zeros, field, 7, elements, LOCATOR_ELEMENTS).count != 0;
+}
+
 static void go(void)
 {
     switch (call) {
@@ -40,6 +51,7 @@ static void go(void)
     case 7: while (locator_step(table, LOCATOR_SLOTS).done == 0 && failed == 0) ; break;
     case 8: failed |= locator_finish(table, LOCATOR_SLOTS, roots, LOCATOR_ROOTS).outcome; break;
     case 9: correct(); break;
+    case 10: affine(); break;
     }
 }
 

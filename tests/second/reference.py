@@ -11,7 +11,7 @@ import functools
 import field
 
 DONE = "done"  # step: no factor is above the cutoff
-NONE = "none"  # quadratic: no root
+NONE = "none"  # quadratic, affine polynomial: no root
 END = "end"  # reader: no byte remains
 HOUSE = "house"  # a record's cutoff 0
 
@@ -280,6 +280,61 @@ def search(m, coefficients, lent):
         return 7, (), lent
     roots = zeros(m, coefficients)
     return 0, (len(roots),), fill(roots, lent)
+
+
+# Affine polynomials: 1, 20, 4, 7. Coefficient i belongs to z^(2^i).
+
+
+_power_rows = {}
+
+
+def power_rows(m):
+    """For each x the elements x, x^2, x^4, ..., x^(2^(m-1)), by plain squares."""
+    if m not in _power_rows:
+        square = field.squares(m)
+        rows = []
+        for x in range(field.size(m)):
+            row = [x]
+            while len(row) < m:
+                row.append(square[row[-1]])
+            rows.append(row)
+        _power_rows[m] = rows
+    return _power_rows[m]
+
+
+def affine_at(m, coefficients, constant, x):
+    """The constant and the sum of c_i x^(2^i), term by term."""
+    times = field.logs(m).product
+    total = constant
+    for c, power in zip(coefficients, power_rows(m)[x]):
+        total ^= times(c, power)
+    return total
+
+
+def refused_affine(m, coefficients, constant, room):
+    if m not in field.DEGREES:
+        return 1
+    if len(coefficients) != m:
+        return 20
+    if any(c >= field.size(m) for c in (*coefficients, constant)):
+        return 4
+    if room < field.size(m):
+        return 7
+    return 0
+
+
+def affine(m, coefficients, constant, lent):
+    """Every element is tried. The values are the number of roots and the k of
+    which it is the power 2^k."""
+    lent = tuple(lent)
+    refusal = refused_affine(m, coefficients, constant, len(lent))
+    if refusal:
+        return refusal, (), lent
+    roots = [x for x in range(field.size(m)) if affine_at(m, coefficients, constant, x) == 0]
+    if not roots:
+        return NONE, (), lent
+    (k,) = (k for k in range(m + 1) if 2**k == len(roots))
+    return 0, (len(roots), k), fill(roots, lent)
 
 
 # The work table.

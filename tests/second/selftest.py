@@ -13,6 +13,7 @@ import sys
 
 sys.dont_write_bytecode = True
 
+import affine
 import blocks
 import corrector
 import elements
@@ -285,6 +286,80 @@ def check_polynomials(rng, count):
                 check("Tr(a^i z) at an element", R.value_at(m, f, x) == field.trace_bits(m, x)[i], m, i, x)
 
 
+# Affine polynomials.
+
+
+def written_out(m, coefficients, constant):
+    """The polynomial of degree up to 2^(m-1), with its zeros between the terms."""
+    f = [constant] + [0] * 2 ** (m - 1)
+    for i, c in enumerate(coefficients):
+        f[2**i] = c
+    return f
+
+
+def rank(rows):
+    """The rank over two values of rows of bits, by elimination."""
+    found = 0
+    rows = list(rows)
+    while rows:
+        pivot = rows.pop()
+        if pivot:
+            found += 1
+            low = pivot & -pivot
+            rows = [row ^ pivot if row & low else row for row in rows]
+    return found
+
+
+def check_affine(rng, count):
+    """Roots by Horner on the polynomial written out; the rank of the images of the basis; sums of three roots; the whole call where the degree allows."""
+    for m in field.DEGREES:
+        maker, q = affine.Maker(m, rng), field.size(m)
+        for number in range(count):
+            k = number % (m + 1)
+            f = maker.of_dimension(k) if number % 3 else maker.elements(m)
+            if number % 5 == 0:
+                f[6:] = [0] * len(f[6:])
+            constant = maker.with_roots(f) if number % 4 else rng.randrange(q)
+            lent = stale(q + number % 3)
+            outcome, values, memory = R.affine(m, f, constant, lent)
+            images = [R.affine_at(m, f, 0, 1 << j) for j in range(m)]
+            solvable = rank(images) == rank(images + [constant])
+            check("affine: none exactly where the constant adds to the rank", (outcome == 0) == solvable, m, f, constant)
+            s = values[0] if solvable else 0
+            roots = memory[:s]
+            check("affine: slots behind the roots", memory[s:] == lent[s:], m, f, constant)
+            check("affine: values", values == ((2 ** (m - rank(images)), m - rank(images)) if solvable else ()), m, f, constant)
+            long = written_out(m, f, constant)
+            for x in rng.sample(range(q), 8):
+                check("affine: one value by Horner", (horner(m, long, x) == 0) == (x in roots), m, f, constant, x)
+            if s > 2:
+                x, y, z = (rng.choice(roots) for _ in range(3))
+                check("affine: sums of three roots are roots", x ^ y ^ z in roots, m, f, constant)
+            if any(long[:33]) and not any(long[33:]):
+                check("affine: the roots of the whole call", list(roots) == R.zeros(m, long), m, f, constant)
+
+
+def check_affine_figures(rng):
+    """What can be said without computing, and the order 1, 20, 4, 7, stated the other way."""
+    for m in field.DEGREES:
+        q, zeros = field.size(m), [0] * m
+        every = tuple(range(q))
+        check("affine figures", R.affine(m, zeros, 0, stale(q)) == (0, (q, m), every))
+        check("affine figures", R.affine(m, zeros, 1, stale(q)) == (R.NONE, (), stale(q)))
+        check("affine figures", R.affine(m, [1] + zeros[1:], 5, stale(q)) == (0, (1, 0), (5,) + stale(q)[1:]))
+        traced = tuple(x for x in every if field.trace(m, x) == 1)
+        check("affine figures", R.affine(m, [1] * m, 1, stale(q)) == (0, (q // 2, m - 1), traced + stale(q)[q // 2:]))
+    check("affine figures", R.affine(4, [1, 1, 0, 0], 6, stale(16)) == (0, (2, 1), (2, 3) + stale(16)[2:]))
+    check("affine figures", R.affine(4, [1, 1, 0, 0], 8, stale(16)) == (R.NONE, (), stale(16)))
+    for m, n, large, room in itertools.product((4, 8, 11, 5, 260), (0, 3, 4, 8, 11, 12), (False, True), (0, 15, 255, 2047, 2048)):
+        known = m in field.DEGREES
+        f = [0] * n
+        applies = {1: not known, 20: known and n != m, 4: known and large, 7: known and room < field.size(m)}
+        first = next((number for number in (1, 20, 4, 7) if applies[number]), 0)
+        constant = 65535 if large else 0
+        check("affine: order of refusals", R.affine(m, f, constant, stale(room))[0] == first, m, n, large, room)
+
+
 # Tables.
 
 
@@ -535,6 +610,8 @@ def check_formats(rng):
         back = list(tables.Tape(data).answers())
         direct = [(0, R.begin(4, [6, 7, 0, 1], 1, table)), (1, R.step(table)), (2, R.finish(table, lent))]
         check("table cases survive packing", back == direct)
+    every = [(m, tuple(f), constant, tuple(lent)) for m, f, constant, lent in affine.make_cases(rng.randrange(1000), 1)]
+    check("affine cases survive packing", list(affine.unpack(b"".join(affine.pack(*case) for case in every))) == every)
     every = list(blocks.make_cases(rng.randrange(1000), 1))
     check("block cases survive packing", list(blocks.unpack(b"".join(blocks.pack(*case) for case in every))) == every)
 
@@ -553,6 +630,8 @@ def main():
     check_figures()
     check_orders(rng, 3 * options.count)
     check_polynomials(rng, options.count)
+    check_affine(rng, options.count)
+    check_affine_figures(rng)
     check_whole(rng, options.count)
     check_tables(rng, options.count // 4)
     check_records(rng, 60)

@@ -10,7 +10,7 @@ use mathlib.Core.List.{List, [], _∷_}
 use mathlib.Core.Logic.{_↔_, _⊎_, inl, inr}
 use Prim.Native.Nat.{ℕ, suc, _<_}
 use native.Mathlib.Omega.{arith}
-use lib.ListN.{drop}
+use lib.ListN.{length, drop}
 use Rattle.refusals.specs.Order.{outcome, memory, Answers, Given, Passed}
 use Rattle.refusals.specs.Order.Given.{here, later}
 use Rattle.refusals.proofs.Order as order
@@ -27,6 +27,8 @@ use Rattle.find_solve.specs.Calls.{solveTests}
 use Rattle.find_solve.proofs.Coincide.{solve-coincide}
 use Rattle.find_search.specs.Calls.{searchTests}
 use Rattle.find_search.proofs.Coincide.{search-coincide}
+use Rattle.find_affine.specs.Calls.{affineTests}
+use Rattle.find_affine.proofs.Coincide.{affine-coincide}
 use Rattle.job_lines.proofs.Coincide.{turned-once}
 use Rattle.corrector.specs.Correcting.{distance, Corrects}
 use Rattle.corrector.specs.Correcting.Corrects.{no-block, no-strength, none-near, mended}
@@ -130,6 +132,7 @@ demand-1 = record {
   finish = λ table list r after h. answered (finishTests table list) _ _ list (omega arith, (omega arith, (omega arith, tt))) h;
   solve = λ m c cs list r after h. answered (solveTests m c cs list) _ _ list seven h;
   search = λ m cs list r after h. answered (searchTests m cs list) _ _ list (omega arith, (omega arith, (omega arith, (omega arith, (omega arith, (omega arith, tt)))))) h;
+  affine = λ m cs constant list r after h. answered (affineTests m cs constant (length list)) _ _ list (omega arith, (omega arith, (omega arith, (omega arith, tt)))) h;
   correct = λ t word o after h. settles h;
   ends = λ file at r h. of-told h (ends-exactly file at);
   stops = λ file at k r h. of-told h (stops-exactly file at k);
@@ -144,6 +147,7 @@ demand-1 = record {
   finish-one = finish-coincide;
   solve-one = solve-coincide;
   search-one = search-coincide;
+  affine-one = affine-coincide;
   correct-one = λ t word r s x y h k. correct-coincide r s x y h k;
   read-one = read-coincide;
   turn-one = λ read bytes k old r s x y w h g. turned-once (h (w .file) (w .at) (w .read) (w .lent)) (g (w .file) (w .at) (w .read) (w .lent));

@@ -2,6 +2,7 @@
 --   root-list       the roots of an accepted polynomial are a root list
 --   search-passes   what the whole call accepts the search accepts;  solve-passes  and so back, at each cutoff up to
 --                   the highest
+--   holds           a list copied over the front of another is held
 --   demand-2        it holds where the whole call accepts
 --   demand-2-search and where the search does, at each cutoff up to the highest
 -- Assumes nothing.
@@ -54,7 +55,7 @@ root-list m f t = record {
     empty-of (x ∷ l) k h = let z = k x (List·Memᴰ·head refl) in absurd (h x (z .0) (z .1))
 
 -- a list copied over the front of another
-holds : (roots list after : List ℕ) → after ≡ copied roots list → Holds roots list after
+pub holds : (roots list after : List ℕ) → after ≡ copied roots list → Holds roots list after
 unfolding copied
 holds roots list after e = record {
   front = ap (take (length roots)) e ∙ take-append-seam roots (drop (length roots) list);

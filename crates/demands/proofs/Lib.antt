@@ -2,5 +2,6 @@
 pub mod Agreement
 pub mod Demand1
 pub mod Demand2
+pub mod Demand2Affine
 pub mod Demand3
 pub mod Corrector

@@ -39,6 +39,9 @@ use Rattle.find_solve.specs.Calls.{solveTests, toldSolved, Solves}
 use Rattle.find_solve.specs.declared.Solved.{Solved}
 use Rattle.find_search.specs.Calls.{searchTests, toldSearched, Searches}
 use Rattle.find_search.specs.declared.Searched.{Searched}
+use Rattle.find_affine.specs.Affine.{affineRoots, spaceValues}
+use Rattle.find_affine.specs.Calls.{affineTests, toldSpanned, Spans}
+use Rattle.find_affine.specs.declared.Spanned.{Spanned}
 use Rattle.job_records.specs.Layout.{recordLength}
 use Rattle.job_records.specs.Reading.{Outcome, startTests, recordTests, ReadsAt, HandsBack, Stands}
 use Rattle.job_records.specs.Reading.{toldRead}
@@ -92,6 +95,11 @@ pub record Demand1 : Type 0 where
   pub search : (m : ℕ) (cs list : List ℕ) (r : Searched) (after : List ℕ) → Searches m cs list r after
       → Decides (searchTests m cs list) (length (rootsAt m cs) ∷ []) (toldSearched r)
       × Spares (searchTests m cs list) (copied (rootsAt m cs) list) list after
+  -- affine call: 1, 20, 4, 7
+  pub affine : (m : ℕ) (cs : List ℕ) (constant : ℕ) (list : List ℕ) (r : Spanned) (after : List ℕ)
+      → Spans m cs constant list r after
+      → Decides (affineTests m cs constant (length list)) (spaceValues m (affineRoots m cs constant)) (toldSpanned r)
+      × Spares (affineTests m cs constant (length list)) (copied (affineRoots m cs constant) list) list after
   -- correct: 22, 23, 24
   pub correct : (t : ℕ) (word : List ℕ) (outcome : ℕ × List ℕ) (after : List ℕ)
       → Corrects t word outcome after → Settles t word outcome after
@@ -124,6 +132,8 @@ pub record Demand1 : Type 0 where
       → Solves m c cs list r x → Solves m c cs list s y → (r ≡ s) × (x ≡ y)
   pub search-one : (m : ℕ) (cs list : List ℕ) (r s : Searched) (x y : List ℕ)
       → Searches m cs list r x → Searches m cs list s y → (r ≡ s) × (x ≡ y)
+  pub affine-one : (m : ℕ) (cs : List ℕ) (constant : ℕ) (list : List ℕ) (r s : Spanned) (x y : List ℕ)
+      → Spans m cs constant list r x → Spans m cs constant list s y → (r ≡ s) × (x ≡ y)
   pub correct-one : (t : ℕ) (word : List ℕ) (r s : Corrected) (x y : List ℕ)
       → Corrects t word (toldCorrected r) x → Corrects t word (toldCorrected s) y → (r ≡ s) × (x ≡ y)
   pub read-one : (file : List ℕ) (at : ℕ) (r s : Read) → ReadsAt file at r → ReadsAt file at s → r ≡ s

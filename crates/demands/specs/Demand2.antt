@@ -1,7 +1,7 @@
 -- DEMAND 2: for every accepted polynomial the list holds each field element at which it is zero, once, ascending, and
 -- no other. The trace engine and a plain trial of every element agree.
 --   valueAt    the value of a polynomial at an element of the field of degree m
---   RootList   a list is the root list of f
+--   RootsBy    a list is that of the elements at which a function is 0;  RootList  of the values of f
 --   Holds      a root list fills the front of a lent list, and what is behind it is as it was
 --   Demand2    on a polynomial that they accept, at the cutoff c: whatever the contracts of the whole call and of the
 --              search admit
@@ -26,13 +26,16 @@ use Rattle.find_search.specs.declared.Searched.the-variants.{Seen}
 abbrev pub valueAt : ℕ → List ℕ → ℕ → ℕ
 valueAt m f x = eval (G m) f x
 
-pub record RootList (m : ℕ) (f roots : List ℕ) : Type 0 where
+pub record RootsBy (m : ℕ) (value : ℕ → ℕ) (roots : List ℕ) : Type 0 where
   pub ascending : Ascending roots
   pub once : Distinct roots
-  pub exactly : (x : ℕ) → List·Memᴰ x roots ↔ ((x < 2 ^ m) × (valueAt m f x ≡ 0))
-  pub empty : (roots ≡ []) ↔ ((x : ℕ) → x < 2 ^ m → valueAt m f x ≢ 0)
+  pub exactly : (x : ℕ) → List·Memᴰ x roots ↔ ((x < 2 ^ m) × (value x ≡ 0))
+  pub empty : (roots ≡ []) ↔ ((x : ℕ) → x < 2 ^ m → value x ≢ 0)
   -- no other list is
-  pub only : (l : List ℕ) → Ascending l → ((x : ℕ) → List·Memᴰ x l ↔ ((x < 2 ^ m) × (valueAt m f x ≡ 0))) → l ≡ roots
+  pub only : (l : List ℕ) → Ascending l → ((x : ℕ) → List·Memᴰ x l ↔ ((x < 2 ^ m) × (value x ≡ 0))) → l ≡ roots
+
+abbrev pub RootList : ℕ → List ℕ → List ℕ → Type 0
+RootList m f roots = RootsBy m (valueAt m f) roots
 
 pub record Holds (roots list after : List ℕ) : Type 0 where
   pub front : take (length roots) after ≡ roots

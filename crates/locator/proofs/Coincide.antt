@@ -9,14 +9,16 @@ use Prim.Native.Nat.{ℕ}
 use Rattle.field_elements.proofs.Coincide.{product-coincide, inverse-coincide, position-coincide, quadratic-coincide}
 use Rattle.find_solve.proofs.Coincide.{solve-coincide}
 use Rattle.find_search.proofs.Coincide.{search-coincide}
+use Rattle.find_affine.proofs.Coincide.{affine-coincide}
 use Rattle.table_begin.proofs.Coincide.{begin-coincide}
 use Rattle.table_step.proofs.Coincide.{step-coincide}
 use Rattle.table_finish.proofs.Coincide.{finish-coincide}
 use Rattle.corrector.proofs.Coincide.{correct-coincide}
-use Rattle.locator.specs.Calls.{As, ProductAs, InverseAs, PositionAs, QuadraticAs, SolvesAs, SearchesAs, BeginsAs, StepsAs, FinishesAs, CorrectsAs}
+use Rattle.locator.specs.Calls.{As, ProductAs, InverseAs, PositionAs, QuadraticAs, SolvesAs, SearchesAs, SpansAs, BeginsAs, StepsAs, FinishesAs, CorrectsAs}
 use Rattle.locator.specs.declared.LocatorValue.{LocatorValue}
 use Rattle.locator.specs.declared.LocatorPair.{LocatorPair}
 use Rattle.locator.specs.declared.LocatorFound.{LocatorFound}
+use Rattle.locator.specs.declared.LocatorSpace.{LocatorSpace}
 use Rattle.locator.specs.declared.LocatorStepped.{LocatorStepped}
 use Rattle.locator.specs.declared.LocatorCorrected.{LocatorCorrected}
 
@@ -52,6 +54,10 @@ solve-one m c cs list r s x y h k = one-memory (solve-coincide m c cs list) h k
 pub search-one : (m : ℕ) (cs list : List ℕ) (r s : LocatorFound) (x y : List ℕ)
     → SearchesAs m cs list r x → SearchesAs m cs list s y → (r ≡ s) × (x ≡ y)
 search-one m cs list r s x y h k = one-memory (search-coincide m cs list) h k
+
+pub affine-one : (m : ℕ) (cs : List ℕ) (constant : ℕ) (list : List ℕ) (r s : LocatorSpace) (x y : List ℕ)
+    → SpansAs m cs constant list r x → SpansAs m cs constant list s y → (r ≡ s) × (x ≡ y)
+affine-one m cs constant list r s x y h k = one-memory (affine-coincide m cs constant list) h k
 
 pub begin-one : (m c : ℕ) (cs table : List ℕ) (r s : ℕ) (x y : List ℕ)
     → BeginsAs m c cs table r x → BeginsAs m c cs table s y → (r ≡ s) × (x ≡ y)

@@ -1,11 +1,13 @@
 -- The C face loses nothing: a struct tells the answer that it was made from.
 --   value-by-struct ..       so for the struct of each answer
 -- Assumes nothing.
-use mathlib.Core.Path.{_≡_, refl, _∙_}
+use mathlib.Core.Path.{_≡_, refl, sym, ap, _∙_}
 use mathlib.Core.Bool.{cond}
-use Prim.Native.Nat.{ℕ, zero, suc}
+use mathlib.Core.List.{List}
+use Prim.Native.Nat.{ℕ, zero, suc, _<_}
+use native.Mathlib.Nat.{not-suc-le-zero}
 use lib.Dec.{eqb}
-use Rattle.refusals.proofs.Numbers.{refused-back, accepted-back}
+use Rattle.refusals.proofs.Numbers.{by-number, refused-back, accepted-back}
 use Rattle.refusals.proofs.Told.{told-by}
 use Rattle.field.specs.Quadratics.{rootsIn}
 use Rattle.field.specs.declared.solver.Quadratic.{Quadratic}
@@ -21,6 +23,10 @@ use Rattle.find_solve.specs.declared.Solved.{Solved}
 use Rattle.find_solve.specs.declared.Solved.the-variants.{Found, NotSolved}
 use Rattle.find_search.specs.declared.Searched.{Searched}
 use Rattle.find_search.specs.declared.Searched.the-variants.{Seen, NotSearched}
+use Rattle.find_affine.specs.Calls.{toldSpanned, Spans}
+use Rattle.find_affine.proofs.Coincide.{space-counted}
+use Rattle.find_affine.specs.declared.Spanned.{Spanned}
+use Rattle.find_affine.specs.declared.Spanned.the-variants.{NoRoot as NoneSpanned, Space, NotSpanned}
 use Rattle.table_begin.specs.Calls.{toldBegun}
 use Rattle.table_step.specs.Calls.{toldStepped}
 use Rattle.table_finish.specs.Calls.{toldFinished}
@@ -33,8 +39,9 @@ use Rattle.table_finish.specs.declared.Finished.the-variants.{Listed, NotFinish
 use Rattle.corrector.specs.Correcting.{toldCorrected}
 use Rattle.corrector.specs.declared.Corrected.{Corrected}
 use Rattle.corrector.specs.declared.Corrected.the-variants.{Flips, NotCorrected}
-use Rattle.locator.specs.Calls.{asValue, asPair, asFound, asStepped, asCorrected}
+use Rattle.locator.specs.Calls.{asValue, asPair, asFound, asSpace, asStepped, asCorrected}
 use Rattle.locator.specs.declared.LocatorPair.{LocatorPair}
+use Rattle.locator.specs.declared.LocatorSpace.{LocatorSpace}
 
 -- ---- element calls
 
@@ -73,6 +80,46 @@ searched-by-struct = told-by (λ (a : Searched). asFound (toldSearched a)) (λ f
 pub finished-by-struct : (a b : Finished) → asFound (toldFinished a) ≡ asFound (toldFinished b) → a ≡ b
 finished-by-struct = told-by (λ (a : Finished). asFound (toldFinished a)) (λ f. f .outcome) NotFinished (λ f. Listed (f .count))
     (elim [ Listed s ↦ accepted-back NotFinished (Listed s) | NotFinished k ↦ refused-back NotFinished (Listed 0) k ])
+
+-- ---- the affine call: the count tells "none" from a space, which has at least one root
+
+-- a space has at least one root
+abbrev Counted : Spanned → Type 0
+Counted NoneSpanned = Unit {0}
+Counted (Space k n) = 0 < n
+Counted (NotSpanned k) = Unit {0}
+
+-- an answer that the contract admits of some input
+pub record Spanning (a : Spanned) : Type 0 where
+  pub degree : ℕ
+  pub coefficients : List ℕ
+  pub constant : ℕ
+  pub list : List ℕ
+  pub after : List ℕ
+  pub admitted : Spans degree coefficients constant list a after
+
+-- it has
+counted : (a : Spanned) → Spanning a → Counted a
+counted NoneSpanned h = tt
+counted (Space k n) h = space-counted (h .degree) (h .coefficients) (h .constant) (h .list) k n (h .after) (h .admitted)
+counted (NotSpanned k) h = tt
+
+spaceOf : ℕ → ℕ → Spanned
+spaceOf zero k = NoneSpanned
+spaceOf (suc n) k = Space k (suc n)
+
+spaceBack : LocatorSpace → Spanned
+spaceBack s = by-number NotSpanned (spaceOf (s .count) (s .dimension)) (s .outcome)
+
+space-back : (a : Spanned) → Counted a → spaceBack (asSpace (toldSpanned a)) ≡ a
+unfolding spaceBack spaceOf
+space-back NoneSpanned h = accepted-back NotSpanned NoneSpanned
+space-back (Space k zero) h = absurd (not-suc-le-zero h)
+space-back (Space k (suc n)) h = accepted-back NotSpanned (Space k (suc n))
+space-back (NotSpanned k) h = refused-back NotSpanned NoneSpanned k
+
+pub space-by-struct : (a b : Spanned) → Spanning a → Spanning b → asSpace (toldSpanned a) ≡ asSpace (toldSpanned b) → a ≡ b
+space-by-struct a b h k e = sym (space-back a (counted a h)) ∙ ap spaceBack e ∙ space-back b (counted b k)
 
 -- ---- begin and step
 

@@ -4,6 +4,7 @@
 --   asValue       outcome and value: product, inverse, position
 --   asPair        outcome, how many roots, the lower and the upper: the quadratic. One root is the lower
 --   asFound       outcome, how many roots, how many steps: whole call, search, finish. Search and finish take no steps
+--   asSpace       outcome, how many roots, the dimension: the affine call. No root has 0 and 0
 --   asStepped     outcome, and 1 where the table is done
 --   asCorrected   outcome, and how many bits were flipped
 --   As            r is the struct of an answer that a contract admits
@@ -16,12 +17,14 @@ use lib.ListN.{length, getD}
 use Rattle.locator.specs.declared.LocatorValue.{LocatorValue}
 use Rattle.locator.specs.declared.LocatorPair.{LocatorPair}
 use Rattle.locator.specs.declared.LocatorFound.{LocatorFound}
+use Rattle.locator.specs.declared.LocatorSpace.{LocatorSpace}
 use Rattle.locator.specs.declared.LocatorStepped.{LocatorStepped}
 use Rattle.locator.specs.declared.LocatorCorrected.{LocatorCorrected}
 use Rattle.field_elements.specs.Calls.{toldAnswer, toldQuadratic, TellsProduct}
 use Rattle.field_elements.specs.Calls.{TellsInverse, TellsPosition, TellsQuadratic}
 use Rattle.find_solve.specs.Calls.{toldSolved, Solves}
 use Rattle.find_search.specs.Calls.{toldSearched, Searches}
+use Rattle.find_affine.specs.Calls.{toldSpanned, Spans}
 use Rattle.table_begin.specs.Calls.{toldBegun, Begins}
 use Rattle.table_step.specs.Calls.{toldStepped, Steps}
 use Rattle.table_finish.specs.Calls.{toldFinished, Finishes}
@@ -39,6 +42,9 @@ asPair o = record { outcome = o .0; count = length (o .1); lower = valueIn o 0; 
 
 abbrev pub asFound : ℕ × List ℕ → LocatorFound
 asFound o = record { outcome = o .0; count = valueIn o 0; steps = valueIn o 1 }
+
+abbrev pub asSpace : ℕ × List ℕ → LocatorSpace
+asSpace o = record { outcome = o .0; count = valueIn o 0; dimension = valueIn o 1 }
 
 abbrev pub asStepped : ℕ × List ℕ → LocatorStepped
 asStepped o = record { outcome = o .0; done = valueIn o 0 }
@@ -71,6 +77,9 @@ SolvesAs m c cs list r after = As (λ x. asFound (toldSolved x)) (λ x. Solves m
 
 abbrev pub SearchesAs : ℕ → List ℕ → List ℕ → LocatorFound → List ℕ → Type 0
 SearchesAs m cs list r after = As (λ x. asFound (toldSearched x)) (λ x. Searches m cs list x after) r
+
+abbrev pub SpansAs : ℕ → List ℕ → ℕ → List ℕ → LocatorSpace → List ℕ → Type 0
+SpansAs m cs constant list r after = As (λ x. asSpace (toldSpanned x)) (λ x. Spans m cs constant list x after) r
 
 abbrev pub BeginsAs : ℕ → ℕ → List ℕ → List ℕ → ℕ → List ℕ → Type 0
 BeginsAs m c cs table r after = As (λ x. toldBegun x .0) (λ x. Begins m c cs table x after) r

@@ -6,20 +6,23 @@ ghost use Rattle.field.specs.Quadratics.{rootsIn};
 ghost use Rattle.field_elements.specs.Calls.{toldAnswer, toldQuadratic};
 ghost use Rattle.find_solve.specs.Calls.{toldSolved};
 ghost use Rattle.find_search.specs.Calls.{toldSearched};
+ghost use Rattle.find_affine.specs.Calls.{toldSpanned};
 ghost use Rattle.table_begin.specs.Calls.{toldBegun};
 ghost use Rattle.table_step.specs.Calls.{toldStepped};
 ghost use Rattle.table_finish.specs.Calls.{toldFinished};
 ghost use Rattle.corrector.specs.Correcting.{toldCorrected};
-ghost use Rattle.locator.specs.Calls.{asValue, asPair, asFound, asStepped, asCorrected};
+ghost use Rattle.locator.specs.Calls.{asValue, asPair, asFound, asSpace, asStepped, asCorrected};
 use crate::LocatorCorrected;
 use crate::LocatorFound;
 use crate::LocatorPair;
+use crate::LocatorSpace;
 use crate::LocatorStepped;
 use crate::LocatorValue;
 use corrector::Corrected;
 use field::solver::Quadratic;
 use field_elements::Answer;
 use field_elements::Roots;
+use find_affine::Spanned;
 use find_search::Searched;
 use find_solve::Solved;
 use refusals::Refusal;
@@ -124,6 +127,29 @@ pub fn searched_of(a: Searched) -> LocatorFound
     match a {
         Searched::Seen(s) => as_found(s, 0),
         Searched::NotSearched(k) => as_refused(k),
+    }
+}
+
+// Of the affine call: 0 roots where there is none.
+pub fn space_of(a: Spanned) -> LocatorSpace
+    ensures { λ r. ⌜ r ≡ asSpace (toldSpanned a) ⌝ }
+{
+    match a {
+        Spanned::NoRoot => LocatorSpace {
+            outcome: 0,
+            count: 0,
+            dimension: 0,
+        },
+        Spanned::Space { dimension, count } => LocatorSpace {
+            outcome: 0,
+            count: count,
+            dimension: dimension,
+        },
+        Spanned::NotSpanned(k) => LocatorSpace {
+            outcome: number(k),
+            count: 0,
+            dimension: 0,
+        },
     }
 }
 

@@ -1,8 +1,8 @@
-// The C face (docs/RULES.md section 9): the element calls, the whole call, the plain search, begin, step and finish,
-// and the block corrector, as include/locator.h declares them. A slice is a pointer, then a count. Each call answers
-// every input; it neither allocates nor calls out, and keeps no state.
+// The C face (docs/RULES.md section 9): the element calls, the whole call, the plain search, the affine call, begin,
+// step and finish, and the block corrector, as include/locator.h declares them. A slice is a pointer, then a count.
+// Each call answers every input; it neither allocates nor calls out, and keeps no state.
 ghost use Rattle.locator.specs.Calls.{ProductAs, InverseAs, PositionAs, QuadraticAs};
-ghost use Rattle.locator.specs.Calls.{SolvesAs, SearchesAs, BeginsAs, StepsAs, FinishesAs, CorrectsAs};
+ghost use Rattle.locator.specs.Calls.{SolvesAs, SearchesAs, SpansAs, BeginsAs, StepsAs, FinishesAs, CorrectsAs};
 
 mod answers; // what the calls answer, as these structs
 
@@ -28,6 +28,14 @@ pub struct LocatorFound {
     pub outcome: u16,
     pub count: u16,
     pub steps: u16,
+}
+
+// The roots of an affine polynomial: how many, and the dimension.
+#[repr(C)]
+pub struct LocatorSpace {
+    pub outcome: u16,
+    pub count: u16,
+    pub dimension: u16,
 }
 
 // A step's answer: 1 where there was nothing to split.
@@ -95,6 +103,19 @@ pub extern "C" fn locator_search(m: u16, coeffs: &[u16], roots: &mut [u16]) -> L
     ensures { λ r. ⌜ SearchesAs m (now (coeffs .entry)) (now (roots .entry)) r (now (roots .exit)) ⌝ }
 {
     answers::searched_of(find_search::search(m, coeffs, roots))
+}
+
+// The roots of an affine polynomial.
+#[no_mangle]
+pub extern "C" fn locator_affine(
+    m: u16,
+    coeffs: &[u16],
+    constant: u16,
+    roots: &mut [u16],
+) -> LocatorSpace
+    ensures { λ r. ⌜ SpansAs m (now (coeffs .entry)) constant (now (roots .entry)) r (now (roots .exit)) ⌝ }
+{
+    answers::space_of(find_affine::affine(m, coeffs, constant, roots))
 }
 
 // Begins a table: its number alone.

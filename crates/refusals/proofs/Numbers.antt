@@ -14,13 +14,13 @@ use Rattle.refusals.specs.Numbers.{numberOf}
 use Rattle.refusals.specs.declared.Refusal.{Refusal}
 use Rattle.refusals.specs.declared.Refusal.the-variants.{Field, Empty, Long, Element, AllZero, Cutoff, Room}
 use Rattle.refusals.specs.declared.Refusal.the-variants.{Unsound, Stuck, NotDone, Mark, Short, OfZero}
-use Rattle.refusals.specs.declared.Refusal.the-variants.{Convention, Block, Strength, Far}
+use Rattle.refusals.specs.declared.Refusal.the-variants.{Count, Convention, Block, Strength, Far}
 
 -- all refusals, each once
 abbrev refusals : List Refusal
 refusals =
     Field ∷ Empty ∷ Long ∷ Element ∷ AllZero ∷ Cutoff ∷ Room ∷ Unsound ∷ Stuck ∷ NotDone ∷ Mark ∷ Short ∷ OfZero
-    ∷ Convention ∷ Block ∷ Strength ∷ Far ∷ []
+    ∷ Count ∷ Convention ∷ Block ∷ Strength ∷ Far ∷ []
 
 -- the first of these whose number is k
 unfoldable numbered : List Refusal → ℕ → Refusal
@@ -52,6 +52,7 @@ refused-back refuse accept NotDone = refl
 refused-back refuse accept Mark = refl
 refused-back refuse accept Short = refl
 refused-back refuse accept OfZero = refl
+refused-back refuse accept Count = refl
 refused-back refuse accept Convention = refl
 refused-back refuse accept Block = refl
 refused-back refuse accept Strength = refl

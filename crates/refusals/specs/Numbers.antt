@@ -5,9 +5,9 @@ use Prim.Native.Nat.{ℕ}
 use Rattle.refusals.specs.declared.Refusal.{Refusal}
 use Rattle.refusals.specs.declared.Refusal.the-variants.{Field, Empty, Long, Element, AllZero, Cutoff, Room}
 use Rattle.refusals.specs.declared.Refusal.the-variants.{Unsound, Stuck, NotDone, Mark, Short, OfZero}
-use Rattle.refusals.specs.declared.Refusal.the-variants.{Convention, Block, Strength, Far}
+use Rattle.refusals.specs.declared.Refusal.the-variants.{Count, Convention, Block, Strength, Far}
 
--- those of the root finder from 1 to 13, then 21 of a convention and 22 to 24 of the block corrector
+-- those of the root finder from 1 to 13, then 20 of affine polynomials, 21 of a convention and 22 to 24 of the block corrector
 abbrev pub numberOf : Refusal → ℕ
 numberOf Field = 1
 numberOf Empty = 2
@@ -22,6 +22,7 @@ numberOf NotDone = 10
 numberOf Mark = 11
 numberOf Short = 12
 numberOf OfZero = 13
+numberOf Count = 20
 numberOf Convention = 21
 numberOf Block = 22
 numberOf Strength = 23

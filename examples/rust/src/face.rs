@@ -23,6 +23,13 @@ pub struct Found {
 }
 
 #[repr(C)]
+pub struct Space {
+    pub outcome: u16,
+    pub count: u16,
+    pub dimension: u16,
+}
+
+#[repr(C)]
 pub struct Stepped {
     pub outcome: u16,
     pub done: u16,
@@ -48,6 +55,14 @@ extern "C" {
         room: usize,
     ) -> Found;
     fn locator_search(m: u16, coeffs: *const u16, n: usize, roots: *mut u16, room: usize) -> Found;
+    fn locator_affine(
+        m: u16,
+        coeffs: *const u16,
+        n: usize,
+        constant: u16,
+        roots: *mut u16,
+        room: usize,
+    ) -> Space;
     fn locator_begin(
         m: u16,
         coeffs: *const u16,
@@ -96,6 +111,19 @@ pub fn search(m: u16, coeffs: &[u16], roots: &mut [u16]) -> Found {
             m,
             coeffs.as_ptr(),
             coeffs.len(),
+            roots.as_mut_ptr(),
+            roots.len(),
+        )
+    }
+}
+
+pub fn affine(m: u16, coeffs: &[u16], constant: u16, roots: &mut [u16]) -> Space {
+    unsafe {
+        locator_affine(
+            m,
+            coeffs.as_ptr(),
+            coeffs.len(),
+            constant,
             roots.as_mut_ptr(),
             roots.len(),
         )

@@ -1,4 +1,5 @@
-//! Safe calls of the proved root finder: the roots of polynomials over GF(2^m), m = 4, 8 or 11, and the block corrector.
+//! Safe calls of the proved root finder: the roots of polynomials over GF(2^m), m = 4, 8 or 11, of affine ones of any
+//! degree, and the block corrector.
 //! include/locator.h says what each call does; here a refusal is an error, a list is a slice, and what is given back is
 //! typed. No call allocates, calls out or keeps state. The module `encode` makes codewords for the corrector; it is
 //! tested and not proved.
@@ -11,6 +12,8 @@ mod face;
 pub const SLOTS: usize = 100;
 /// The fewest slots of a root list.
 pub const ROOTS: usize = 32;
+/// Slots that are enough for the roots of an affine polynomial in any field.
+pub const ELEMENTS: usize = 2048;
 /// The bytes of a block corrector's word.
 pub const WORD: usize = 256;
 
@@ -32,7 +35,7 @@ pub enum Refusal {
     AllZero = 5,
     /// The cutoff is above 3.
     Cutoff = 6,
-    /// The root list has under 32 slots, or the table has not 100.
+    /// The root list has under 32 slots (of an affine polynomial under 2^m), or the table has not 100.
     Room = 7,
     /// The table is not sound.
     Unsound = 8,
@@ -42,6 +45,8 @@ pub enum Refusal {
     NotDone = 10,
     /// An inverse or a position of 0.
     OfZero = 13,
+    /// An affine polynomial has not m coefficients.
+    Count = 20,
     /// The word has not 256 bytes, or its last bit is set.
     Block = 22,
     /// The strength is not 1 to 8.
@@ -61,7 +66,7 @@ impl Refusal {
         use Refusal::*;
         [
             Field, Empty, Long, Element, AllZero, Cutoff, Room, Unsound, Stuck, NotDone, OfZero,
-            Block, Strength, Far,
+            Count, Block, Strength, Far,
         ]
         .into_iter()
         .find(|r| r.number() == number)
@@ -102,6 +107,28 @@ pub enum Pair {
 pub struct Solved<'a> {
     pub roots: &'a [u16],
     pub steps: u16,
+}
+
+/// The roots of an affine polynomial: none, or one of them plus each element of a space over two values. That there is
+/// none differs from a space of dimension 0, which is one root.
+#[derive(Clone, Copy, Debug, PartialEq, Eq)]
+pub enum Space<'a> {
+    None,
+    /// 2^dimension roots, ascending, at the front of the list that was lent.
+    Roots {
+        dimension: u16,
+        roots: &'a [u16],
+    },
+}
+
+impl<'a> Space<'a> {
+    /// The roots, ascending: an empty slice where there is none.
+    pub fn roots(self) -> &'a [u16] {
+        match self {
+            Space::None => &[],
+            Space::Roots { roots, .. } => roots,
+        }
+    }
 }
 
 /// What a step does.
@@ -167,6 +194,26 @@ pub fn search<'a>(m: u16, coeffs: &[u16], roots: &'a mut [u16]) -> Result<&'a [u
     let found = face::search(m, coeffs, roots);
     accepted(found.outcome)?;
     Ok(&roots[..found.count.into()])
+}
+
+/// The roots of the affine polynomial constant + coeffs[0] z + coeffs[1] z^2 + coeffs[2] z^4 + .. up to z^(2^(m-1)): m
+/// coefficients, whose degree may be 1024. No element is tried. The list has at least 2^m slots, however few the roots are
+/// ([`ELEMENTS`] is enough in any field); those behind the last root are not written. All zeros give the entire field.
+pub fn affine<'a>(
+    m: u16,
+    coeffs: &[u16],
+    constant: u16,
+    roots: &'a mut [u16],
+) -> Result<Space<'a>, Refusal> {
+    let space = face::affine(m, coeffs, constant, roots);
+    accepted(space.outcome)?;
+    Ok(match space.count {
+        0 => Space::None,
+        count => Space::Roots {
+            dimension: space.dimension,
+            roots: &roots[..count.into()],
+        },
+    })
 }
 
 /// Begins a work table.

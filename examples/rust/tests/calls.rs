@@ -144,7 +144,7 @@ fn numbers_and_refusals_are_one_to_one() {
     let known: Vec<u16> = (0..100)
         .filter(|&k| Refusal::from_number(k).is_some())
         .collect();
-    assert_eq!(known, [1, 2, 3, 4, 5, 6, 7, 8, 9, 10, 13, 22, 23, 24]);
+    assert_eq!(known, [1, 2, 3, 4, 5, 6, 7, 8, 9, 10, 13, 20, 22, 23, 24]);
     assert!(known
         .iter()
         .all(|&k| Refusal::from_number(k).unwrap().number() == k));

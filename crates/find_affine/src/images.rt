@@ -1,0 +1,78 @@
+// The terms of an affine polynomial at an element, and the columns of its system, over lent log tables.
+ghost use mathlib.Core.Path.{_≡_};
+ghost use mathlib.Core.Bool.{true};
+ghost use Prim.Native.Nat.{_<_, _^_};
+ghost use Rattle.algebra.specs.Polynomial.{Below};
+ghost use Rattle.field.specs.Rows.{known};
+ghost use Rattle.field.specs.Field.{mul, fieldAt};
+ghost use Rattle.poly.specs.Lent.{Lent};
+ghost use Rattle.find_affine.specs.Affine.{termsAt};
+ghost use Rattle.find_affine.specs.Systems.{Imaged};
+use crate::COLUMNS;
+use field_tables::constants::antilogs4;
+use field_tables::constants::antilogs8;
+use field_tables::constants::antilogs11;
+use field_tables::constants::logs4;
+use field_tables::constants::logs8;
+use field_tables::constants::logs11;
+
+// The product of x, which is not 0, and y.
+fn product(m: u16, logs: &[u16], antilogs: &[u16], x: u16, y: u16) -> u16
+    requires { ⌜ Lent m (now logs) (now antilogs) × (0 < x) × (x < 2 ^ m) × (y < 2 ^ m) ⌝ }
+    ensures { λ r. ⌜ r ≡ mul (fieldAt m) x y ⌝ }
+{
+    let k = logs[x as usize] as usize;
+    antilogs[k + logs[y as usize] as usize]
+}
+
+// The sum of the terms c_i x^(2^i), where x is not 0.
+fn terms(m: u16, logs: &[u16], antilogs: &[u16], coeffs: &[u16], x: u16) -> u16
+    requires { ⌜ Lent m (now logs) (now antilogs) × Below (2 ^ m) (now coeffs) × (0 < x) × (x < 2 ^ m) ⌝ }
+    ensures { λ r. ⌜ r ≡ termsAt m (now (coeffs .entry)) x ⌝ }
+{
+    let mut sum: u16 = 0;
+    let mut y = x;
+    let mut i = 0;
+    while i < coeffs.len() {
+        sum = sum ^ product(m, logs, antilogs, y, coeffs[i]);
+        y = product(m, logs, antilogs, y, y);
+        i += 1;
+    }
+    sum
+}
+
+// The columns: the terms at 1, 2, 4, .., 2^(m-1), then the constant, then zeros.
+fn images_lent(
+    m: u16,
+    logs: &[u16],
+    antilogs: &[u16],
+    coeffs: &[u16],
+    constant: u16,
+) -> [u16; COLUMNS]
+    requires { ⌜ Lent m (now logs) (now antilogs) × Below (2 ^ m) (now coeffs) ⌝ }
+    ensures { λ r. ⌜ Imaged m (now (coeffs .entry)) constant r ⌝ }
+{
+    let n = m as usize;
+    let mut out = [0u16; COLUMNS];
+    let mut x: u16 = 1;
+    let mut j = 0;
+    while j < n {
+        out[j] = terms(m, logs, antilogs, coeffs, x);
+        x = x * 2;
+        j += 1;
+    }
+    out[n] = constant;
+    out
+}
+
+// The same, over the field's tables, which are lent here.
+pub fn images(m: u16, coeffs: &[u16], constant: u16) -> [u16; COLUMNS]
+    requires { ⌜ (known m ≡ true) × Below (2 ^ m) (now coeffs) ⌝ }
+    ensures { λ r. ⌜ Imaged m (now (coeffs .entry)) constant r ⌝ }
+{
+    match m {
+        4 => images_lent(m, &logs4(), &antilogs4(), coeffs, constant),
+        8 => images_lent(m, &logs8(), &antilogs8(), coeffs, constant),
+        _ => images_lent(m, &logs11(), &antilogs11(), coeffs, constant),
+    }
+}
