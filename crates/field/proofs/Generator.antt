@@ -8,6 +8,7 @@
 --   generates       every nonzero element is a power of 2;  position-unique  in one way only
 --   cancel          a nonzero factor can be left out;  zero-product  a product is 0 only where a factor is
 --   mul-inverse     x times its inverse is 1;  inverse-only  no other element does that;  inverse-lt  it is an element
+--   inverse-power   it is x^(2^m - 2)
 --   position-is     the position of r is a j below the order with a^j = r;  position-only  it is the only one
 --   generated       each known field is Generated
 --   Small, small    the numbers of a known field fit into 16 bits;  product-asks  what the shared product asks of them
@@ -181,10 +182,13 @@ module _ (F : Field) (gen : Generated F) where
       (λ z hz t. cancel x z y hx hs hz hy (eqb→eq (mul F x z) 1 t ∙ sym e)))
       ∙ mod-eq-of-lt hy
 
+  -- it is x^(2^m - 2)
+  pub inverse-power : (x : ℕ) → 0 < x → x < size F → inverse F x ≡ power (numbers F) x (size F - 2)
+  inverse-power x hx hs =
+      inverse-only x (power (numbers F) x (size F - 2)) hx hs (power-lt F (gen .monic) one-below x (size F - 2)) (undone x hx hs)
+
   pub mul-inverse : (x : ℕ) → 0 < x → x < size F → mul F x (inverse F x) ≡ 1
-  mul-inverse x hx hs =
-      ap (mul F x) (inverse-only x (power (numbers F) x (size F - 2)) hx hs (power-lt F (gen .monic) one-below x (size F - 2)) (undone x hx hs))
-      ∙ undone x hx hs
+  mul-inverse x hx hs = ap (mul F x) (inverse-power x hx hs) ∙ undone x hx hs
 
   -- the position of a nonzero element is the one j below the order with a^j = r
   pub position-only : (r j : ℕ) → j < order F → power (numbers F) 2 j ≡ r → position F r ≡ j
@@ -239,17 +243,17 @@ pub record Small (m p : ℕ) : Type 0 where
   pub degree-pos : 0 < m
   pub degree-lt : m < 16
   pub poly-lt : p < 65536
-  pub poly-odd : p % 2 ≡ 1
+  pub digits : m ≤ 12
   pub size-le : 2 ^ m ≤ 32768
 
 small4 : Small 4 19
-small4 = record { degree-pos = lit< tt; degree-lt = lit< tt; poly-lt = lit< tt; poly-odd = refl; size-le = lit≤ tt }
+small4 = record { degree-pos = lit< tt; degree-lt = lit< tt; poly-lt = lit< tt; digits = lit≤ tt; size-le = lit≤ tt }
 
 small8 : Small 8 285
-small8 = record { degree-pos = lit< tt; degree-lt = lit< tt; poly-lt = lit< tt; poly-odd = refl; size-le = lit≤ tt }
+small8 = record { degree-pos = lit< tt; degree-lt = lit< tt; poly-lt = lit< tt; digits = lit≤ tt; size-le = lit≤ tt }
 
 small11 : Small 11 2053
-small11 = record { degree-pos = lit< tt; degree-lt = lit< tt; poly-lt = lit< tt; poly-odd = refl; size-le = lit≤ tt }
+small11 = record { degree-pos = lit< tt; degree-lt = lit< tt; poly-lt = lit< tt; digits = lit≤ tt; size-le = lit≤ tt }
 
 pub small : {m p : ℕ} → ListedRow m p → Small m p
 small = by-row Small small4 small8 small11

@@ -11,8 +11,7 @@ pub mod Additive
 pub mod Trace
 pub mod HalfRoots
 pub mod Loops
-pub mod Divides
-pub mod Inverting
+pub mod Raising
 pub mod Tree
 pub mod Logarithms
 pub mod Solutions

@@ -1,5 +1,5 @@
 pub mod Rows
 pub mod Field
-pub mod Division
+pub mod Powers
 pub mod Tables
 pub mod Quadratics

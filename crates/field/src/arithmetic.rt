@@ -4,6 +4,7 @@ ghost use Prim.Native.Nat.{_<_, _/_, _^_};
 ghost use Rattle.field.specs.Rows.{ListedRow};
 ghost use Rattle.field.specs.Field.{cut, mul, position, fieldOf};
 ghost use Rattle.field.specs.Tables.{Logs};
+use crate::powers::raised;
 
 // The shared reduction: y, with the polynomial added where y has the polynomial's degree.
 pub fn cut(degree: u16, poly: u16, y: u32) -> u32
@@ -34,13 +35,7 @@ pub fn root_of(degree: u16, poly: u16, b: u16) -> u16
     requires { ⌜ ListedRow degree poly × (b < 2 ^ degree) ⌝ }
     ensures { λ r. ⌜ (r < 2 ^ degree) × (mul (fieldOf degree poly) r r ≡ b) ⌝ }
 {
-    let mut y = b;
-    let mut i: u16 = 0;
-    while i + 1 < degree {
-        y = product_of(degree, poly, y, y);
-        i += 1;
-    }
-    y
+    raised(degree, poly, 1, b)
 }
 
 // The shared position of a nonzero element, over a lent log table: half its log.

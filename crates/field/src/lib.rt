@@ -4,5 +4,6 @@
 
 pub mod rows; // the fields that there are: degree, polynomial, size
 pub mod arithmetic; // the reduction, the product, the square root, the position
+pub mod powers; // powers by repeated squaring
 pub mod division; // the inverse
 pub mod solver; // the quadratic solver
