@@ -5,7 +5,7 @@
 --                     element, reduced, is one
 --   Mapping           the sum up to i;  mapping-from, mapping-on, mapping-end  its loop
 --   Raising           the turns that are left;  raising-from, raising-on, raising-end  their loop
---   raised-back       m turns bring an element back
+--   raised-back       m turns bring an element back;  raisedBy-lt  turns leave elements
 --   raised-squared    what m - 1 turns leave, times c, is the square root
 --   raised-root       where c is 1, the square root;  raised-inverse  from 1 on, the inverse
 -- Assumes nothing.
@@ -125,7 +125,7 @@ module _ (F : Field) (gen : Generated F) where
   raising-end {c} {x} {y} {left} r h = ap (λ (n : ℕ). raisedBy F c n y) (let q : 0 ≡ left - 1 = omega arith in q) ∙ r .ahead
 
   -- ---- what the turns come to
-  raisedBy-lt : (c n x : ℕ) → x < size F → raisedBy F c n x < size F
+  pub raisedBy-lt : (c n x : ℕ) → x < size F → raisedBy F c n x < size F
   unfolding raisedBy
   raisedBy-lt c zero x h = h
   raisedBy-lt c (suc n) x h = raisedBy-lt c n (turned F c x) (turned-lt c x)

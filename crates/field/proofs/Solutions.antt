@@ -11,6 +11,7 @@ use Prim.Native.Nat.{ℕ, _%_, _≤_, _<_}
 use native.Mathlib.Omega.{arith}
 use lib.Bits.{bitXor, differ, xor-comm, xor-self, xor-lt, xor-zero-r}
 use Rattle.field.specs.Field.{Field, size, mul, Tr}
+use Rattle.field.specs.Powers.{turned}
 use Rattle.field.specs.Tables.{HalfRoot}
 use mathlib.Core.Logic.{_↔_}
 use mathlib.Core.List.{[], _∷_, List·Memᴰ·cases-cons, List·Memᴰ·not-nil, List·Memᴰ·head, List·Memᴰ·tail}
@@ -216,20 +217,32 @@ module _ (F : Field) (gen : Generated F) where
           lower : bitXor (mul F a j) a < mul F a j
           lower = let k = apart in omega arith
 
-    -- what the table's entry j at part says of the roots, as the solver goes by it: x is aj
-    pub answer-none : {i j : ℕ} → i ≡ part → HalfRoot F i j → size F ≤ 65535 → j ≡ 65535 → rootsOfQuadratic F a b ≡ []
-    answer-none e h small k = no-roots (ap (Tr F) (sym e) ∙ no-solution h small k)
+    -- q is the square root of b, divided by a: what the table's entry j at q says of the roots, as the solver goes by it
+    module _ (q : ℕ) (hq : q < size F) (root : turned F a q ≡ b) where
+      square-part : mul F q q ≡ part
+      unfolding turned
+      square-part = forth (mul F q q) (mul-lt q q) (sym (mul-swap a q a q) ∙ root)
 
-    pub answer-up : {i j x : ℕ} → i ≡ part → HalfRoot F i j → j ≢ 65535 → x ≡ mul F a j → x < bitXor x a → rootsOfQuadratic F a b ≡ x ∷ bitXor x a ∷ []
-    answer-up {j = j} {x = x} e h n ex =
-        subst (λ (t : ℕ). t < bitXor t a → rootsOfQuadratic F a b ≡ t ∷ bitXor t a ∷ []) (sym ex)
-        (roots-up j (solution h n .0) (solution h n .1 ∙ e))
+      -- j + q is an x
+      shifted : (j : ℕ) → quad F j ≡ q → quad F (bitXor j q) ≡ part
+      unfolding quad
+      shifted j e =
+          quad-xor F gen j q ∙ ap (λ (t : ℕ). bitXor t (bitXor (mul F q q) q)) e
+          ∙ ap (bitXor q) (xor-comm (mul F q q) q) ∙ xor-cancel q (mul F q q) ∙ square-part
 
-    pub answer-down : {i j x : ℕ} → i ≡ part → HalfRoot F i j → j ≢ 65535 → x ≡ mul F a j → 0 < a → ¬ (x < bitXor x a)
-        → rootsOfQuadratic F a b ≡ bitXor x a ∷ x ∷ []
-    answer-down {j = j} {x = x} e h n ex pos =
-        subst (λ (t : ℕ). ¬ (t < bitXor t a) → rootsOfQuadratic F a b ≡ bitXor t a ∷ t ∷ []) (sym ex)
-        (roots-down j (solution h n .0) (solution h n .1 ∙ e) pos)
+      pub answer-none : {j : ℕ} → HalfRoot F q j → size F ≤ 65535 → j ≡ 65535 → rootsOfQuadratic F a b ≡ []
+      answer-none h small k = no-roots (ap (Tr F) (sym square-part) ∙ trace-of-square F gen q hq ∙ no-solution h small k)
+
+      pub answer-up : {j x : ℕ} → HalfRoot F q j → j ≢ 65535 → x ≡ mul F a (bitXor j q) → x < bitXor x a → rootsOfQuadratic F a b ≡ x ∷ bitXor x a ∷ []
+      answer-up {j} {x} h n ex =
+          subst (λ (t : ℕ). t < bitXor t a → rootsOfQuadratic F a b ≡ t ∷ bitXor t a ∷ []) (sym ex)
+          (roots-up (bitXor j q) (xor-lt (F .degree) j q (solution h n .0) hq) (shifted j (solution h n .1)))
+
+      pub answer-down : {j x : ℕ} → HalfRoot F q j → j ≢ 65535 → x ≡ mul F a (bitXor j q) → 0 < a → ¬ (x < bitXor x a)
+          → rootsOfQuadratic F a b ≡ bitXor x a ∷ x ∷ []
+      answer-down {j} {x} h n ex pos =
+          subst (λ (t : ℕ). ¬ (t < bitXor t a) → rootsOfQuadratic F a b ≡ bitXor t a ∷ t ∷ []) (sym ex)
+          (roots-down (bitXor j q) (xor-lt (F .degree) j q (solution h n .0) hq) (shifted j (solution h n .1)) pos)
 
   -- a = 0: the square root is the only root
   pub one-root : {a b s : ℕ} → a ≡ 0 → b < size F → s < size F → mul F s s ≡ b → rootsOfQuadratic F a b ≡ s ∷ []

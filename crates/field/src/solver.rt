@@ -7,7 +7,7 @@ ghost use Rattle.field.specs.Tables.{Halves};
 ghost use Rattle.field.specs.Quadratics.{rootsIn, rootsOfQuadratic};
 use crate::arithmetic::product_of;
 use crate::arithmetic::root_of;
-use crate::division::inverse_of;
+use crate::powers::raised;
 
 // The roots of a quadratic: none, one or two, the lower first.
 pub enum Quadratic {
@@ -16,7 +16,8 @@ pub enum Quadratic {
     Two(u16, u16),
 }
 
-// The roots of z^2 + az + b: where a is 0 the square root of b, else z = ax with x^2 + x = b / a^2.
+// The roots of z^2 + az + b: where a is 0 the square root of b, else z = ax with x^2 + x = b / a^2. With q the square
+// root of b, divided by a, that is q^2, so x is j + q where j^2 + j = q.
 pub fn quadratic_of(degree: u16, poly: u16, halves: &[u16], a: u16, b: u16) -> Quadratic
     requires { ⌜ ListedRow degree poly
         × Halves (fieldOf degree poly) (now halves)
@@ -27,14 +28,12 @@ pub fn quadratic_of(degree: u16, poly: u16, halves: &[u16], a: u16, b: u16) -> Q
     if a == 0 {
         return Quadratic::One(root_of(degree, poly, b));
     }
-    let v = inverse_of(degree, poly, a);
-    let w = product_of(degree, poly, v, v);
-    let i = product_of(degree, poly, b, w);
-    let j = halves[i as usize];
+    let q = raised(degree, poly, a, b);
+    let j = halves[q as usize];
     if j == 65535 {
         return Quadratic::NoRoot;
     }
-    let x = product_of(degree, poly, a, j);
+    let x = product_of(degree, poly, a, j ^ q);
     let y = x ^ a;
     if x < y {
         return Quadratic::Two(x, y);
