@@ -4,6 +4,7 @@
 --   Elem         the field elements: the numbers below q
 --   elems, laws  their operations, and that they obey the laws
 --   low          a list of elements as numbers
+--   map-NAME     NAME commutes with `map`
 --   low-NAME     NAME commutes with `low`
 --   lift         a list of numbers below q as elements
 --   all          the field's elements in order
@@ -27,12 +28,12 @@ use Rattle.algebra.specs.Routines.{cofactor, quotientDigit, euclid, frob
 use Rattle.algebra.proofs.Trial.{ascending-distinct, length-upFrom, upFrom-all, upFrom-ascending}
 
 module _ {A B : Type 0} (φ : A → B) where
-  map-take : (n : ℕ) (l : List A) → map φ (take n l) ≡ take n (map φ l)
+  pub map-take : (n : ℕ) (l : List A) → map φ (take n l) ≡ take n (map φ l)
   map-take zero l = refl
   map-take (suc n) [] = refl
   map-take (suc n) (x ∷ l) = ap (λ r. φ x ∷ r) (map-take n l)
 
-  map-replicate : (n : ℕ) (a : A) → map φ (replicate n a) ≡ replicate n (φ a)
+  pub map-replicate : (n : ℕ) (a : A) → map φ (replicate n a) ≡ replicate n (φ a)
   map-replicate zero a = refl
   map-replicate (suc n) a = ap (λ r. φ a ∷ r) (map-replicate n a)
 

@@ -21,6 +21,8 @@ pub mod MakingMonic
 pub mod Euclid
 pub mod Bezout
 pub mod Quotients
+-- how many times a root can be taken out
+pub mod Multiplicity
 -- splitting, traces, the whole field
 pub mod Splitting
 pub mod Modular
@@ -37,5 +39,6 @@ pub mod NumberSteps
 pub mod NumberTrace
 pub mod NumberMonic
 pub mod RootList
+pub mod NumberMultiplicity
 pub mod Parting
 pub mod Example

@@ -1,4 +1,5 @@
 -- Division and greatest common divisors of lists of numbers below q, as the code holds them.
+--   divides-up, divides-down   divisibility of elements and of numbers below q
 --   factor           z + r divides f exactly where f(r) = 0
 --   roots-divide     distinct roots of f together divide f
 --   division         f = (monic p) quo + rem
@@ -45,12 +46,12 @@ module _ {G : Ops ℕ} {q : ℕ} (N : OnNumbers G q) where
 
   -- ---- from elements and back
 
-  divides-up : (u v : List (Elem q)) → DividesBelow G q (low N u) (low N v) → Divides K u (coef K v)
+  pub divides-up : (u v : List (Elem q)) → DividesBelow G q (low N u) (low N v) → Divides K u (coef K v)
   divides-up u v h =
       let w : List (Elem q) = lift N (h .quotient) (h .small) in
       record { quotient = w; exact = coef-up N (mul K u w) v (ap (coef G) (low-mul N u w ∙ ap (mul G (low N u)) (low-lift N (h .quotient) (h .small))) ∙ h .exact) }
 
-  divides-down : (u v : List (Elem q)) → Divides K u (coef K v) → DividesBelow G q (low N u) (low N v)
+  pub divides-down : (u v : List (Elem q)) → Divides K u (coef K v) → DividesBelow G q (low N u) (low N v)
   divides-down u v h = record {
     quotient = low N (h .quotient);
     small = below-low N (h .quotient);

@@ -4,3 +4,4 @@ pub mod Field
 pub mod Trial
 pub mod Polynomial
 pub mod Routines
+pub mod Multiplicity
