@@ -1,4 +1,5 @@
 -- The multiplicity of a root, over an abstract field.
+--   turn-root, turn-none   one division more, and none
 --   quotient-by          where f(r) = 0, f = (z + r) (quotientBy r f)
 --   multiplicity-right   how many times z + r can be taken out is the largest e for which (z + r)^e divides f
 --   multiplicity-only    there is one such e
@@ -17,14 +18,14 @@ use mathlib.Core.Path.{_∙_, _≡_, ap, ap₂, fun-ext, refl, subst, sym}
 use mathlib.Core.Logic.{_↔_, _≢_, _⊎_, inl, inr}
 use mathlib.Core.Bool.{Bool, cond, false, true}
 use mathlib.Core.List.{List, [], _++_, _∷_, map}
-use Prim.Native.Nat.{_+_, _-_, _≤_, suc, zero, ℕ}
+use Prim.Native.Nat.{_+_, _-_, _<_, _≤_, suc, zero, ℕ}
 use native.Mathlib.Nat.{le-of-suc-le-suc, not-suc-le-zero}
 use native.Mathlib.Omega.{arith}
 use lib.Dec.{T}
 use lib.ListN.{length, length-append, length-map, length-replicate, length-take, replicate, take}
 use Rattle.algebra.specs.Field.{Laws, Ops}
 use Rattle.algebra.specs.Trial.{All, Distinct}
-use Rattle.algebra.specs.Polynomial.{coef, eval, fromRoots, linear, mul}
+use Rattle.algebra.specs.Polynomial.{coef, eval, fromRoots, isRoot, linear, mul}
 use Rattle.algebra.specs.Routines.{quo, quotientDigit, rem}
 use Rattle.algebra.specs.Multiplicity.{IsMultiplicity, left, leftIn, linearPower, multiplicitiesIn, multiplicity, quotientBy, spread, timesOut, total}
 use Rattle.algebra.proofs.Elements.{equal-of-sum, mul-zero, zero-of-product}
@@ -74,6 +75,33 @@ each : {K : Type 0} (P Q : K → Type 0) (s : List K) → ((x : K) → P x → Q
 each P Q [] f h = tt
 each P Q (x ∷ s) f h = (f x (h .0), each P Q s f (h .1))
 
+-- ---- one division, by the definitions alone
+
+module _ {K : Type 0} (F : Ops K) where
+  pub length-quotientBy : (r : K) (f : List K) → length (quotientBy F r f) ≡ length f - 1
+  unfolding quotientBy
+  length-quotientBy r f = simp (length-take, length-quo F) (omega arith)
+
+  -- where r is a root, z + r is taken out once more
+  pub turn-root : (f : List K) (r : K) → 0 < length f → isRoot F f r ≡ true
+      → (multiplicity F f r ≡ suc (multiplicity F (quotientBy F r f) r)) × (left F f r ≡ left F (quotientBy F r f) r)
+  unfolding timesOut leftIn
+  turn-root [] r l e = absurd (not-suc-le-zero l)
+  turn-root (c ∷ f) r l e =
+      let g : List K = quotientBy F r (c ∷ f) in
+      let n : length f ≡ length g = omega (arith, length-quotientBy r (c ∷ f)) in (
+        ap (λ b. cond b (suc (timesOut F (length f) g r)) 0) e ∙ ap (λ k. suc (timesOut F k g r)) n,
+        ap (λ b. cond b (leftIn F (length f) g r) (c ∷ f)) e ∙ ap (λ k. leftIn F k g r) n,
+      )
+
+  -- where it is none, nothing is
+  pub turn-none : (f : List K) (r : K) → isRoot F f r ≡ false → (multiplicity F f r ≡ 0) × (left F f r ≡ f)
+  unfolding timesOut leftIn
+  turn-none [] r e = (refl, refl)
+  turn-none (c ∷ f) r e =
+      let g : List K = quotientBy F r (c ∷ f) in
+      (ap (λ b. cond b (suc (timesOut F (length f) g r)) 0) e, ap (λ b. cond b (leftIn F (length f) g r) (c ∷ f)) e)
+
 module _ {K : Type 0} {F : Ops K} (L : Laws F) where
   open Signs (signs F) using (0#, 1#, _⊕_, _⊗_, _⊞_, _⊠_, _∣_)
   open Laws L using (zero-test)
@@ -92,10 +120,6 @@ module _ {K : Type 0} {F : Ops K} (L : Laws F) where
   shorter r (c ∷ f) =
       let n : suc (length f) - 1 ≡ length f = omega arith in
       ap (λ k. coef F (take k (quo F (r ∷ []) (c ∷ f)))) n ∙ sym (ap (coef F) (last-digit r c f) ∙ coef-top L (take (length f) (quo F (r ∷ []) (c ∷ f))) 1)
-
-  pub length-quotientBy : (r : K) (f : List K) → length (quotientBy F r f) ≡ length f - 1
-  unfolding quotientBy
-  length-quotientBy r f = simp (length-take, length-quo F) (omega arith)
 
   -- where f(r) = 0, f = (z + r) (quotientBy r f)
   pub quotient-by : (r : K) (f : List K) → eval F f r ≡ 0# → coef F (linear F r) ⊠ coef F (quotientBy F r f) ≡ coef F f
@@ -149,7 +173,7 @@ module _ {K : Type 0} {F : Ops K} (L : Laws F) where
   unfolding timesOut
   tried-right zero [] r l z = absurd (z refl)
   tried-right zero (c ∷ f) r l z = absurd (not-suc-le-zero l)
-  tried-right (suc n) f r l z = go (F .isZero (eval F f r)) (zero-test (eval F f r)) (tried-right n (quotientBy F r f) r (omega (arith, length-quotientBy r f)))
+  tried-right (suc n) f r l z = go (F .isZero (eval F f r)) (zero-test (eval F f r)) (tried-right n (quotientBy F r f) r (omega (arith, length-quotientBy F r f)))
     where
       g : List K
       g = quotientBy F r f

@@ -10,6 +10,7 @@
 --   inverse    the y with x y = 1, by trial; 0 where there is none
 --   numbers    the operations as the theory of polynomials takes them: sum, product, inverse
 --   G m        those of the known field of degree m;  rootsAt m f  the roots of f there, by trial, ascending
+--   multiplicitiesAt m f   beside each of these roots its multiplicity
 --   Tr         the trace: the sum of x^(2^i) for i from 0 to m-1
 --   position   the exponent of r: the j with a^j = r, by trial, where a is 2
 -- Assumes nothing.
@@ -20,6 +21,7 @@ use lib.Dec.{eqb}
 use Rattle.algebra.specs.Field.{Ops, power, trace}
 use Rattle.algebra.specs.Trial.{firstFrom}
 use Rattle.algebra.specs.Polynomial.{rootsOf}
+use Rattle.algebra.specs.Multiplicity.{multiplicitiesOf}
 use Rattle.field.specs.Rows.{polyOf}
 
 -- `f` makes the result of what the higher digits gave and of the next digit; the count n of digits to go stops the
@@ -77,6 +79,9 @@ G m = numbers (fieldAt m)
 
 abbrev pub rootsAt : ℕ → List ℕ → List ℕ
 rootsAt m f = rootsOf (G m) (2 ^ m) f
+
+abbrev pub multiplicitiesAt : ℕ → List ℕ → List ℕ
+multiplicitiesAt m f = multiplicitiesOf (G m) f (rootsAt m f)
 
 abbrev pub Tr : Field → ℕ → ℕ
 Tr F x = trace (numbers F) (F .degree) x

@@ -1,0 +1,3 @@
+mod Ones
+mod Removing
+mod Counting
