@@ -16,6 +16,7 @@ TARGETS = [
     ("the same, lib/bch.c compiled for m = 11, t = 64 only", "solve", "bchfixed", ["11.split.32"], 1.0),
     ("whole call / FLINT, field 11, dense, degree 32", "solve", "flint", ["11.dense.32"], 0.2),
     ("plain search / Chien in C, field 11, the largest", "search", "chien", None, 1.5),
+    ("whole call at cutoff 3 / at 2, field 11, split, degrees 8 to 32", "solve3", "solve", ["11.split.8", "11.split.16", "11.split.32"], 1.0),
 ]
 
 

@@ -11,6 +11,7 @@
 --   rootsOf-norm        so a polynomial has the roots of what it is made monic
 --   rootsOf-count       a monic polynomial of degree n has at most n roots
 --   rootsOf-degree      and so any other but 0
+--   rootsOf-whole       n ascending numbers at which it is 0 are all
 --   monicRoots-root     the roots of a product over roots are those
 --   rootsOf-monicRoots  so `rootsOf` takes the product over an ascending list back to the list
 --   rootsOf-gcd         a greatest common divisor with t keeps the roots at which t is 0
@@ -31,10 +32,10 @@ use native.Mathlib.Omega.{arith}
 use lib.Dec.{T}
 use lib.ListN.{length, length-map, replicate}
 use Rattle.algebra.specs.Field.{Laws, OnNumbers, Ops, squared}
-use Rattle.algebra.specs.Trial.{Ascending, Distinct, keep}
+use Rattle.algebra.specs.Trial.{All, Ascending, Distinct, keep}
 use Rattle.algebra.specs.Polynomial.{Below, coef, eval, fieldPoly, fromRoots, isRoot, linear, rootsOf}
 use Rattle.algebra.specs.Routines.{cofactor, gcd, monic, monicRoots, norm}
-use Rattle.algebra.proofs.Trial.{all-at, all-map, ascending-distinct, ascending-keep, ascending-same, distinct-keep, keep-passed, kept-ascending, kept-exactly, kept-member}
+use Rattle.algebra.proofs.Trial.{all-at, all-map, ascending-distinct, ascending-keep, ascending-same, ascending-whole, distinct-keep, keep-passed, kept-ascending, kept-exactly, kept-member}
 use Rattle.algebra.proofs.Degree.{monic-list}
 use Rattle.algebra.proofs.Factors.{member-root, monic-roots, root-member, roots-at-most}
 use Rattle.algebra.proofs.Quadratics.{quadratic-root}
@@ -140,6 +141,13 @@ module _ {G : Ops ℕ} {q : ℕ} (N : OnNumbers G q) where
   -- and so any other but 0
   pub rootsOf-degree : (f : List ℕ) {s : List ℕ} → Below q f → norm G (length f) f ≡ some s → length (rootsOf G q f) ≤ length s
   rootsOf-degree f {s} h e = subst (λ l. length l ≤ length s) (rootsOf-norm f h e) (rootsOf-count s (norm-made N f h e .small))
+
+  -- n ascending numbers at which a monic polynomial of degree n is 0 are all its roots
+  pub rootsOf-whole : (p s : List ℕ) → Below q p → Ascending s → All (λ x. (x < q) × (eval G (monic G p) x ≡ G .zero)) s → length p ≤ length s
+      → rootsOf G q (monic G p) ≡ s
+  rootsOf-whole p s h a z n =
+      ascending-whole s (rootsOf G q (monic G p)) a (rootsOf-ascending G q (monic G p))
+      (λ x m. rootsOf-exactly (monic G p) (monic-below N p h) x .1 (all-at (λ y. (y < q) × (eval G (monic G p) y ≡ G .zero)) s z m)) (omega (arith, rootsOf-count p h))
 
   -- ---- products over roots
 

@@ -11,6 +11,7 @@
 --   keep-passed, kept-member         what is kept passes, and was there
 --   upFrom-all, upFrom-member, upFrom-ascending, length-upFrom   of numbers in a row
 --   ascending-keep, ascending-distinct, ascending-same           of lists that ascend
+--   ascending-fewer, ascending-whole    of two lists that ascend, where one has the members of the other
 --   distinct-keep, keep-same, length-keep                        of what a test keeps of any list
 -- Assumes nothing.
 use mathlib.Core.Path.{_≡_, ap, ap₂, refl, subst, sym}
@@ -195,6 +196,36 @@ ascending-same (x ∷ s) (y ∷ l) a b h = ap₂ (λ (z : ℕ) (r : List ℕ). z
 
     left : (z : ℕ) → List·Memᴰ z l → List·Memᴰ z s
     left z m = ⊎-elim (λ e. absurd (omega (arith, all-at (λ z. y < z) l (b .0) m, same))) (λ i. i) (List·Memᴰ·cases-cons (h z .1 (List·Memᴰ·tail m)))
+
+module _ (x y : ℕ) (s l : List ℕ) (above : All (λ w. x < w) s) (within : (z : ℕ) → List·Memᴰ z (x ∷ s) → List·Memᴰ z (y ∷ l)) where
+  -- behind a first number that two lists share, the one has the members of the other
+  tail-within : x ≡ y → (z : ℕ) → List·Memᴰ z s → List·Memᴰ z l
+  tail-within e z m = ⊎-elim (λ i. absurd (omega (arith, all-at (λ w. x < w) s above m))) (λ i. i) (List·Memᴰ·cases-cons (within z (List·Memᴰ·tail m)))
+
+  -- and a lower first number is not needed
+  lower-not : y < x → (z : ℕ) → List·Memᴰ z (x ∷ s) → List·Memᴰ z l
+  lower-not o z m =
+      let no : z ≡ y → ⊥ = λ e. ⊎-elim (λ j. omega arith) (λ j. omega (arith, all-at (λ w. x < w) s above j)) (List·Memᴰ·cases-cons m) in
+      ⊎-elim (λ e. absurd (no e)) (λ j. j) (List·Memᴰ·cases-cons (within z m))
+
+-- a list that ascends is no longer than one that has its members
+pub ascending-fewer : (s l : List ℕ) → Ascending s → Ascending l → ((x : ℕ) → List·Memᴰ x s → List·Memᴰ x l) → length s ≤ length l
+ascending-fewer [] l a b h = omega arith
+ascending-fewer (x ∷ s) [] a b h = absurd (List·Memᴰ·not-nil (h x (List·Memᴰ·head refl)))
+ascending-fewer (x ∷ s) (y ∷ l) a b h =
+    ⊎-elim (λ e. omega (arith, ascending-fewer s l (a .1) (b .1) (tail-within x y s l (a .0) h e)))
+    (λ i. omega (arith, ascending-fewer (x ∷ s) l a (b .1) (lower-not x y s l (a .0) h (all-at (λ w. y < w) l (b .0) i))))
+    (List·Memᴰ·cases-cons (h x (List·Memᴰ·head refl)))
+
+-- and where it is as long, it is that list
+pub ascending-whole : (s l : List ℕ) → Ascending s → Ascending l → ((x : ℕ) → List·Memᴰ x s → List·Memᴰ x l) → length l ≤ length s → l ≡ s
+ascending-whole [] [] a b h n = refl
+ascending-whole [] (y ∷ l) a b h n = absurd (omega arith)
+ascending-whole (x ∷ s) [] a b h n = absurd (List·Memᴰ·not-nil (h x (List·Memᴰ·head refl)))
+ascending-whole (x ∷ s) (y ∷ l) a b h n =
+    ⊎-elim (λ e. ap₂ (λ (z : ℕ) (r : List ℕ). z ∷ r) (sym e) (ascending-whole s l (a .1) (b .1) (tail-within x y s l (a .0) h e) (omega arith)))
+    (λ i. absurd (omega (arith, ascending-fewer (x ∷ s) l a (b .1) (lower-not x y s l (a .0) h (all-at (λ w. y < w) l (b .0) i)))))
+    (List·Memᴰ·cases-cons (h x (List·Memᴰ·head refl)))
 
 -- ---- the numbers below n that pass a test
 

@@ -1,2 +1,3 @@
 pub mod Roots
 pub mod Parting
+pub mod Guessing

@@ -1,5 +1,5 @@
-// Degree 3: the part of a cubic that splits, and its parting by the traces Tr(2^i z), i = 0, 1, .. , into degrees 1
-// and 2.
+// Degree 3 by traces: the part of a cubic that splits, and its parting by the traces Tr(2^i z), i = 0, 1, .. , into
+// degrees 1 and 2.
 ghost use Prim.Native.Nat.{_<_, _^_};
 ghost use lib.ListN.{length};
 ghost use Rattle.algebra.specs.Polynomial.{fieldPoly, traceOf};
