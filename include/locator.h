@@ -13,8 +13,8 @@
 
    OUTCOMES. 0: accepted. Any other is the number under which the input was turned away:
        1  there is no field of degree m          6  the cutoff is above 3
-       2  there are no coefficients              7  the root list has under 32 slots (of an affine
-                                                    polynomial under 2^m), or the table has not 100
+       2  there are no coefficients              7  a list has under 32 slots (of an affine polynomial's
+                                                    roots under 2^m), or the table has not 100
        3  there are more than 33 coefficients    8  the table is not sound
        4  an element or a coefficient            9  the table cannot be stepped: the first factor above the cutoff
           is 2^m or more                            has level m, or the steps are at their limit
@@ -43,7 +43,7 @@
 extern "C" {
 #endif
 
-/* The slots of a work table; the fewest slots of a root list; the most coefficients; slots that are enough for the roots
+/* The slots of a work table; the fewest slots of a list of roots or multiplicities; the most coefficients; slots that are enough for the roots
    of an affine polynomial in any field; the bytes of a block corrector's word. */
 #define LOCATOR_SLOTS 100
 #define LOCATOR_ROOTS 32
@@ -63,8 +63,9 @@ extern "C" {
 /* What an element call gives: the value, 0 where refused. */
 typedef struct { uint16_t outcome, value; } locator_value;
 
-/* What the quadratic gives: count is 0, 1 or 2. lower is the first root, upper the second; each is 0 where there is none. */
-typedef struct { uint16_t outcome, count, lower, upper; } locator_pair;
+/* What the quadratic gives: count is 0, 1 or 2. lower is the first root, upper the second; each is 0 where there is none. doubled is 1 where
+   there is one root, which is then double, else 0. */
+typedef struct { uint16_t outcome, count, lower, upper, doubled; } locator_pair;
 
 /* What was found: the number of roots and of steps. steps is 0 where the call takes none. */
 typedef struct { uint16_t outcome, count, steps; } locator_found;
@@ -89,22 +90,25 @@ locator_value locator_inverse(uint16_t m, uint16_t a);
    locator_solve). Outcomes 0, 1, 4, 13, 21, in the order 1, 21, 4, 13. Writes nothing. */
 locator_value locator_position(uint16_t m, uint16_t r, uint16_t convention);
 
-/* The distinct roots of z^2 + a z + b, the lower number first. "No root" is outcome 0 with count 0. Outcomes 0, 1, 4, in the order 1, 4.
-   Writes nothing. */
+/* The distinct roots of z^2 + a z + b, the lower number first. "No root" is outcome 0 with count 0; where a is 0 there is one root, double.
+   Outcomes 0, 1, 4, in the order 1, 4. Writes nothing. */
 locator_pair locator_quadratic(uint16_t m, uint16_t a, uint16_t b);
 
 /* The whole call: all distinct roots of the polynomial, by splitting it along the trace. The roots fill the front of the list, ascending; the slots
-   behind the last root are not written. count is their number, steps that of the splitting steps at this cutoff.
+   behind the last root are not written. The multiplicity of each root stands at the same place of the second list, mults: the largest e for which
+   (z + r)^e divides the polynomial, from 1 to 32; the slots behind are not written. count is the number of distinct roots, steps that of the
+   splitting steps at this cutoff.
    A decoder must compare count with the degree of its locator, where zeros at the top do not count. A polynomial is, up
    to a constant factor, the locator of a set of places exactly if it has as many distinct roots as its degree, none of
    them 0. Where count is less, the word has more bad bits than its code corrects, and the places of the roots that
    there are mean nothing: the word is not to be corrected by them (examples/c/recorder.c).
-   Outcomes 0 and 1 to 7, in ascending order; 7 where room is under 32. */
-locator_found locator_solve(uint16_t m, const uint16_t *coeffs, size_t n, uint16_t cutoff, uint16_t *roots, size_t room);
+   Outcomes 0 and 1 to 7, in ascending order; 7 where room is under 32, and then where mult_room is. */
+locator_found locator_solve(uint16_t m, const uint16_t *coeffs, size_t n, uint16_t cutoff, uint16_t *roots, size_t room, uint16_t *mults,
+                            size_t mult_room);
 
-/* The plain search: the same roots in the same way, by trying every element. steps is 0.
-   Outcomes 0, 1 to 5 and 7, in ascending order; 7 where room is under 32. */
-locator_found locator_search(uint16_t m, const uint16_t *coeffs, size_t n, uint16_t *roots, size_t room);
+/* The plain search: the same two lists in the same way, the roots by trying every element. steps is 0.
+   Outcomes 0, 1 to 5 and 7, in ascending order; 7 where room is under 32, and then where mult_room is. */
+locator_found locator_search(uint16_t m, const uint16_t *coeffs, size_t n, uint16_t *roots, size_t room, uint16_t *mults, size_t mult_room);
 
 /* The roots of an affine polynomial: constant + coeffs[0] z + coeffs[1] z^2 + coeffs[2] z^4 + .. + coeffs[m - 1] z^(2^(m-1)), by elimination on m rows
    of m + 1 bits; no element is tried, whatever the degree, up to 1024. It has no root, or its roots are one of them plus each element of a space over two

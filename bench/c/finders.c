@@ -21,7 +21,7 @@ enum { LISTS = 64, MOST = LOCATOR_COEFFICIENTS, CHUNK = 8, SLOTS = 80 };
 /* ---- the proved calls ---- */
 
 struct job {
-    uint16_t m, n, coeffs[MOST], found[MOST];
+    uint16_t m, n, coeffs[MOST], found[MOST], mults[MOST];
     size_t count;
 };
 
@@ -51,7 +51,7 @@ static size_t job_roots(void *of, uint16_t *list)
 
 static void solve_at(struct job *job, uint16_t cutoff)
 {
-    job->count = locator_solve(job->m, job->coeffs, job->n, cutoff, job->found, MOST).count;
+    job->count = locator_solve(job->m, job->coeffs, job->n, cutoff, job->found, MOST, job->mults, MOST).count;
 }
 
 static void solve_1(void *job) { solve_at(job, 1); }
@@ -61,7 +61,7 @@ static void solve_3(void *job) { solve_at(job, 3); }
 static void search(void *of)
 {
     struct job *job = of;
-    job->count = locator_search(job->m, job->coeffs, job->n, job->found, MOST).count;
+    job->count = locator_search(job->m, job->coeffs, job->n, job->found, MOST, job->mults, MOST).count;
 }
 
 /* ---- Chien search: at the i-th power of a the term of degree j is the antilog of log c_j + i j. The steps stand in a loop of their own

@@ -7,14 +7,25 @@
 /* The line of a whole call: outcome, and where it is 0 the number of roots, of steps, and the roots. */
 static void solve(const char *what, uint16_t m, const uint16_t *coeffs, size_t n, uint16_t cutoff)
 {
-    uint16_t roots[LOCATOR_ROOTS];
-    locator_found found = locator_solve(m, coeffs, n, cutoff, roots, LOCATOR_ROOTS);
+    uint16_t roots[LOCATOR_ROOTS], mults[LOCATOR_ROOTS];
+    locator_found found = locator_solve(m, coeffs, n, cutoff, roots, LOCATOR_ROOTS, mults, LOCATOR_ROOTS);
     printf("%s: %u", what, found.outcome);
     if (found.outcome == 0) {
         printf(" %u %u", found.count, found.steps);
         for (size_t i = 0; i < found.count; i++)
             printf(" %u", roots[i]);
     }
+    printf("\n");
+}
+
+/* The roots, each with its multiplicity. */
+static void repeated(const char *what, uint16_t m, const uint16_t *coeffs, size_t n)
+{
+    uint16_t roots[LOCATOR_ROOTS], mults[LOCATOR_ROOTS];
+    locator_found found = locator_solve(m, coeffs, n, 0, roots, LOCATOR_ROOTS, mults, LOCATOR_ROOTS);
+    printf("%s:", what);
+    for (size_t i = 0; i < found.count; i++)
+        printf(" %u times %u", roots[i], mults[i]);
     printf("\n");
 }
 
@@ -52,16 +63,20 @@ static void split(uint16_t m, const uint16_t *coeffs, size_t n, uint16_t cutoff)
 int main(void)
 {
     static const uint16_t cubic[] = {6, 7, 0, 1}, unity[] = {1, 0, 0, 1}, zeros[] = {0, 0}, large[] = {16, 1};
-    uint16_t all[17] = {0, 1}, roots[LOCATOR_ROOTS];
+    static const uint16_t powers[] = {0, 0, 15, 5, 3, 1};
+    uint16_t all[17] = {0, 1}, roots[LOCATOR_ROOTS], mults[LOCATOR_ROOTS];
     all[16] = 1;
     solve("z^3+7z+6", 4, cubic, 4, 1);
     solve("z^3+1", 4, unity, 4, 0);
     solve("z^16+z", 4, all, 17, 0);
     split(4, cubic, 4, 1);
-    locator_found seen = locator_search(4, unity, 4, roots, LOCATOR_ROOTS);
+    repeated("z^2 (z+3)^3", 4, powers, 6);
+    locator_found seen = locator_search(4, unity, 4, roots, LOCATOR_ROOTS, mults, LOCATOR_ROOTS);
     printf("searched: %u %u %u %u %u\n", seen.outcome, seen.count, roots[0], roots[1], roots[2]);
     locator_pair pair = locator_quadratic(4, 1, 6);
     printf("z^2+z+6: %u %u %u %u\n", pair.outcome, pair.count, pair.lower, pair.upper);
+    pair = locator_quadratic(4, 0, 2);
+    printf("z^2+2: %u %u %u%s\n", pair.outcome, pair.count, pair.lower, pair.doubled ? " double" : "");
     printf("places of 3: Goppa %u recorders %u\n", locator_position(4, 3, LOCATOR_GOPPA).value,
            locator_position(4, 3, LOCATOR_RECORDERS).value);
     solve("field 5", 5, cubic, 4, 1);
@@ -69,7 +84,7 @@ int main(void)
     solve("zeros", 4, zeros, 2, 1);
     solve("16 in field 4", 4, large, 2, 1);
     solve("cutoff 4", 4, cubic, 4, 4);
-    printf("31 slots: %u\n", locator_solve(4, cubic, 4, 1, roots, LOCATOR_ROOTS - 1).outcome);
+    printf("31 slots: %u\n", locator_solve(4, cubic, 4, 1, roots, LOCATOR_ROOTS, mults, LOCATOR_ROOTS - 1).outcome);
     printf("inverse of 0: %u\n", locator_inverse(4, 0).outcome);
     return 0;
 }

@@ -11,6 +11,11 @@ static void print_slots(list l)
     printf(" |");
     for (size_t i = 0; i < l.n; i++)
         printf(" %u", l.at[i]);
+}
+
+static void print_last(list l)
+{
+    print_slots(l);
     putchar('\n');
 }
 
@@ -35,6 +40,15 @@ static void print_found(int op, locator_found f, list roots)
     print_slots(roots);
 }
 
+/* of the whole call and the search: the multiplicities behind the roots */
+static void print_both(int op, locator_found f, list roots, list mults)
+{
+    if (f.outcome != 0)
+        refused(0, mults);
+    print_found(op, f, roots);
+    print_last(mults);
+}
+
 static void run_step(void)
 {
     list table = lend(number());
@@ -46,7 +60,7 @@ static void run_step(void)
         printf("%d done", STEP);
     else
         printf("%d %u", STEP, s.outcome);
-    print_slots(table);
+    print_last(table);
     end(table);
 }
 
@@ -55,29 +69,38 @@ static void run_finish(void)
     size_t slots = number(), room = number();
     list table = lend(slots), roots = lend(room);
     print_found(FINISH, locator_finish(LENT(table), LENT(roots)), roots);
+    putchar('\n');
     end_read(table);
     end(roots);
 }
 
-/* begin, the whole call and the search: all take a polynomial */
-static void run_polynomial(int op)
+static void run_begin(void)
+{
+    uint16_t m = number(), cutoff = number();
+    size_t n = number(), slots = number();
+    list coeffs = lend(n), table = lend(slots);
+    uint16_t outcome = locator_begin(m, LENT(coeffs), cutoff, LENT(table));
+    if (outcome != 0)
+        refused(0, table);
+    printf("%d %u", BEGIN, outcome);
+    print_last(table);
+    end_read(coeffs);
+    end(table);
+}
+
+/* the whole call and the search */
+static void run_engine(int op)
 {
     uint16_t m = number(), cutoff = op == SEARCH ? 0 : number();
-    size_t n = number(), room = number();
-    list coeffs = lend(n), to = lend(room);
+    size_t n = number(), room = number(), mult_room = number();
+    list coeffs = lend(n), roots = lend(room), mults = lend(mult_room);
     if (op == WHOLE)
-        print_found(op, locator_solve(m, LENT(coeffs), cutoff, LENT(to)), to);
-    else if (op == SEARCH)
-        print_found(op, locator_search(m, LENT(coeffs), LENT(to)), to);
-    else {
-        uint16_t outcome = locator_begin(m, LENT(coeffs), cutoff, LENT(to));
-        if (outcome != 0)
-            refused(0, to);
-        printf("%d %u", op, outcome);
-        print_slots(to);
-    }
+        print_both(op, locator_solve(m, LENT(coeffs), cutoff, LENT(roots), LENT(mults)), roots, mults);
+    else
+        print_both(op, locator_search(m, LENT(coeffs), LENT(roots), LENT(mults)), roots, mults);
     end_read(coeffs);
-    end(to);
+    end(roots);
+    end(mults);
 }
 
 static void tables(void)
@@ -87,8 +110,10 @@ static void tables(void)
             run_step();
         else if (op == FINISH)
             run_finish();
+        else if (op == BEGIN)
+            run_begin();
         else
-            run_polynomial(op);
+            run_engine(op);
     }
 }
 
@@ -106,12 +131,13 @@ static void print_pair(locator_pair p)
 {
     expect((p.count > 1 || p.upper == 0) && (p.count > 0 || p.lower == 0), "a root that is not there");
     expect(p.outcome == 0 || p.count == 0, "a refusal with a value");
+    expect(p.doubled == (p.count == 1), "doubled where there is not one root");
     if (p.outcome != 0)
         printf(" | %u\n", p.outcome);
     else if (p.count == 0)
         printf(" | 0 0\n");
     else if (p.count == 1)
-        printf(" | 0 1 %u\n", p.lower);
+        printf(" | 0 1 %u double\n", p.lower);
     else
         printf(" | 0 %u %u %u\n", p.count, p.lower, p.upper);
 }
@@ -139,7 +165,7 @@ static void print_space(locator_space s, list roots)
         expect(unchanged(roots), "no root, and a write");
     } else
         printf("0 %u %u", s.count, s.dimension);
-    print_slots(roots);
+    print_last(roots);
 }
 
 static void affine(void)

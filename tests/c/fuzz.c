@@ -1,6 +1,6 @@
 /* A libFuzzer target over the C face: arbitrary field degrees, elements, coefficients, affine polynomials, cutoffs, tables, words and lengths. Each list that is lent stands against
    a page that cannot be touched, before it or behind it, with guards on its other side. What the calls give is compared with short functions of its own:
-   the refusals and their order, soundness, products, values; a refusal writes nothing; begin, steps and finish give what the whole call and the search give;
+   the refusals and their order, soundness, products, values; a refusal writes nothing; begin, steps and finish give the roots of the whole call and of the search;
    an affine polynomial has the roots that its values say; planted errors come back, and what the corrector accepts is a codeword.
    tests/fuzz builds and runs it. */
 #define _GNU_SOURCE
@@ -16,7 +16,7 @@ static const char *const name[CALLS] = {"product", "inverse", "position", "quadr
 
 typedef struct { uint16_t *at, *low; size_t n; uint16_t was[LONGEST]; } list;
 
-static list coefficients, table, roots;
+static list coefficients, table, roots, mults;
 
 /* n slots of a list, against the page behind it or before it */
 static void lend(list *l, size_t n, const uint16_t *from, int front)
@@ -94,6 +94,7 @@ static void elements(void)
     uint16_t f[3] = {b, a, 1};
     expect(q.count <= 2 && (both == 0 || q.count == 0), "another number of roots");
     expect(q.count > 0 ? value_at(m, f, 3, q.lower) == 0 : q.lower == 0, "no root of the quadratic");
+    expect(q.doubled == (both == 0 && a == 0) && (q.doubled == 0 || q.count == 1), "double where a is not 0, or not where it is");
     expect(q.count > 1 ? q.upper > q.lower && value_at(m, f, 3, q.upper) == 0 : q.upper == 0, "no second root of the quadratic");
     note(PRODUCT, p.outcome, m);
     note(INVERSE, i.outcome, m);
@@ -140,24 +141,40 @@ static void step_out(unsigned m, unsigned steps)
 }
 
 /* what is lent for a polynomial, and the refusal that it must meet before the sizes of lists are looked at, with the cutoff and without */
-typedef struct { uint16_t m, cutoff, f[MOST], old[MOST]; size_t n, room, slots; int front; unsigned out, searched; } job;
+typedef struct { uint16_t m, cutoff, f[MOST], old[MOST]; size_t n, room, mult_room, slots; int front; unsigned out, searched; } job;
+
+/* both lists are lent for an engine */
+static void lend_both(const job *j, int front)
+{
+    lend(&roots, j->room, j->old, front);
+    lend(&mults, j->mult_room, j->old, !front);
+}
+
+/* what an engine found: roots, and beside each how often it divides; the rest of both lists as it was */
+static void check_both(const job *j, locator_found found)
+{
+    check_roots(j->m & 15, found);
+    for (size_t i = 0; i < found.count; i++)
+        expect(mults.at[i] > 0 && mults.at[i] == multiplicity(j->m, j->f, j->n, roots.at[i]), "another multiplicity");
+    kept_from(&mults, found.count);
+}
 
 /* the whole call, and the search beside it. The roots are put where they can be compared */
 static locator_found engines(const job *j, uint16_t *found)
 {
-    lend(&roots, j->room, j->old, !j->front);
-    locator_found a = locator_solve(j->m, j->n == 0 && j->front ? NULL : coefficients.at, j->n, j->cutoff, j->room == 0 ? NULL : roots.at, j->room);
+    int full = j->room >= 32 && j->mult_room >= 32;
+    lend_both(j, !j->front);
+    locator_found a = locator_solve(j->m, j->n == 0 && j->front ? NULL : coefficients.at, j->n, j->cutoff, j->room == 0 ? NULL : roots.at, j->room,
+                                    j->mult_room == 0 ? NULL : mults.at, j->mult_room);
     note(SOLVE, a.outcome, a.count + a.steps / 8 * 33);
-    expect(a.outcome == (j->out ? j->out : j->room < 32 ? 7 : 0), "another outcome of the whole call");
-    check_roots(j->m & 15, a);
-    for (size_t i = 0; i < a.count; i++)
-        expect(value_at(j->m, j->f, j->n, roots.at[i]) == 0, "a number that is no root");
+    expect(a.outcome == (j->out ? j->out : full ? 0 : 7), "another outcome of the whole call");
+    check_both(j, a);
     memcpy(found, roots.at, a.count * sizeof *found);
-    lend(&roots, j->room, j->old, j->front);
-    locator_found b = locator_search(j->m, coefficients.at, j->n, roots.at, j->room);
+    lend_both(j, j->front);
+    locator_found b = locator_search(j->m, coefficients.at, j->n, roots.at, j->room, mults.at, j->mult_room);
     note(SEARCH, b.outcome, b.count);
-    expect(b.outcome == (j->searched ? j->searched : j->room < 32 ? 7 : 0) && b.steps == 0, "another outcome of the search");
-    check_roots(j->m & 15, b);
+    expect(b.outcome == (j->searched ? j->searched : full ? 0 : 7) && b.steps == 0, "another outcome of the search");
+    check_both(j, b);
     if (a.outcome == 0)
         expect(a.count == b.count && memcmp(found, roots.at, a.count * sizeof *found) == 0, "the whole call and the search differ");
     return a;
@@ -191,6 +208,7 @@ static void polynomials(void)
     j.cutoff = (uint16_t)(byte() % 8 == 7 ? word() : byte() % 5);
     j.n = polynomial(j.m, j.f, MOST);
     j.room = length(32);
+    j.mult_room = length(32);
     j.slots = length(100);
     j.front = byte() % 2;
     j.out = refusal(j.m, j.f, j.n, j.cutoff);

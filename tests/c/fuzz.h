@@ -70,7 +70,8 @@ static uint16_t element(unsigned m, unsigned loose)
     return (uint16_t)(known(m) && !loose ? x % (1u << m) : x);
 }
 
-/* n coefficients, mostly below 36 and always below most: any, or the product of z + r over numbers r, times z^k */
+/* n coefficients, mostly below 36 and always below most: any, or the product of z + r over numbers r, often the
+   same again, times z^k */
 static size_t polynomial(unsigned m, uint16_t *f, size_t most)
 {
     unsigned kind = byte();
@@ -82,8 +83,9 @@ static size_t polynomial(unsigned m, uint16_t *f, size_t most)
     }
     memset(f, 0, n * sizeof *f);
     f[0] = 1;
+    uint16_t r = 0;
     for (size_t d = 1; d < n; d++) {
-        uint16_t r = element(m, 0);
+        r = kind % 4 == 3 && byte() % 2 ? r : element(m, 0);
         for (size_t i = d; i > 0; i--)
             f[i] = (uint16_t)(f[i - 1] ^ times(m, f[i], r));
         f[0] = (uint16_t)times(m, f[0], r);

@@ -76,7 +76,7 @@ static void check_space(unsigned m, const uint16_t *f, unsigned constant, locato
 /* the whole call finds the same where the degree is within its limit and the polynomial is not zero */
 static void check_whole(unsigned m, const uint16_t *f, unsigned constant, locator_space s)
 {
-    uint16_t dense[DEGREE + 1] = {(uint16_t)constant}, found[DEGREE];
+    uint16_t dense[DEGREE + 1] = {(uint16_t)constant}, found[DEGREE], often[DEGREE];
     unsigned any = constant;
     for (unsigned i = 0; i < m; i++) {
         if (f[i] != 0 && 1u << i > DEGREE)
@@ -87,7 +87,7 @@ static void check_whole(unsigned m, const uint16_t *f, unsigned constant, locato
     }
     if (any == 0)
         return;
-    locator_found whole = locator_solve((uint16_t)m, dense, DEGREE + 1, 0, found, DEGREE);
+    locator_found whole = locator_solve((uint16_t)m, dense, DEGREE + 1, 2, found, DEGREE, often, DEGREE);
     expect(whole.outcome == 0 && whole.count == s.count && memcmp(found, roots.at, s.count * sizeof *found) == 0, "the whole call finds other roots");
 }
 

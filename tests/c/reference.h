@@ -1,9 +1,10 @@
 /* The rules of docs/RULES.md sections 1 to 6 in plain C, for the fuzz targets: the fields by shift and add,
-   places by trial, refusals 1 to 6, roots by evaluation at every element, steps by counting groups. Nothing here is the
-   product's. */
+   places by trial, refusals 1 to 6, roots by evaluation at every element, multiplicities by division, steps by counting
+   groups. Nothing here is the product's. */
 #include <stddef.h>
 #include <stdint.h>
 #include <stdlib.h>
+#include <string.h>
 
 enum { DEGREE = 32, ELEMENTS = 2048 };
 
@@ -45,6 +46,23 @@ static inline unsigned value_at(unsigned m, const uint16_t *f, size_t n, unsigne
     while (n-- > 0)
         v = times(m, v, x) ^ f[n];
     return v;
+}
+
+/* how often f, n coefficients that are not all 0, can be divided by z + r: Horner's values are the quotient's coefficients */
+static inline unsigned multiplicity(unsigned m, const uint16_t *f, size_t n, unsigned r)
+{
+    uint16_t g[DEGREE + 1];
+    unsigned e = 0;
+    memcpy(g, f, n * sizeof *g);
+    for (; value_at(m, g, n, r) == 0; e++) {
+        unsigned v = 0;
+        for (size_t i = n--; i-- > 0;) {
+            unsigned c = g[i];
+            g[i] = (uint16_t)v;
+            v = times(m, v, r) ^ c;
+        }
+    }
+    return e;
 }
 
 /* refusals 1 to 6 in their order, 6 where it is asked for */

@@ -116,7 +116,8 @@ def numbers(call, answer):
     if outcome == reference.NONE:
         return 0, 0
     if outcome == 0:
-        return (0, len(values)) + values
+        doubled = ("double",) if [e for _, e in values] == [2] else ()
+        return (0, len(values)) + tuple(r for r, _ in values) + doubled
     return (outcome,)
 
 

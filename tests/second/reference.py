@@ -3,7 +3,8 @@
 Every call returns (outcome, values, memory): the outcome is 0 or a refusal's
 number, or one of the words DONE, NONE, END, which have no number; the values
 are a tuple; the memory is the lent list or table as it stands afterwards
-(() where none is lent). Lent memory that comes in is never changed in place.
+(() where none is lent; a pair where two lists are lent). Lent memory that
+comes in is never changed in place.
 """
 
 import functools
@@ -70,7 +71,7 @@ def quadratic(m, a, b):
     roots = field.quadratic(m, a, b)
     if not roots:
         return NONE, (), ()
-    return 0, tuple(roots), ()
+    return 0, tuple((r, multiplicity(m, [b, a, 1], r)) for r in roots), ()
 
 
 # Polynomials over the field: lists, constant first, the last entry not 0;
@@ -197,6 +198,16 @@ def _zeros(m, f):
     return found
 
 
+def multiplicity(m, f, r):
+    """How often f, which is not zero, can be divided by z + r."""
+    times = 0
+    quotient, rest = divide(m, f, [r, 1])
+    while not rest:
+        times += 1
+        quotient, rest = divide(m, quotient, [r, 1])
+    return times
+
+
 def from_roots(m, roots):
     """The product of (z + r)."""
     f = [1]
@@ -259,27 +270,34 @@ def fill(roots, lent):
     return tuple(roots) + tuple(lent[len(roots):])
 
 
-def whole(m, coefficients, cutoff, lent):
-    lent = tuple(lent)
-    refusal = refused_polynomial(m, coefficients, cutoff)
+def fill_both(m, coefficients, roots, memory):
+    """Both lent lists: the roots, and beside each its multiplicity."""
+    lent, mults = memory
+    return fill(roots, lent), fill([multiplicity(m, coefficients, r) for r in roots], mults)
+
+
+def refused_lists(memory):
+    """7, for the root list and then for the list of multiplicities."""
+    return 7 if any(len(lent) < MOST_ROOTS for lent in memory) else 0
+
+
+def whole(m, coefficients, cutoff, lent, mults):
+    memory = tuple(lent), tuple(mults)
+    refusal = refused_polynomial(m, coefficients, cutoff) or refused_lists(memory)
     if refusal:
-        return refusal, (), lent
-    if len(lent) < MOST_ROOTS:
-        return 7, (), lent
+        return refusal, (), memory
     roots = zeros(m, coefficients)
     steps = count_steps(m, roots, in_force(cutoff))
-    return 0, (len(roots), steps), fill(roots, lent)
+    return 0, (len(roots), steps), fill_both(m, coefficients, roots, memory)
 
 
-def search(m, coefficients, lent):
-    lent = tuple(lent)
-    refusal = refused_polynomial(m, coefficients, 0)
+def search(m, coefficients, lent, mults):
+    memory = tuple(lent), tuple(mults)
+    refusal = refused_polynomial(m, coefficients, 0) or refused_lists(memory)
     if refusal:
-        return refusal, (), lent
-    if len(lent) < MOST_ROOTS:
-        return 7, (), lent
+        return refusal, (), memory
     roots = zeros(m, coefficients)
-    return 0, (len(roots),), fill(roots, lent)
+    return 0, (len(roots),), fill_both(m, coefficients, roots, memory)
 
 
 # Affine polynomials: 1, 20, 4, 7. Coefficient i belongs to z^(2^i).
@@ -507,7 +525,7 @@ def roots_lines(data):
         m, stated, start, length, _ = values
         cutoff = 0 if stated == HOUSE else stated
         coefficients = coefficients_of(data[start:start + length])
-        outcome, found, memory = whole(m, coefficients, cutoff, [0] * MOST_ROOTS)
+        outcome, found, (memory, _) = whole(m, coefficients, cutoff, *[[0] * MOST_ROOTS] * 2)
         if outcome != 0:
             raise ValueError("the reader let a refused record through")
         s, steps = found

@@ -119,16 +119,16 @@ def check_elements():
     check("element refusals", R.inverse(4, 0)[0] == 13)
     check("element refusals", R.quadratic(11, 0, 2048)[0] == 4 and R.quadratic(12, 0, 0)[0] == 1)
     check("element answers", R.quadratic(4, 1, 8) == (R.NONE, (), ()))
-    check("element answers", R.quadratic(4, 1, 6) == (0, (2, 3), ()))
-    check("element answers", R.quadratic(4, 0, 2) == (0, (5,), ()))
-    check("element answers", R.quadratic(4, 1, 0) == (0, (0, 1), ()))
+    check("element answers", R.quadratic(4, 1, 6) == (0, ((2, 1), (3, 1)), ()))
+    check("element answers", R.quadratic(4, 0, 2) == (0, ((5, 2),), ()))
+    check("element answers", R.quadratic(4, 1, 0) == (0, ((0, 1), (1, 1)), ()))
     for convention, place in ((0, 4), (1, 11)):
         check("element answers", R.position(4, 3, convention) == (0, (place,), ()))
         check("element answers", R.position(4, 1, convention) == (0, (0,), ()))
     check("element lines", elements.line(4, 3, 2, 0) == "4 3 2 0 | 0 6 | 0 14 | 0 4 | 0 2 1 2")
     check("element lines", elements.line(4, 3, 2, 1) == "4 3 2 1 | 0 6 | 0 14 | 0 11 | 0 2 1 2")
     check("element lines", elements.line(4, 1, 8, 1) == "4 1 8 1 | 0 8 | 0 1 | 0 0 | 0 0")
-    check("element lines", elements.line(4, 0, 2, 1) == "4 0 2 1 | 0 0 | 13 | 13 | 0 1 5")
+    check("element lines", elements.line(4, 0, 2, 1) == "4 0 2 1 | 0 0 | 13 | 13 | 0 1 5 double")
     check("element lines", elements.line(4, 1, 16, 0) == "4 1 16 0 | 4 | 0 1 | 0 0 | 4")
     check("element lines", elements.line(4, 16, 1, 256) == "4 16 1 256 | 4 | 4 | 21 | 4")
     check("element lines", elements.line(260, 1, 1, 2) == "260 1 1 2 | 1 | 1 | 1 | 1")
@@ -159,11 +159,11 @@ def check_figures():
     name = "bench figures"
 
     def figure(m, f, cutoff, roots, steps):
-        lent = stale(35)
-        outcome, values, memory = R.whole(m, f, cutoff, lent)
+        lent, mults = stale(35), stale(34)
+        outcome, values, memory = R.whole(m, f, cutoff, lent, mults)
         expected = tuple(roots) + lent[len(roots):]
-        check(name, (outcome, values, memory) == (0, (len(roots), steps), expected), m, f, cutoff)
-        check(name, R.search(m, f, lent) == (0, (len(roots),), expected), m, f)
+        check(name, (outcome, values, memory[0]) == (0, (len(roots), steps), expected), m, f, cutoff)
+        check(name, R.search(m, f, lent, mults) == (0, (len(roots),), memory), m, f)
         check(name, run(m, f, cutoff)[:2] == (roots, steps), m, f, cutoff)
 
     for cutoff, steps in ((1, 4), (2, 3), (3, 0), (0, 3)):
@@ -186,15 +186,17 @@ def check_figures():
     figure(11, [0, 1, 1, 0], 1, [0, 1], 1)
     lent = stale(32)
     for f, cutoff, number in (([0, 0], 1, 5), ([16, 1], 1, 4), ([3, 2], 4, 6)):
-        check(name, R.whole(4, f, cutoff, lent) == (number, (), lent))
+        check(name, R.whole(4, f, cutoff, lent, lent) == (number, (), (lent, lent)))
         check(name, R.begin(4, f, cutoff, stale(100)) == (number, (), stale(100)))
-    check(name, R.whole(4, [3, 2], 3, lent)[0] == 0)
-    check(name, R.search(4, [0, 0], lent) == (5, (), lent) and R.search(4, [16, 1], lent) == (4, (), lent))
-    for call in (lambda f: R.whole(4, f, 0, lent)[0], lambda f: R.search(4, f, lent)[0],
+    check(name, R.whole(4, [3, 2], 3, lent, lent)[0] == 0)
+    for f, number in (([0, 0], 5), ([16, 1], 4)):
+        check(name, R.search(4, f, lent, lent) == (number, (), (lent, lent)))
+    for call in (lambda f: R.whole(4, f, 0, lent, lent)[0], lambda f: R.search(4, f, lent, lent)[0],
                  lambda f: R.begin(4, f, 0, stale(100))[0]):
         check(name, call([1] * 33) == 0 and call([1] * 34) == 3 and call([1] * 33 + [0]) == 3 and call([]) == 2)
-    check(name, R.whole(4, [3, 2], 0, stale(31)) == (7, (), stale(31)))
-    check(name, R.search(4, [3, 2], stale(31)) == (7, (), stale(31)))
+    for memory in ((stale(31), stale(32)), (stale(32), stale(31)), (stale(31), stale(31))):
+        check(name, R.whole(4, [3, 2], 0, *memory) == (7, (), memory))
+        check(name, R.search(4, [3, 2], *memory) == (7, (), memory))
     done = run(4, [6, 7, 0, 1], 1)[2][-1]
     check(name, R.finish(done, stale(32))[0] == 0 and R.finish(done, stale(31)) == (7, (), stale(31)))
     for table in (done[:99], done + (0,), ()):
@@ -220,7 +222,7 @@ def check_orders(rng, count):
         if f and rng.randrange(8) == 0:
             f[rng.randrange(n)] = 65535
         cutoff = rng.choice((0, 1, 2, 3, 4, 65535))
-        room = rng.choice((0, 31, 32, 33))
+        room, mult_room = rng.choice((0, 31, 32, 33)), rng.choice((0, 31, 32, 33))
         slots = rng.choice((0, 99, 100, 100, 101))
         applies = {
             1: q is None,
@@ -229,12 +231,12 @@ def check_orders(rng, count):
             4: q is not None and any(c >= q for c in f),
             5: n > 0 and sum(f) == 0,
             6: cutoff > 3,
-            7: room < 32,
+            7: room < 32 or mult_room < 32,
         }
         first = min([no for no in applies if applies[no]], default=0)
-        check("order of refusals", R.whole(m, f, cutoff, stale(room))[0] == first, m, f, cutoff, room)
+        check("order of refusals", R.whole(m, f, cutoff, stale(room), stale(mult_room))[0] == first, m, f, cutoff, room)
         first = min([no for no in applies if applies[no] and no != 6], default=0)
-        check("order of refusals", R.search(m, f, stale(room))[0] == first, m, f, room)
+        check("order of refusals", R.search(m, f, stale(room), stale(mult_room))[0] == first, m, f, room)
         applies[7] = slots != 100
         first = min([no for no in applies if applies[no]], default=0)
         check("order of refusals", R.begin(m, f, cutoff, stale(slots))[0] == first, m, f, cutoff, slots)
@@ -413,18 +415,27 @@ def check_begun(m, roots, c, passed):
         check("factors ascend by trace bits", prefixes == sorted(prefixes), table)
 
 
+def check_multiplicities(m, f, roots, mults):
+    """The product of (z + r)^e divides f, and the cofactor has no root."""
+    product = R.from_roots(m, [r for r, e in zip(roots, mults) for _ in range(e)])
+    cofactor, rest = R.divide(m, f, product)
+    check("multiplicities", min(mults, default=1) >= 1 and rest == [] and R.zeros(m, cofactor) == [], m, f)
+
+
 def check_whole(rng, count):
     for m in field.DEGREES:
         maker = tables.Maker(m, rng)
         for number in range(count):
-            f = maker.polynomial()
+            f = rng.choice((maker.polynomial, maker.repeated))()
             cutoff = rng.randrange(4)
             c = cutoff or 2
-            lent = stale(rng.choice((32, 33, 50)))
-            outcome, (s, steps), memory = R.whole(m, f, cutoff, lent)
+            lent, old = stale(rng.choice((32, 33, 50))), stale(rng.choice((32, 33, 50)))
+            outcome, (s, steps), (memory, mults) = R.whole(m, f, cutoff, lent, old)
             roots = list(memory[:s])
             check("whole call: the list", outcome == 0 and memory[s:] == lent[s:] and roots == sorted(set(roots)))
-            check("plain search equals the whole call", R.search(m, f, lent) == (0, (s,), memory), m, f)
+            check_multiplicities(m, f, roots, mults[:s])
+            check("multiplicities: the list", mults[s:] == old[s:])
+            check("plain search equals the whole call", R.search(m, f, lent, old) == (0, (s,), (memory, mults)), m, f)
             found, walked, passed = run(m, f, cutoff)
             check("begin, steps, finish give the same roots and steps", (found, walked) == (roots, steps), m, f, cutoff)
             check("steps by prefixes", steps_by_prefixes(m, roots, c) == steps, m, roots, c)

@@ -10,13 +10,15 @@ Numbers are 16 bits, low byte first, except the first byte of a case, the op:
     0 begin   m, cutoff, n, slots, n coefficients, the old table's slots
     1 step    slots, the slots
     2 finish  slots, room, the slots, the list's old contents
-    3 whole   m, cutoff, n, room, n coefficients, the list's old contents
-    4 search  m, n, room, n coefficients, the list's old contents
+    3 whole   m, cutoff, n, room, room of the second list, n coefficients, the
+              lists' old contents
+    4 search  m, n, room, room of the second list, n coefficients, the lists'
+              old contents
 
 A line is the op, the outcome (0, `done` or the number), for an accepted
 finish, whole call or search the number of roots, for the whole call that of
 the steps, `|`, and every slot afterwards of the table (begin and step) or of
-the list (finish, whole and search).
+the list (finish), or of both lists with `|` between (whole and search).
 """
 
 import argparse
@@ -52,14 +54,14 @@ def pack_finish(table, lent):
     return bytes((FINISH,)) + pack_numbers([len(table), len(lent)] + list(table) + list(lent))
 
 
-def pack_whole(m, coefficients, cutoff, lent):
-    head = [m, cutoff, len(coefficients), len(lent)]
-    return bytes((WHOLE,)) + pack_numbers(head + list(coefficients) + list(lent))
+def pack_whole(m, coefficients, cutoff, lent, mults):
+    head = [m, cutoff, len(coefficients), len(lent), len(mults)]
+    return bytes((WHOLE,)) + pack_numbers(head + list(coefficients) + list(lent) + list(mults))
 
 
-def pack_search(m, coefficients, lent):
-    head = [m, len(coefficients), len(lent)]
-    return bytes((SEARCH,)) + pack_numbers(head + list(coefficients) + list(lent))
+def pack_search(m, coefficients, lent, mults):
+    head = [m, len(coefficients), len(lent), len(mults)]
+    return bytes((SEARCH,)) + pack_numbers(head + list(coefficients) + list(lent) + list(mults))
 
 
 class Tape:
@@ -92,20 +94,21 @@ class Tape:
                 table = self.numbers(slots)
                 yield op, R.finish(table, self.numbers(room))
             elif op == WHOLE:
-                m, cutoff, n, room = self.numbers(4)
+                m, cutoff, n, room, mult_room = self.numbers(5)
                 coefficients = self.numbers(n)
-                yield op, R.whole(m, coefficients, cutoff, self.numbers(room))
+                yield op, R.whole(m, coefficients, cutoff, self.numbers(room), self.numbers(mult_room))
             elif op == SEARCH:
-                m, n, room = self.numbers(3)
+                m, n, room, mult_room = self.numbers(4)
                 coefficients = self.numbers(n)
-                yield op, R.search(m, coefficients, self.numbers(room))
+                yield op, R.search(m, coefficients, self.numbers(room), self.numbers(mult_room))
             else:
                 sys.exit("tables.py: unknown op %d" % op)
 
 
 def line(op, answer):
     outcome, values, memory = answer
-    words = [op, outcome] + list(values) + ["|"] + list(memory)
+    lists = memory if op in (WHOLE, SEARCH) else (memory,)
+    words = [op, outcome] + list(values) + [word for slots in lists for word in ("|", *slots)]
     return " ".join(str(x) for x in words)
 
 
@@ -140,6 +143,19 @@ class Maker:
             f = self.polynomials.any_list(1 + rng.randrange(33))
             if R.degree(f) is None:
                 f = [1]
+        f = R.scale(self.m, f, rng.choice((1, self.polynomials.nonzero())))
+        return self.polynomials.with_zeros_on_top(f, 33)
+
+    def repeated(self):
+        """Coefficients of a product of powers of z + r and of a rest, degree at most 32."""
+        rng = self.rng
+        f, left = [1], rng.choice((32, 1 + rng.randrange(32)))
+        for r in rng.sample(range(self.q), min(self.q, 1 + rng.randrange(8))):
+            e = min(left, rng.choice((1, 2, 3, 4, 8, 1 + rng.randrange(32))))
+            f = R.multiply(self.m, f, R.from_roots(self.m, [r] * e))
+            left -= e
+        if rng.randrange(2):
+            f = R.multiply(self.m, f, self.polynomials.monic_of(rng.randrange(left + 1)))
         f = R.scale(self.m, f, rng.choice((1, self.polynomials.nonzero())))
         return self.polynomials.with_zeros_on_top(f, 33)
 
@@ -307,17 +323,18 @@ class Maker:
     def wholes(self, count):
         """The whole call and the search, accepted and refused."""
         rng, m = self.rng, self.m
-        for number in range(count):
-            f = self.polynomial()
-            room = rng.choice((32, 33, 40))
-            yield pack_whole(m, f, rng.randrange(4), self.noise(room))
-            yield pack_search(m, f, self.noise(room))
+        powers = [R.from_roots(m, [r] * e) for r in (0, 1, self.q - 1) for e in (1, 2, 31, 32)]
+        repeated = powers + [self.repeated() for _ in range(count)]
+        for f in [self.polynomial() for _ in range(count)] + repeated:
+            room, mult_room = rng.choice((32, 33, 40)), rng.choice((32, 33, 40))
+            yield pack_whole(m, f, rng.randrange(4), self.noise(room), self.noise(mult_room))
+            yield pack_search(m, f, self.noise(room), self.noise(mult_room))
         for degree in (m, 0, 1, 5, 13, 256 + m, 65535):
             for f in self.bad_lists():
-                for room in (32, 31, 0):
+                for rooms in ((32, 32), (31, 32), (32, 31), (0, 40), (40, 0), (0, 0)):
                     for cutoff in (0, 3, 4, 65535):
-                        yield pack_whole(degree, f, cutoff, self.noise(room))
-                    yield pack_search(degree, f, self.noise(room))
+                        yield pack_whole(degree, f, cutoff, *map(self.noise, rooms))
+                    yield pack_search(degree, f, *map(self.noise, rooms))
 
     def both(self, table, room=None):
         """The table for step and for finish."""

@@ -13,6 +13,7 @@
 --   factored             the product of (z + r)^e over distinct elements divides f, and none of them is a root of the cofactor
 --   total-at-most        the multiplicities add up to at most the degree
 --   all-simple           where there are as many distinct roots as the degree, all are 1
+--   square-double        the root of z^2 + s^2 is double
 -- Assumes nothing.
 use mathlib.Core.Path.{_∙_, _≡_, ap, ap₂, fun-ext, refl, subst, sym}
 use mathlib.Core.Logic.{_↔_, _≢_, _⊎_, inl, inr}
@@ -29,12 +30,12 @@ use Rattle.algebra.specs.Polynomial.{coef, eval, fromRoots, isRoot, line
 use Rattle.algebra.specs.Routines.{quo, quotientDigit, rem}
 use Rattle.algebra.specs.Multiplicity.{IsMultiplicity, left, leftIn, linearPower, multiplicitiesIn, multiplicity, quotientBy, spread, timesOut, total}
 use Rattle.algebra.proofs.Elements.{equal-of-sum, mul-zero, zero-of-product}
-use Rattle.algebra.proofs.Series.{Series, nought, nought-plus, plus, plus-comm, scale, scale-back, times, times-assoc, times-comm, times-left-comm, times-nought}
-use Rattle.algebra.proofs.Coefficients.{coef-mul, coef-scale, coef-top, coef-zeros, one-times}
+use Rattle.algebra.proofs.Series.{Series, nought, nought-plus, plus, plus-comm, scale, scale-back, startingWith, startingWith-square, times, times-assoc, times-comm, times-left-comm, times-nought, times-unit, unit}
+use Rattle.algebra.proofs.Coefficients.{coef-cons, coef-mul, coef-one, coef-scale, coef-top, coef-zeros, one-times}
 use Rattle.algebra.proofs.Evaluation.{eval-linear, eval-multiple}
 use Rattle.algebra.proofs.Degree.{Monic, Top, monic-cancel, monic-list, quotient-top}
 use Rattle.algebra.proofs.Lengths.{length-quo}
-use Rattle.algebra.proofs.Divisibility.{divides-multiple, divides-product, divides-scale, divides-times, divides-trans, one-divides, quotient-exact}
+use Rattle.algebra.proofs.Divisibility.{divides-multiple, divides-product, divides-scale, divides-self, divides-times, divides-trans, one-divides, quotient-exact}
 use Rattle.algebra.proofs.Division.{division-unique}
 use Rattle.algebra.proofs.Factors.{factor, factor-root, fromRoots-monic}
 use Rattle.algebra.proofs.Signs.{Signs, signs}
@@ -371,3 +372,25 @@ module _ {K : Type 0} {F : Ops K} (L : Laws F) where
       least : (s : List K) → All (λ r. 1 ≤ multiplicity F f r) s → All (λ k. 1 ≤ k) (map (multiplicity F f) s)
       least [] h = tt
       least (r ∷ s) h = (h .0, least s (h .1))
+
+  -- ---- z^2 + s^2
+
+  square-coef : (s : K) → coef F (linearPower F s 2) ≡ coef F (s ⊗ s ∷ 0# ∷ 1# ∷ [])
+  unfolding fromRoots
+  square-coef s =
+      let lin : coef F (linear F s) ≡ startingWith s (unit F) = coef-cons L s (1# ∷ []) ∙ ap (startingWith s) (coef-one L) in
+      coef-mul L (linear F s) (mul F (linear F s) (1# ∷ []))
+      ∙ ap (λ w. coef F (linear F s) ⊠ w) (coef-mul L (linear F s) (1# ∷ []) ∙ ap (λ w. coef F (linear F s) ⊠ w) (coef-one L) ∙ times-unit L (coef F (linear F s)))
+      ∙ ap (λ w. w ⊠ w) lin ∙ startingWith-square L s (unit F) ∙ ap (λ w. startingWith (s ⊗ s) (startingWith 0# w)) (times-unit L (unit F))
+      ∙ sym (coef-cons L (s ⊗ s) (0# ∷ 1# ∷ []) ∙ ap (startingWith (s ⊗ s)) (coef-cons L 0# (1# ∷ []) ∙ ap (startingWith 0#) (coef-one L)))
+
+  -- the root of z^2 + s^2 is double
+  pub square-double : (s b : K) → s ⊗ s ≡ b → multiplicity F (b ∷ 0# ∷ 1# ∷ []) s ≡ 2
+  unfolding total
+  square-double s b e =
+      let f : List K = b ∷ 0# ∷ 1# ∷ [] in
+      let t : Monic F (coef F f) 2 = monic-list L (b ∷ 0# ∷ []) in
+      let most : multiplicity F f s + 0 ≤ 2 = total-at-most (s ∷ []) f (tt, tt) t (L .one≢zero) in
+      let least : 2 ≤ multiplicity F f s = multiplicity-right f s (λ y. L .one≢zero (sym (t .at) ∙ ap (λ w. w 2) y)) 2 .0
+      (subst (λ w. linearPower F s 2 ∣ w) (square-coef s ∙ ap (λ c. coef F (c ∷ 0# ∷ 1# ∷ [])) e) (divides-self L (linearPower F s 2))) in
+      omega arith

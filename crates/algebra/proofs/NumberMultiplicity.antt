@@ -11,12 +11,13 @@
 --   left-nonzero         what is left of f is not 0 where f is not
 --   factored             the product of (z + r)^e over the roots divides f, and the cofactor has no root
 --   total-at-most        the multiplicities add up to at most the degree
---   all-simple           where there are as many distinct roots as the degree, all are 1
+--   all-simple           where there are as many distinct roots as the degree, all are 1;  roots-simple  so of all its roots
+--   square-double        the root of z^2 + s^2 is double
 -- Assumes nothing.
 use mathlib.Core.Path.{_∙_, _≡_, ap, ap₂, refl, subst, sym}
 use mathlib.Core.Logic.{_↔_, _≢_}
 use mathlib.Core.Bool.{Bool, cond, false, true}
-use mathlib.Core.List.{List, [], _++_, _∷_, map, map-append}
+use mathlib.Core.List.{List, List·Memᴰ, List·Memᴰ·head, List·Memᴰ·tail, [], _++_, _∷_, map, map-append}
 use Prim.Native.Nat.{_-_, _<_, _≤_, suc, zero, ℕ}
 use native.Mathlib.Omega.{arith}
 use lib.ListN.{length, length-map, replicate, take}
@@ -291,3 +292,19 @@ module _ {G : Ops ℕ} {q : ℕ} (N : OnNumbers G q) where
       spread-below : (e : ℕ → ℕ) (s : List ℕ) → Below q s → Below q (spread e s)
       spread-below e [] h = tt
       spread-below e (r ∷ s) h = append-below q (replicate (e r) r) (spread e s) (replicate-below q (e r) r (h .0)) (spread-below e s (h .1))
+
+  -- where there are as many roots as the degree, all are 1
+  pub roots-simple : (f : List ℕ) → Below q f → (n : ℕ) → coef G f n ≢ G .zero → ((k : ℕ) → n < k → coef G f k ≡ G .zero) → length (rootsOf G q f) ≡ n
+      → multiplicitiesOf G f (rootsOf G q f) ≡ replicate n 1
+  roots-simple f hf n z a e =
+      all-simple (rootsOf G q f) f (rootsOf-below G q f) hf n z a (rootsOf-distinct G q f)
+      (every (rootsOf G q f) (λ x m. rootsOf-exactly N f hf x .0 m .1)) e ∙ ap (λ k. replicate k 1) e
+    where
+      every : (s : List ℕ) → ((x : ℕ) → List·Memᴰ x s → eval G f x ≡ G .zero) → All (λ r. eval G f r ≡ G .zero) s
+      every [] h = tt
+      every (x ∷ s) h = (h x (List·Memᴰ·head refl), every s (λ y m. h y (List·Memᴰ·tail m)))
+
+  -- the root of z^2 + s^2 is double
+  pub square-double : (s b : ℕ) → s < q → b < q → G .mul s s ≡ b → multiplicity G (b ∷ G .zero ∷ G .one ∷ []) s ≡ 2
+  square-double s b hs hb e =
+      sym (low-multiplicity ((b, hb) ∷ K .zero ∷ K .one ∷ []) (s, hs)) ∙ M.square-double L (s, hs) (b, hb) (elem-equal e)

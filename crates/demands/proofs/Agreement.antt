@@ -1,23 +1,21 @@
 -- The trace engine and the plain trial agree: at each cutoff that is not refused the whole call and the search answer
--- under the same number, and leave the same list.
+-- under the same number, and leave the same lists.
 --   skipped   a test that does not hold decides nothing;  number-is  the number of an outcome does not depend on the
 --             values
---   agree-number, agree-list   the two calls
+--   agree-number, agree-list, agree-beside   the two calls
 -- Assumes nothing.
 use mathlib.Core.Path.{_≡_, refl, sym, ap, _∙_}
 use mathlib.Core.Bool.{Bool, true, false, cond}
 use mathlib.Core.List.{List, [], _∷_, _++_}
 use Prim.Native.Nat.{ℕ, _≤_}
 use borrow.Author.Tests.{le-ltb}
-use lib.Dec.{ltb}
 use lib.ListN.{length}
 use Rattle.refusals.specs.Order.{decide, outcome}
 use Rattle.table_rules.specs.Cutoff.{highestCutoff}
 use Rattle.field.specs.Field.{rootsAt}
-use Rattle.table_rules.specs.Limit.{limit}
 use Rattle.table_rules.specs.Polynomials.{polynomialTests}
 use Rattle.table_rules.specs.Demand.{stepsAt}
-use Rattle.table_rules.specs.RootMemory.{rootMemory}
+use Rattle.table_rules.specs.RootMemory.{rootMemory, multiplicityMemory, roomTests}
 use Rattle.find_solve.specs.Calls.{solveTests, solveOutcome}
 use Rattle.find_search.specs.Calls.{searchTests, searchOutcome}
 
@@ -37,19 +35,23 @@ number-is (t ∷ ts) values = go (t .1) (number-is ts values)
     go true e = refl
     go false e = e
 
-module _ (m c : ℕ) (cs list : List ℕ) (h : c ≤ highestCutoff) where
+module _ (m c : ℕ) (cs list mults : List ℕ) (h : c ≤ highestCutoff) where
   -- the cutoff's test does not hold
-  without : {A : Type 0} (refuse : ℕ → A) (accept : A) → decide (solveTests m c cs list) refuse accept ≡ decide (searchTests m cs list) refuse accept
+  without : {A : Type 0} (refuse : ℕ → A) (accept : A) → decide (solveTests m c cs list mults) refuse accept ≡ decide (searchTests m cs list mults) refuse accept
   without refuse accept =
-      ap (λ (b : Bool). decide (polynomialTests m cs ((6, b) ∷ (7, ltb (length list) limit) ∷ [])) refuse accept) (le-ltb highestCutoff c h)
-      ∙ skipped (polynomialTests m cs []) 6 ((7, ltb (length list) limit) ∷ []) refuse accept
+      ap (λ (b : Bool). decide (polynomialTests m cs ((6, b) ∷ roomTests list mults)) refuse accept) (le-ltb highestCutoff c h)
+      ∙ skipped (polynomialTests m cs []) 6 (roomTests list mults) refuse accept
 
   -- the same number
-  pub agree-number : solveOutcome m c cs list .0 ≡ searchOutcome m cs list .0
+  pub agree-number : solveOutcome m c cs list mults .0 ≡ searchOutcome m cs list mults .0
   agree-number =
-      number-is (solveTests m c cs list) (length (rootsAt m cs) ∷ stepsAt m c cs ∷ []) ∙ without (λ k. k) 0
-      ∙ sym (number-is (searchTests m cs list) (length (rootsAt m cs) ∷ []))
+      number-is (solveTests m c cs list mults) (length (rootsAt m cs) ∷ stepsAt m c cs ∷ []) ∙ without (λ k. k) 0
+      ∙ sym (number-is (searchTests m cs list mults) (length (rootsAt m cs) ∷ []))
 
   -- the same list
-  pub agree-list : rootMemory (solveTests m c cs list) m cs list ≡ rootMemory (searchTests m cs list) m cs list
+  pub agree-list : rootMemory (solveTests m c cs list mults) m cs list ≡ rootMemory (searchTests m cs list mults) m cs list
   agree-list = without (λ k. list) _
+
+  -- and the same second list
+  pub agree-beside : multiplicityMemory (solveTests m c cs list mults) m cs mults ≡ multiplicityMemory (searchTests m cs list mults) m cs mults
+  agree-beside = without (λ k. mults) _

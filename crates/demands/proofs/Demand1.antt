@@ -23,9 +23,10 @@ use Rattle.table_begin.proofs.Coincide.{begin-coincide}
 use Rattle.table_step.proofs.Coincide.{step-coincide}
 use Rattle.table_finish.specs.Calls.{finishTests}
 use Rattle.table_finish.proofs.Coincide.{finish-coincide}
-use Rattle.find_solve.specs.Calls.{solveTests}
+use Rattle.slices.specs.Lists.{copied}
+use Rattle.field.specs.Field.{rootsAt, multiplicitiesAt}
+use Rattle.table_rules.specs.RootMemory.{ListsRoots}
 use Rattle.find_solve.proofs.Coincide.{solve-coincide}
-use Rattle.find_search.specs.Calls.{searchTests}
 use Rattle.find_search.proofs.Coincide.{search-coincide}
 use Rattle.find_affine.specs.Calls.{affineTests}
 use Rattle.find_affine.proofs.Coincide.{affine-coincide}
@@ -78,6 +79,16 @@ answered : (ts : List (ℕ × Bool)) (values new old : List ℕ) {o : ℕ × Lis
     → Decides ts values o × Spares ts new old after
 answered ts values new old n h = (decided ts values n (h .0), subst (Spares ts new old) (sym (h .1)) (spares ts new old))
 
+-- an outcome and two lists that one contract admits
+listed : {ts : List (ℕ × Bool)} {values : List ℕ} {m : ℕ} {cs roots mults : List ℕ} {o : ℕ × List ℕ} {after beside : List ℕ} → Numbered ts
+    → ListsRoots ts values m cs roots mults o after beside
+    → Decides ts values o × Spares ts (copied (rootsAt m cs) roots) roots after × Spares ts (copied (multiplicitiesAt m cs) mults) mults beside
+listed {ts} {values} {m} {cs} {roots} {mults} n h = (
+  decided ts values n (h .answer),
+  subst (Spares ts (copied (rootsAt m cs) roots) roots) (sym (h .list)) (spares ts (copied (rootsAt m cs) roots) roots),
+  subst (Spares ts (copied (multiplicitiesAt m cs) mults) mults) (sym (h .beside)) (spares ts (copied (multiplicitiesAt m cs) mults) mults),
+)
+
 -- what holds exactly of an outcome holds exactly of what an answer tells
 of-told : {B : Type 0} {o p q : Outcome} → o ≡ p → ((p ≡ q) ↔ B) → (o ≡ q) ↔ B
 of-told e h = (λ k. h .0 (sym e ∙ k), λ b. e ∙ h .1 b)
@@ -117,7 +128,10 @@ settles (mended b s x) = record {
   unwritten = λ k e. clash e (λ (z : 0 ≡ suc k). omega arith);
 }
 
--- seven tests, and fewer
+-- eight tests, and fewer
+eight : Numbered ((1, true) ∷ (2, true) ∷ (3, true) ∷ (4, true) ∷ (5, true) ∷ (6, true) ∷ (7, true) ∷ (7, true) ∷ [])
+eight = (omega arith, (omega arith, (omega arith, (omega arith, (omega arith, (omega arith, (omega arith, (omega arith, tt))))))))
+
 seven : Numbered ((1, true) ∷ (2, true) ∷ (3, true) ∷ (4, true) ∷ (5, true) ∷ (6, true) ∷ (7, true) ∷ [])
 seven = (omega arith, (omega arith, (omega arith, (omega arith, (omega arith, (omega arith, (omega arith, tt)))))))
 
@@ -130,8 +144,8 @@ demand-1 = record {
   begin = λ m c cs table r after h. answered (beginTests m c cs table) _ _ table seven h;
   step = λ table r after h. answered (stepTests table) _ _ table (omega arith, (omega arith, (omega arith, tt))) h;
   finish = λ table list r after h. answered (finishTests table list) _ _ list (omega arith, (omega arith, (omega arith, tt))) h;
-  solve = λ m c cs list r after h. answered (solveTests m c cs list) _ _ list seven h;
-  search = λ m cs list r after h. answered (searchTests m cs list) _ _ list (omega arith, (omega arith, (omega arith, (omega arith, (omega arith, (omega arith, tt)))))) h;
+  solve = λ m c cs roots mults r after beside h. listed eight h;
+  search = λ m cs roots mults r after beside h. listed (omega arith, (omega arith, (omega arith, (omega arith, (omega arith, (omega arith, (omega arith, tt))))))) h;
   affine = λ m cs constant list r after h. answered (affineTests m cs constant (length list)) _ _ list (omega arith, (omega arith, (omega arith, (omega arith, tt)))) h;
   correct = λ t word o after h. settles h;
   ends = λ file at r h. of-told h (ends-exactly file at);

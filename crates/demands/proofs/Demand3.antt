@@ -156,9 +156,10 @@ module _ (m c : ℕ) (f table : List ℕ) (p : Passed (beginTests m c f table)) 
       let b : ltb (length list) limit ≡ false = le-ltb (length list) limit h in
       passes (rw a (rw b refl)) (passes (ap not (D .sounds byFactor-lawful limit (s .most) (s .few) count (omega arith))) (passes (ap not done-end) none-left))
 
-  solve-passes : (list : List ℕ) → limit ≤ length list → Passed (solveTests m c f list)
-  solve-passes list h =
-      passed-more m f (passed-first m f p) (passes (failed (passed-rest m f p)) (passes (le-ltb (length list) limit h) none-left))
+  solve-passes : (list mults : List ℕ) → limit ≤ length list → limit ≤ length mults → Passed (solveTests m c f list mults)
+  solve-passes list mults h k =
+      passed-more m f (passed-first m f p)
+      (passes (failed (passed-rest m f p)) (passes (le-ltb (length list) limit h) (passes (le-ltb (length mults) limit k) none-left)))
 
   at-end : afterSteps count begun ≡ groupsSlots m k f count
   at-end = each count (omega arith)
@@ -193,8 +194,8 @@ module _ (m c : ℕ) (f table : List ℕ) (p : Passed (beginTests m c f table)) 
               ∙ accepted _ (finish-passes list l) ∙ ap (λ (r : List ℕ). (0, length r ∷ [])) end-roots),
           h .1 ∙ ap (λ (t : List ℕ). finishMemory t list) (after-is a) ∙ lists list l,
         );
-        whole-gives = λ t list r s x y a l h k. (
-          solved-told s (Found (length (rootsAt m f)) count) (k .0 ∙ accepted _ (solve-passes list l)),
-          k .1 ∙ written _ list (solve-passes list l) ∙ sym (h .1 ∙ ap (λ (t : List ℕ). finishMemory t list) (after-is a) ∙ lists list l),
+        whole-gives = λ t list mults r s x y u a l n h k. (
+          solved-told s (Found (length (rootsAt m f)) count) (k .answer ∙ accepted _ (solve-passes list mults l n)),
+          k .list ∙ written _ list (solve-passes list mults l n) ∙ sym (h .1 ∙ ap (λ (t : List ℕ). finishMemory t list) (after-is a) ∙ lists list l),
         );
       }

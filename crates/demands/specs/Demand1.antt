@@ -17,11 +17,10 @@ use Prim.Native.Nat.{ℕ, suc, _+_, _≤_, _<_}
 use lib.ListN.{length, drop}
 use Rattle.refusals.specs.Order.{Given, Passed}
 use Rattle.slices.specs.Lists.{copied}
-use Rattle.field.specs.Field.{fieldAt, mul, inverse, rootsAt}
-use Rattle.field.specs.Quadratics.{rootsOfQuadratic}
+use Rattle.field.specs.Field.{fieldAt, mul, inverse, rootsAt, multiplicitiesAt}
 use Rattle.field_elements.specs.declared.Roots.{Roots}
 use Rattle.field_elements.specs.declared.Answer.{Answer}
-use Rattle.field_elements.specs.Calls.{toldAnswer, toldQuadratic, pairTests}
+use Rattle.field_elements.specs.Calls.{toldAnswer, toldQuadratic, pairTests, quadraticValues}
 use Rattle.field_elements.specs.Calls.{nonzeroTests, positionTests, positionUnder}
 use Rattle.field_elements.specs.Calls.{TellsProduct, TellsInverse, TellsPosition, TellsQuadratic}
 use Rattle.table_rules.specs.Cutoff.{inForce}
@@ -73,7 +72,7 @@ pub record Demand1 : Type 0 where
   pub product : (m a b : ℕ) (r : Answer) → TellsProduct m a b r
       → Decides (pairTests m a b) (mul (fieldAt m) a b ∷ []) (toldAnswer r)
   pub quadratic : (m a b : ℕ) (r : Roots) → TellsQuadratic m a b r
-      → Decides (pairTests m a b) (rootsOfQuadratic (fieldAt m) a b) (toldQuadratic r)
+      → Decides (pairTests m a b) (quadraticValues (fieldAt m) a b) (toldQuadratic r)
   pub inverse : (m a : ℕ) (r : Answer) → TellsInverse m a r
       → Decides (nonzeroTests m a) (inverse (fieldAt m) a ∷ []) (toldAnswer r)
   pub position : (m x convention : ℕ) (r : Answer) → TellsPosition m x convention r
@@ -88,13 +87,17 @@ pub record Demand1 : Type 0 where
   pub finish : (table list : List ℕ) (r : Finished) (after : List ℕ) → Finishes table list r after
       → Decides (finishTests table list) (length (slotsRoots byFactor table) ∷ []) (toldFinished r)
       × Spares (finishTests table list) (copied (slotsRoots byFactor table) list) list after
-  -- whole call: 1 to 7;  plain search: likewise without 6
-  pub solve : (m c : ℕ) (cs list : List ℕ) (r : Solved) (after : List ℕ) → Solves m c cs list r after
-      → Decides (solveTests m c cs list) (length (rootsAt m cs) ∷ stepsAt m c cs ∷ []) (toldSolved r)
-      × Spares (solveTests m c cs list) (copied (rootsAt m cs) list) list after
-  pub search : (m : ℕ) (cs list : List ℕ) (r : Searched) (after : List ℕ) → Searches m cs list r after
-      → Decides (searchTests m cs list) (length (rootsAt m cs) ∷ []) (toldSearched r)
-      × Spares (searchTests m cs list) (copied (rootsAt m cs) list) list after
+  -- whole call: 1 to 7, the last of the root list and then of the second list;  plain search: likewise without 6
+  pub solve : (m c : ℕ) (cs roots mults : List ℕ) (r : Solved) (after beside : List ℕ)
+      → Solves m c cs roots mults r after beside
+      → Decides (solveTests m c cs roots mults) (length (rootsAt m cs) ∷ stepsAt m c cs ∷ []) (toldSolved r)
+      × Spares (solveTests m c cs roots mults) (copied (rootsAt m cs) roots) roots after
+      × Spares (solveTests m c cs roots mults) (copied (multiplicitiesAt m cs) mults) mults beside
+  pub search : (m : ℕ) (cs roots mults : List ℕ) (r : Searched) (after beside : List ℕ)
+      → Searches m cs roots mults r after beside
+      → Decides (searchTests m cs roots mults) (length (rootsAt m cs) ∷ []) (toldSearched r)
+      × Spares (searchTests m cs roots mults) (copied (rootsAt m cs) roots) roots after
+      × Spares (searchTests m cs roots mults) (copied (multiplicitiesAt m cs) mults) mults beside
   -- affine call: 1, 20, 4, 7
   pub affine : (m : ℕ) (cs : List ℕ) (constant : ℕ) (list : List ℕ) (r : Spanned) (after : List ℕ)
       → Spans m cs constant list r after
@@ -128,10 +131,10 @@ pub record Demand1 : Type 0 where
       → (r ≡ s) × (x ≡ y)
   pub finish-one : (table list : List ℕ) (r s : Finished) (x y : List ℕ)
       → Finishes table list r x → Finishes table list s y → (r ≡ s) × (x ≡ y)
-  pub solve-one : (m c : ℕ) (cs list : List ℕ) (r s : Solved) (x y : List ℕ)
-      → Solves m c cs list r x → Solves m c cs list s y → (r ≡ s) × (x ≡ y)
-  pub search-one : (m : ℕ) (cs list : List ℕ) (r s : Searched) (x y : List ℕ)
-      → Searches m cs list r x → Searches m cs list s y → (r ≡ s) × (x ≡ y)
+  pub solve-one : (m c : ℕ) (cs roots mults : List ℕ) (r s : Solved) (x y u v : List ℕ)
+      → Solves m c cs roots mults r x u → Solves m c cs roots mults s y v → (r ≡ s) × (x ≡ y) × (u ≡ v)
+  pub search-one : (m : ℕ) (cs roots mults : List ℕ) (r s : Searched) (x y u v : List ℕ)
+      → Searches m cs roots mults r x u → Searches m cs roots mults s y v → (r ≡ s) × (x ≡ y) × (u ≡ v)
   pub affine-one : (m : ℕ) (cs : List ℕ) (constant : ℕ) (list : List ℕ) (r s : Spanned) (x y : List ℕ)
       → Spans m cs constant list r x → Spans m cs constant list s y → (r ≡ s) × (x ≡ y)
   pub correct-one : (t : ℕ) (word : List ℕ) (r s : Corrected) (x y : List ℕ)

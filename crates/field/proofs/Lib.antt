@@ -16,3 +16,4 @@ pub mod Tree
 pub mod Logarithms
 pub mod Solutions
 pub mod Instance
+mod Doubles

@@ -2,6 +2,7 @@
 --   toldAnswer, toldQuadratic   the number and the values of an answer: a refusal's number, or 0 and the values
 --   pairTests, nonzeroTests, positionTests   the tests in their order, each behind its number
 --   positionUnder       the position of a root under a convention
+--   quadraticValues     of a quadratic: whether its one root is double, and its roots
 --   productOutcome ..   the outcome of each call: its tests and its value
 --   TellsProduct ..     THE CONTRACT of each call: which answers it admits
 -- Assumes nothing.
@@ -14,7 +15,8 @@ use Rattle.refusals.specs.Order.{outcome}
 use Rattle.refusals.specs.Numbers.{numberOf}
 use Rattle.field.specs.Rows.{known}
 use Rattle.field.specs.Field.{Field, fieldAt, order, mul, inverse, position}
-use Rattle.field.specs.Quadratics.{rootsIn, rootsOfQuadratic}
+use Rattle.field.specs.Quadratics.{rootsIn, timesIn, doubles}
+use Rattle.field.specs.Quadratics.{rootsOfQuadratic, multiplicitiesOfQuadratic}
 use Rattle.field_elements.specs.declared.Answer.{Answer}
 use Rattle.field_elements.specs.declared.Answer.the-variants.{Value, Refused}
 use Rattle.field_elements.specs.declared.Roots.{Roots}
@@ -25,7 +27,7 @@ toldAnswer (Value v) = (0, v ∷ [])
 toldAnswer (Refused k) = (numberOf k, [])
 
 abbrev pub toldQuadratic : Roots → ℕ × List ℕ
-toldQuadratic (Found q) = (0, rootsIn q)
+toldQuadratic (Found q) = (0, doubles (timesIn q) ∷ rootsIn q)
 toldQuadratic (Turned k) = (numberOf k, [])
 
 -- is a no element?
@@ -48,6 +50,10 @@ positionTests m r convention = (1, not (known m)) ∷ (21, ltb 1 convention) ∷
 unfoldable pub positionUnder : ℕ → Field → ℕ → ℕ
 positionUnder convention F r = cond (eqb convention 0) (position F r) ((order F - position F r) % order F)
 
+-- of a quadratic: how many roots are double, 1 or 0, and then the roots
+abbrev pub quadraticValues : Field → ℕ → ℕ → List ℕ
+quadraticValues F a b = doubles (multiplicitiesOfQuadratic F a b) ∷ rootsOfQuadratic F a b
+
 -- the outcome of each call
 abbrev pub productOutcome : ℕ → ℕ → ℕ → ℕ × List ℕ
 productOutcome m a b = outcome (pairTests m a b) (mul (fieldAt m) a b ∷ [])
@@ -59,7 +65,7 @@ abbrev pub positionOutcome : ℕ → ℕ → ℕ → ℕ × List ℕ
 positionOutcome m r convention = outcome (positionTests m r convention) (positionUnder convention (fieldAt m) r ∷ [])
 
 abbrev pub quadraticOutcome : ℕ → ℕ → ℕ → ℕ × List ℕ
-quadraticOutcome m a b = outcome (pairTests m a b) (rootsOfQuadratic (fieldAt m) a b)
+quadraticOutcome m a b = outcome (pairTests m a b) (quadraticValues (fieldAt m) a b)
 
 -- the contract of each call: the answers that it admits
 abbrev pub TellsProduct : ℕ → ℕ → ℕ → Answer → Type 0

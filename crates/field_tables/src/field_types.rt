@@ -5,7 +5,7 @@ ghost use mathlib.Core.Bool.{true};
 ghost use Prim.Native.Nat.{_<_, _^_};
 ghost use Rattle.field.specs.Rows.{known};
 ghost use Rattle.field.specs.Field.{fieldAt, mul, inverse, position};
-ghost use Rattle.field.specs.Quadratics.{rootsIn, rootsOfQuadratic};
+ghost use Rattle.field.specs.Quadratics.{SolvesQuadratic};
 use crate::constants::halves4;
 use crate::constants::halves8;
 use crate::constants::halves11;
@@ -52,7 +52,7 @@ impl F4 {
 
     pub fn roots(a: u16, b: u16) -> Quadratic
         requires { do ⌜ (a < (← ⟦F4::SIZE⟧)) × (b < (← ⟦F4::SIZE⟧)) ⌝ }
-        ensures { λ r. ⌜ rootsIn r ≡ rootsOfQuadratic (fieldAt 4) a b ⌝ }
+        ensures { λ r. ⌜ SolvesQuadratic (fieldAt 4) a b r ⌝ }
     {
         quadratic_of(F4::DEGREE, F4::POLY, &halves4(), a, b)
     }
@@ -91,7 +91,7 @@ impl F8 {
 
     pub fn roots(a: u16, b: u16) -> Quadratic
         requires { do ⌜ (a < (← ⟦F8::SIZE⟧)) × (b < (← ⟦F8::SIZE⟧)) ⌝ }
-        ensures { λ r. ⌜ rootsIn r ≡ rootsOfQuadratic (fieldAt 8) a b ⌝ }
+        ensures { λ r. ⌜ SolvesQuadratic (fieldAt 8) a b r ⌝ }
     {
         quadratic_of(F8::DEGREE, F8::POLY, &halves8(), a, b)
     }
@@ -130,7 +130,7 @@ impl F11 {
 
     pub fn roots(a: u16, b: u16) -> Quadratic
         requires { do ⌜ (a < (← ⟦F11::SIZE⟧)) × (b < (← ⟦F11::SIZE⟧)) ⌝ }
-        ensures { λ r. ⌜ rootsIn r ≡ rootsOfQuadratic (fieldAt 11) a b ⌝ }
+        ensures { λ r. ⌜ SolvesQuadratic (fieldAt 11) a b r ⌝ }
     {
         quadratic_of(F11::DEGREE, F11::POLY, &halves11(), a, b)
     }
@@ -175,7 +175,7 @@ pub fn position_in(m: u16, r: u16) -> u16
 // The roots of z^2 + az + b in the known field of degree m.
 pub fn roots_in(m: u16, a: u16, b: u16) -> Quadratic
     requires { ⌜ (known m ≡ true) × (a < 2 ^ m) × (b < 2 ^ m) ⌝ }
-    ensures { λ r. ⌜ rootsIn r ≡ rootsOfQuadratic (fieldAt m) a b ⌝ }
+    ensures { λ r. ⌜ SolvesQuadratic (fieldAt m) a b r ⌝ }
 {
     match m {
         4 => F4::roots(a, b),

@@ -10,7 +10,7 @@ use Prim.Native.Nat.{ℕ, suc, _≤_, _<_, _^_}
 use native.Mathlib.Decide.{decLt}
 use native.Mathlib.Omega.{arith}
 use lib.Dec.{lit<, lit≤}
-use lib.ListN.{length, drop, replicate}
+use lib.ListN.{length, drop}
 use Rattle.algebra.specs.Trial.{All, upFrom, firstFrom}
 use Rattle.algebra.specs.Field.{OnNumbers, power, trace}
 use Rattle.algebra.specs.Polynomial.{eval, rootsOf, add, fromRoots, frobenius, tracePoly}
@@ -32,7 +32,7 @@ use Rattle.table_rules.specs.Splitting.{isDone, slotsBegun, slotsStepped, slots
 use Rattle.table_rules.specs.Demand.{stepCount, groupsAfter}
 use Rattle.table_rules.proofs.Demand.{demand-3, steps-to-done}
 use Rattle.find_solve.specs.Calls.{solveOutcome}
-use Rattle.figures.specs.Figures.{Figure, Right, StartsWith, figures, acceptedFigure, refusedFigure, figureValues, figureAfter}
+use Rattle.figures.specs.Figures.{Figure, Right, StartsWith, figures, acceptedFigure, refusedFigure, figureValues, figureAfter, room}
 
 -- ---- field 11: z^2 + z, with a zero at the top. Its roots are 0 and 1, as it is 0 at 0 and the other root is 0 + 1
 known-11 : OnNumbers (G 11) (2 ^ 11)
@@ -89,13 +89,13 @@ in-11 = record {
 -- ---- field 4: antt computes them. Each law puts its figures before those that follow in the table
 
 -- a figure by its outcome, its roots and its work tables
-accept : {f : Figure} → solveOutcome (f .m) (f .cutoff) (f .coefficients) (replicate 32 0) ≡ (f .number, figureValues f)
+accept : {f : Figure} → solveOutcome (f .m) (f .cutoff) (f .coefficients) room room ≡ (f .number, figureValues f)
     → rootsAt (f .m) (f .coefficients) ≡ f .roots
     → All (λ t. StartsWith (figureAfter f (t .0)) (t .1)) (f .tables) → Right f
 accept e r t = record { outcome = e; roots = λ _. r; tables = t }
 
 -- a refusal by its outcome: its number is not 0
-refuse : {m c k : ℕ} {cs : List ℕ} → solveOutcome m c cs (replicate 32 0) ≡ (suc k, figureValues (refusedFigure m c cs (suc k)))
+refuse : {m c k : ℕ} {cs : List ℕ} → solveOutcome m c cs room room ≡ (suc k, figureValues (refusedFigure m c cs (suc k)))
     → Right (refusedFigure m c cs (suc k))
 refuse e = record { outcome = e; roots = λ z. absurd (let b : ⊥ = omega arith in b); tables = tt }
 

@@ -1,9 +1,10 @@
--- The figures of docs/RULES.md section 10, in one table: inputs of the whole call with an empty list of 32
+-- The figures of docs/RULES.md section 10, in one table: inputs of the whole call with two empty lists of 32
 -- slots, what it answers, and how the work table begins after so many steps, where they say that.
 --   Figure   field degree, cutoff, coefficients; the outcome's number and values; the roots where it is accepted;
 --            work tables, each behind its steps
 --   wholeField   z^16 + z
 --   figures  the table
+--   room     a lent list of 32 slots
 --   Right    what is claimed of a figure: the whole call's outcome, the roots, and the work tables
 --   figureAfter   the slots of a figure's begun table after n steps;  StartsWith  slots begin with a list, and zeros
 --                 follow
@@ -83,7 +84,11 @@ figureAfter f n = slotsAfter byFactor n (slotsBegun byFactor slots (f .m) (inFor
 abbrev pub StartsWith : List ℕ → List ℕ → Type 0
 StartsWith l front = l ≡ front ++ replicate (slots - length front) 0
 
+-- as many slots as a list must have
+abbrev pub room : List ℕ
+room = replicate 32 0
+
 pub record Right (f : Figure) : Type 0 where
-  pub outcome : solveOutcome (f .m) (f .cutoff) (f .coefficients) (replicate 32 0) ≡ (f .number, figureValues f)
+  pub outcome : solveOutcome (f .m) (f .cutoff) (f .coefficients) room room ≡ (f .number, figureValues f)
   pub roots : f .number ≡ 0 → rootsAt (f .m) (f .coefficients) ≡ f .roots
   pub tables : All (λ t. StartsWith (figureAfter f (t .0)) (t .1)) (f .tables)

@@ -8,26 +8,21 @@
 --   countable-lent  in the arm of a field, with its tables lent
 -- Assumes nothing.
 use mathlib.Core.Path.{_≡_, refl, sym, ap, ap₂, _∙_, subst}
-use mathlib.Core.Bool.{Bool, true, false, _&&_}
 use mathlib.Core.Logic.{_≢_}
-use mathlib.Core.List.{List, [], _∷_, _++_, List·Memᴰ, List·Memᴰ·head, List·Memᴰ·tail, map}
+use mathlib.Core.List.{List, [], _∷_, _++_, map}
 use Prim.Native.Nat.{ℕ, zero, suc, _+_, _-_, _^_, _≤_, _<_}
 use native.Mathlib.Numerals.{add-one}
 use native.Mathlib.Omega.{arith}
-use borrow.Author.Tests.{ltb-false}
-use lib.Dec.{ltb}
 use lib.ListN.{length, getD, take, drop, replicate, set, List·getD-append, length-append, length-drop, length-map}
 use lib.Seq.{drop-append-add, drop-cons, drop-drop, getD-drop, length-take-le}
 use Rattle.algebra.specs.Field.{OnNumbers}
-use Rattle.algebra.specs.Trial.{All}
-use Rattle.algebra.specs.Polynomial.{Below, coef, eval}
+use Rattle.algebra.specs.Polynomial.{Below}
 use Rattle.algebra.specs.Multiplicity.{left, multiplicitiesIn, multiplicity}
 use Rattle.algebra.proofs.StaysBelow.{below-at, rootsOf-below}
-use Rattle.algebra.proofs.RootList.{rootsOf-distinct, rootsOf-exactly}
+use Rattle.algebra.proofs.RootList.{rootsOf-distinct}
 use Rattle.algebra.proofs.NumberMultiplicity as M
 use Rattle.field.specs.Field.{G, fieldAt, multiplicitiesAt, rootsAt}
 use Rattle.field.specs.Tables.{Antilogs, Logs}
-use Rattle.slices.specs.Bounded.{allBelow, allZero}
 use Rattle.slices.specs.Lists.{copied}
 use Rattle.slices.proofs.Lists.{copied-behind, copied-front, length-copied}
 use Rattle.slices.proofs.Filling.{Filling, fill-from, fill-on, fill-stop}
@@ -37,6 +32,7 @@ use Rattle.poly.proofs.Lending.{lent-at}
 use Rattle.poly.proofs.Parts.{part-none, part-rest}
 use Rattle.table_rules.specs.Polynomials.{PolynomialIn}
 use Rattle.table_rules.proofs.Fields.{known-field}
+use Rattle.table_rules.proofs.Polynomials.{nonzero-place}
 use Rattle.find_multiplicities.specs.Counting.{Countable, CountableLent, Removable, Removed, Usable}
 
 -- ---- lists
@@ -45,21 +41,6 @@ length-counts : (m : ℕ) (f s : List ℕ) → length (multiplicitiesIn (G m) f 
 unfolding multiplicitiesIn
 length-counts m f [] = refl
 length-counts m f (r ∷ s) = ap suc (length-counts m (left (G m) f r) s)
-
--- a list that is not all zeros has another element
-place : (l : List ℕ) → allZero l ≡ false → (j : ℕ) × (getD l j 0 ≢ 0)
-unfolding allBelow
-place [] e = let x : _≡_ {A = ℕ} 0 1 = cc in absurd (omega arith)
-place (x ∷ l) e = go (ltb x 1) refl e (place l)
-  where
-    go : (b : Bool) → ltb x 1 ≡ b → (b && allBelow 1 l) ≡ false → (allBelow 1 l ≡ false → (j : ℕ) × (getD l j 0 ≢ 0)) → (j : ℕ) × (getD (x ∷ l) j 0 ≢ 0)
-    go true t f rec = let r = rec f in (suc (r .0), r .1)
-    go false t f rec = (0, λ z. omega (arith, ltb-false x 1 t))
-
--- what holds of each member
-every : (P : ℕ → Type 0) (s : List ℕ) → ((x : ℕ) → List·Memᴰ x s → P x) → All P s
-every P [] h = tt
-every P (x ∷ s) h = (h x (List·Memᴰ·head refl), every P s (λ y k. h y (List·Memᴰ·tail k)))
 
 -- ---- the loop
 
@@ -164,13 +145,9 @@ module _ {m : ℕ} {f roots mults : List ℕ} (g : Countable m f roots mults) wh
   all-simple : {k : ℕ} → TopIs f k → length roots + 1 ≡ k → replicate (length roots) 1 ≡ multiplicitiesAt m f
   unfolding N
   all-simple {k} t e =
-      let s : List ℕ = rootsAt m f in
       let n : k - 1 ≡ length roots = omega arith in
-      let h : length s ≡ length roots = ap length (sym (g .all)) in
       let lead : getD f (length roots) 0 ≢ 0 = subst (λ j. getD f j 0 ≢ 0) n (t .nonzero (omega arith)) in
-      ap (λ j. replicate j 1) (sym h)
-      ∙ sym (M.all-simple N s f (rootsOf-below (G m) (2 ^ m) f) (g .polynomial .small) (length roots) lead (λ j l. t .above j (omega arith)) (rootsOf-distinct (G m) (2 ^ m) f)
-      (every (λ r. eval (G m) f r ≡ 0) s (λ x i. rootsOf-exactly N f (g .polynomial .small) x .0 i .1)) h)
+      sym (M.roots-simple N f (g .polynomial .small) (length roots) lead (λ j l. t .above j (omega arith)) (ap length (sym (g .all))))
 
   -- and so ones are written
   pub simple-written : {k : ℕ} {mults′ : List ℕ} → TopIs f k → length roots + 1 ≡ k → mults′ ≡ copied (replicate (length roots) 1) mults
@@ -206,7 +183,7 @@ module _ {m : ℕ} {f roots ls ts mults : List ℕ} (g : CountableLent m f roots
   lent-counts d {w} e h =
       let c = g .countable in
       let s : List ℕ = rootsAt m f in
-      let j = place f (c .polynomial .nonzero) in
+      let j = nonzero-place (c .polynomial) in
       h ∙ ap (λ u. copied u mults)
       (ap₂ (λ (a b : List ℕ). multiplicitiesIn (G m) a b) (ap (take (length f)) e ∙ copied-front f d refl) (c .all)
       ∙ M.taken-out (numbers-of (g .tables)) s f (rootsOf-below (G m) (2 ^ m) f) (c .polynomial .small) (j .0) (j .1) (rootsOf-distinct (G m) (2 ^ m) f))

@@ -1,3 +1,4 @@
+pub mod Asking
 mod Ones
 mod Removing
 mod Counting

@@ -1,5 +1,5 @@
 -- Two outcomes that the contract of the plain search admits coincide: the answer is told by its number and value, and
--- the list by a function.
+-- the lists by functions.
 --   searched-told     two answers with one number and value are one
 --   search-coincide   so for the call
 -- Assumes nothing.
@@ -8,9 +8,9 @@ use mathlib.Core.List.{List}
 use Prim.Native.Nat.{ℕ}
 use lib.ListN.{getD}
 use Rattle.refusals.proofs.Numbers.{refused-back, accepted-back}
-use Rattle.refusals.proofs.Told.{told-by, coincide}
-use Rattle.table_rules.specs.RootMemory.{rootMemory}
-use Rattle.find_search.specs.Calls.{toldSearched, searchOutcome, searchTests, Searches}
+use Rattle.refusals.proofs.Told.{told-by}
+use Rattle.table_rules.proofs.RootMemory.{lists-coincide}
+use Rattle.find_search.specs.Calls.{toldSearched, Searches}
 use Rattle.find_search.specs.declared.Searched.{Searched}
 use Rattle.find_search.specs.declared.Searched.the-variants.{Seen, NotSearched}
 
@@ -19,7 +19,7 @@ pub searched-told : (r s : Searched) → toldSearched r ≡ toldSearched s → r
 searched-told = told-by toldSearched (λ o. o .0) NotSearched (λ o. Seen (getD (o .1) 0 0))
     (elim [ Seen s ↦ accepted-back NotSearched (Seen s) | NotSearched k ↦ refused-back NotSearched (Seen 0) k ])
 
--- the answer and the lent list
-pub search-coincide : (m : ℕ) (cs list : List ℕ) (r s : Searched) (x y : List ℕ)
-    → Searches m cs list r x → Searches m cs list s y → (r ≡ s) × (x ≡ y)
-search-coincide m cs list = coincide toldSearched searched-told (searchOutcome m cs list) (rootMemory (searchTests m cs list) m cs list)
+-- the answer and the lent lists
+pub search-coincide : (m : ℕ) (cs roots mults : List ℕ) (r s : Searched) (x y u v : List ℕ)
+    → Searches m cs roots mults r x u → Searches m cs roots mults s y v → (r ≡ s) × (x ≡ y) × (u ≡ v)
+search-coincide m cs roots mults r s x y u v h k = lists-coincide toldSearched searched-told r s h k

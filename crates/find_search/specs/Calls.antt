@@ -1,5 +1,5 @@
--- What the plain search answers, for every input (docs/RULES.md section 3.5). The lent root list's front is then the
--- roots, ascending.
+-- What the plain search answers, for every input (docs/RULES.md section 3.5). The front of the first lent list is
+-- then the roots, ascending, and that of the second their multiplicities.
 --   searchTests     its tests in their order, each behind its number
 --   searchOutcome   its outcome: the number of roots
 --   toldSearched    the number and the value of its answer
@@ -8,29 +8,26 @@
 use mathlib.Core.Bool.{Bool}
 use mathlib.Core.List.{List, [], _∷_}
 use Prim.Native.Nat.{ℕ}
-use lib.Dec.{ltb}
 use lib.ListN.{length}
-use Rattle.refusals.specs.Order.{outcome, Answers}
+use Rattle.refusals.specs.Order.{outcome}
 use Rattle.refusals.specs.Numbers.{numberOf}
-use Rattle.slices.specs.Lists.{copied}
 use Rattle.field.specs.Field.{rootsAt}
-use Rattle.table_rules.specs.Limit.{limit}
+use Rattle.table_rules.specs.RootMemory.{roomTests, ListsRoots}
 use Rattle.table_rules.specs.Polynomials.{polynomialTests}
 use Rattle.find_search.specs.declared.Searched.{Searched}
 use Rattle.find_search.specs.declared.Searched.the-variants.{Seen, NotSearched}
 
-abbrev pub searchTests : ℕ → List ℕ → List ℕ → List (ℕ × Bool)
-searchTests m cs list = polynomialTests m cs ((7, ltb (length list) limit) ∷ [])
+abbrev pub searchTests : ℕ → List ℕ → List ℕ → List ℕ → List (ℕ × Bool)
+searchTests m cs roots mults = polynomialTests m cs (roomTests roots mults)
 
-abbrev pub searchOutcome : ℕ → List ℕ → List ℕ → ℕ × List ℕ
-searchOutcome m cs list = outcome (searchTests m cs list) (length (rootsAt m cs) ∷ [])
+abbrev pub searchOutcome : ℕ → List ℕ → List ℕ → List ℕ → ℕ × List ℕ
+searchOutcome m cs roots mults = outcome (searchTests m cs roots mults) (length (rootsAt m cs) ∷ [])
 
 abbrev pub toldSearched : Searched → ℕ × List ℕ
 toldSearched (Seen s) = (0, s ∷ [])
 toldSearched (NotSearched k) = (numberOf k, [])
 
--- the contract: an answer, and the lent list afterwards
-abbrev pub Searches : ℕ → List ℕ → List ℕ → Searched → List ℕ → Type 0
-Searches m cs list r after =
-    Answers (searchTests m cs list) (length (rootsAt m cs) ∷ [])
-    (copied (rootsAt m cs) list) list (toldSearched r) after
+-- the contract: an answer, and the lent lists afterwards
+abbrev pub Searches : ℕ → List ℕ → List ℕ → List ℕ → Searched → List ℕ → List ℕ → Type 0
+Searches m cs roots mults r =
+    ListsRoots (searchTests m cs roots mults) (length (rootsAt m cs) ∷ []) m cs roots mults (toldSearched r)

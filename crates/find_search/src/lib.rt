@@ -13,12 +13,14 @@ use field_tables::constants::antilogs8;
 use field_tables::constants::logs4;
 use field_tables::constants::logs8;
 use find_admit::admit_room;
+use find_multiplicities::multiplicities_in;
 use poly::values::evaluate;
 use poly::values::evaluate_four;
 use poly_values::PLANES;
 use poly_values::VECTORS;
 use refusals::Admission;
 use refusals::Refusal;
+use refusals::also;
 use table_rules::LIMIT;
 
 // What the plain search answers: the number of roots, or what is turned away.
@@ -125,13 +127,20 @@ fn search_in(m: u16, f: &[u16], roots: &mut [u16]) -> u16
     }
 }
 
-// The plain search: every element is tried, the distinct roots stand ascending at the front of the list, and their
-// number is returned.
-pub fn search(m: u16, coeffs: &[u16], roots: &mut [u16]) -> Searched
-    ensures { λ r. ⌜ Searches m (now (coeffs .entry)) (now (roots .entry)) r (now (roots .exit)) ⌝ }
+// The plain search: every element is tried, the distinct roots stand ascending at the front of the first list, their
+// multiplicities at the front of the second, and their number is returned.
+pub fn search(m: u16, coeffs: &[u16], roots: &mut [u16], mults: &mut [u16]) -> Searched
+    ensures { λ r. ⌜ Searches m (now (coeffs .entry)) (now (roots .entry)) (now (mults .entry))
+        r (now (roots .exit)) (now (mults .exit)) ⌝ }
 {
-    match admit_room(m, coeffs, roots.len() < LIMIT) {
+    let found = admit_room(m, coeffs, roots.len() < LIMIT);
+    match also(found, mults.len() < LIMIT, Refusal::Room) {
         Admission::Out(k) => Searched::NotSearched(k),
-        Admission::In => Searched::Seen(search_in(m, coeffs, roots)),
+        Admission::In => {
+            let k = search_in(m, coeffs, roots);
+            let e = k as usize;
+            multiplicities_in(m, coeffs, &roots[..e], mults);
+            Searched::Seen(k)
+        }
     }
 }

@@ -1,5 +1,5 @@
--- What the whole call answers, for every input (docs/RULES.md section 3.4). The lent root list's front is then the
--- roots, ascending.
+-- What the whole call answers, for every input (docs/RULES.md section 3.4). The front of the first lent list is then
+-- the roots, ascending, and that of the second their multiplicities.
 --   solveTests     its tests in their order, each behind its number
 --   solveOutcome   its outcome: the numbers of roots and of steps
 --   toldSolved     the number and the values of its answer
@@ -10,29 +10,28 @@ use mathlib.Core.List.{List, [], _∷_}
 use Prim.Native.Nat.{ℕ}
 use lib.Dec.{ltb}
 use lib.ListN.{length}
-use Rattle.refusals.specs.Order.{outcome, Answers}
+use Rattle.refusals.specs.Order.{outcome}
 use Rattle.refusals.specs.Numbers.{numberOf}
-use Rattle.slices.specs.Lists.{copied}
 use Rattle.table_rules.specs.Cutoff.{highestCutoff}
 use Rattle.field.specs.Field.{rootsAt}
 use Rattle.table_rules.specs.Demand.{stepsAt}
-use Rattle.table_rules.specs.Limit.{limit}
+use Rattle.table_rules.specs.RootMemory.{roomTests, ListsRoots}
 use Rattle.table_rules.specs.Polynomials.{polynomialTests}
 use Rattle.find_solve.specs.declared.Solved.{Solved}
 use Rattle.find_solve.specs.declared.Solved.the-variants.{Found, NotSolved}
 
-abbrev pub solveTests : ℕ → ℕ → List ℕ → List ℕ → List (ℕ × Bool)
-solveTests m c cs list = polynomialTests m cs ((6, ltb highestCutoff c) ∷ (7, ltb (length list) limit) ∷ [])
+abbrev pub solveTests : ℕ → ℕ → List ℕ → List ℕ → List ℕ → List (ℕ × Bool)
+solveTests m c cs roots mults = polynomialTests m cs ((6, ltb highestCutoff c) ∷ roomTests roots mults)
 
-abbrev pub solveOutcome : ℕ → ℕ → List ℕ → List ℕ → ℕ × List ℕ
-solveOutcome m c cs list = outcome (solveTests m c cs list) (length (rootsAt m cs) ∷ stepsAt m c cs ∷ [])
+abbrev pub solveOutcome : ℕ → ℕ → List ℕ → List ℕ → List ℕ → ℕ × List ℕ
+solveOutcome m c cs roots mults = outcome (solveTests m c cs roots mults) (length (rootsAt m cs) ∷ stepsAt m c cs ∷ [])
 
 abbrev pub toldSolved : Solved → ℕ × List ℕ
 toldSolved (Found s steps) = (0, s ∷ steps ∷ [])
 toldSolved (NotSolved k) = (numberOf k, [])
 
--- the contract: an answer, and the lent list afterwards
-abbrev pub Solves : ℕ → ℕ → List ℕ → List ℕ → Solved → List ℕ → Type 0
-Solves m c cs list r after =
-    Answers (solveTests m c cs list) (length (rootsAt m cs) ∷ stepsAt m c cs ∷ [])
-    (copied (rootsAt m cs) list) list (toldSolved r) after
+-- the contract: an answer, and the lent lists afterwards
+abbrev pub Solves : ℕ → ℕ → List ℕ → List ℕ → List ℕ → Solved → List ℕ → List ℕ → Type 0
+Solves m c cs roots mults r =
+    ListsRoots (solveTests m c cs roots mults) (length (rootsAt m cs) ∷ stepsAt m c cs ∷ []) m cs roots mults
+    (toldSolved r)

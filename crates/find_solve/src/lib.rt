@@ -30,10 +30,12 @@ use field_tables::field_types::inverse_in;
 use field_tables::field_types::product_in;
 use find_admit::admit;
 use find_admit::in_force;
+use find_multiplicities::multiplicities_in;
 use poly::monic::top;
 use poly_powers::add_trace;
 use refusals::Admission;
 use refusals::Refusal;
+use refusals::also;
 use table_begin::begin_lent;
 use table_finish::finish_lent;
 use table_rules::LIMIT;
@@ -204,14 +206,19 @@ pub fn solve_in(m: u16, c: u16, coeffs: &[u16], roots: &mut [u16]) -> Counts
     }
 }
 
-// The whole call: all distinct roots, ascending, at the front of the list, and the number of roots and of steps.
-pub fn solve(m: u16, coeffs: &[u16], cutoff: u16, roots: &mut [u16]) -> Solved
-    ensures { λ r. ⌜ Solves m cutoff (now (coeffs .entry)) (now (roots .entry)) r (now (roots .exit)) ⌝ }
+// The whole call: all distinct roots, ascending, at the front of the first list, their multiplicities at the front of
+// the second, and the number of roots and of steps.
+pub fn solve(m: u16, coeffs: &[u16], cutoff: u16, roots: &mut [u16], mults: &mut [u16]) -> Solved
+    ensures { λ r. ⌜ Solves m cutoff (now (coeffs .entry)) (now (roots .entry)) (now (mults .entry))
+        r (now (roots .exit)) (now (mults .exit)) ⌝ }
 {
-    match admit(m, coeffs, cutoff, roots.len() < LIMIT) {
+    let found = admit(m, coeffs, cutoff, roots.len() < LIMIT);
+    match also(found, mults.len() < LIMIT, Refusal::Room) {
         Admission::Out(k) => Solved::NotSolved(k),
         Admission::In => {
             let n = solve_in(m, in_force(cutoff), coeffs, roots);
+            let e = n.s as usize;
+            multiplicities_in(m, coeffs, &roots[..e], mults);
             Solved::Found {
                 s: n.s,
                 steps: n.steps,

@@ -12,7 +12,6 @@ use mathlib.Core.List.{List, [], _∷_, _++_}
 use Prim.Native.Nat.{ℕ, suc, _+_, _≤_}
 use native.Mathlib.Omega.{arith}
 use borrow.Author.Tests.{le-ltb}
-use lib.Dec.{ltb}
 use lib.ListN.{length, getD, take}
 use Rattle.refusals.specs.Order.{Passed}
 use Rattle.refusals.specs.Order.Passed.{none}
@@ -22,6 +21,7 @@ use Rattle.table_rules.specs.Cutoff.{highestCutoff, inForce}
 use Rattle.field.specs.Field.{rootsAt}
 use Rattle.table_rules.specs.Limit.{limit}
 use Rattle.table_rules.specs.Polynomials.{PolynomialIn}
+use Rattle.table_rules.specs.RootMemory.{roomTests}
 use Rattle.table_rules.proofs.Polynomials.{polynomial-told}
 use Rattle.table_rules.specs.Demand.{stepsAt}
 use Rattle.find_solve.specs.Calls.{solveTests, solveOutcome}
@@ -37,19 +37,19 @@ use Rattle.job_records.proofs.Forward.{accepts}
 use Rattle.job_records.proofs.Cutoffs.{asked-stated}
 use Rattle.job_lines.specs.Printing.{turnedLine, solvedLine, Printable}
 
--- the reader's tests, and that of the list's room behind them
-pub same-tests : (m c : ℕ) (cs list : List ℕ) → callTests m c cs ++ ((7, ltb (length list) limit) ∷ []) ≡ solveTests m c cs list
-same-tests m c cs list = refl
+-- the reader's tests, and those of the lists' room behind them
+pub same-tests : (m c : ℕ) (cs roots mults : List ℕ) → callTests m c cs ++ roomTests roots mults ≡ solveTests m c cs roots mults
+same-tests m c cs roots mults = refl
 
 -- so what passes the reader's passes the whole call's
-passes-on : (m c : ℕ) (cs list : List ℕ) → Passed (callTests m c cs) → limit ≤ length list → Passed (solveTests m c cs list)
-passes-on m c cs list one room =
+passes-on : (m c : ℕ) (cs roots mults : List ℕ) → Passed (callTests m c cs) → limit ≤ length roots → limit ≤ length mults → Passed (solveTests m c cs roots mults)
+passes-on m c cs roots mults one room beside =
     let two = others one in
     let three = others two in
     let four = others three in
     let five = others four in
     let six = others five in
-    passes (failed one) (passes (failed two) (passes (failed three) (passes (failed four) (passes (failed five) (passes (failed six) (passes (le-ltb (length list) limit room) none))))))
+    passes (failed one) (passes (failed two) (passes (failed three) (passes (failed four) (passes (failed five) (passes (failed six) (passes (le-ltb (length roots) limit room) (passes (le-ltb (length mults) limit beside) none)))))))
 
 -- what the call's answer is
 pub record SolvedIs (m c : ℕ) (cs : List ℕ) (s steps : ℕ) (list : List ℕ) : Type 0 where
@@ -78,7 +78,7 @@ module _ {m c n : ℕ} {bytes room after out : List ℕ} (h : Spelled bytes room
       → PolynomialIn m (take n after) × (1 ≤ k) × (k ≤ highestCutoff) × (limit ≤ length list)
   solve-asks l e =
       admitted m c (take n after) list
-      (subst (λ cs. Passed (solveTests m c cs list)) (sym (spelled-front h)) (passes-on m c (words bytes) list (p .passed) l)) e
+      (subst (λ cs. Passed (solveTests m c cs list list)) (sym (spelled-front h)) (passes-on m c (words bytes) list list (p .passed) l l)) e
 
   -- it gives the roots and the steps
   pub solved-by : {k : ℕ} {r : Counts} {list′ : List ℕ} → k ≡ inForce c → SolvedOut m k (take n after) list r list′
@@ -113,7 +113,7 @@ record-passes file at {m = m} {start} {len} e =
     subst (λ c. Passed (callTests m c (words (part file start len)))) (sym (ap asked (a .cutoff-is) ∙ asked-stated (getD file (at + 3) 0))) (a .tests)
 
 pub record-accepted : (file : List ℕ) (at : ℕ) {next m start len : ℕ} {cutoff : List ℕ} → readAt file at ≡ Outcome.gives 0 (next ∷ m ∷ start ∷ len ∷ cutoff)
-    → (list : List ℕ) → limit ≤ length list → solveOutcome m (asked cutoff) (words (part file start len)) list
+    → (roots mults : List ℕ) → limit ≤ length roots → limit ≤ length mults → solveOutcome m (asked cutoff) (words (part file start len)) roots mults
     ≡ (0, length (rootsAt m (words (part file start len))) ∷ stepsAt m (asked cutoff) (words (part file start len)) ∷ [])
-record-accepted file at {m = m} {start} {len} {cutoff} e list room =
-    accepted _ (passes-on m (asked cutoff) (words (part file start len)) list (record-passes file at e) room)
+record-accepted file at {m = m} {start} {len} {cutoff} e roots mults room beside =
+    accepted _ (passes-on m (asked cutoff) (words (part file start len)) roots mults (record-passes file at e) room beside)

@@ -1,6 +1,6 @@
 -- Two structs that the contract of an export admits are one, and so is what lent memory holds: by what the contract of
 -- the call admits.
---   one-struct, one-memory   from the call to the export
+--   one-struct, one-memory, one-lists   from the call to the export
 --   product-one ..           so for each export
 -- Assumes nothing.
 use mathlib.Core.Path.{_≡_, sym, ap, _∙_}
@@ -35,6 +35,14 @@ one-memory {tell = tell} one {x = x} {y = y} h k =
     let e = one (h .answer) (k .answer) x y (h .admitted) (k .admitted) in
     (h .told ∙ ap tell (e .0) ∙ sym (k .told), e .1)
 
+-- the same with two lent lists
+one-lists : {A R : Type 0} {tell : A → R} {admits : A → List ℕ → List ℕ → Type 0}
+    → ((a b : A) (x y u v : List ℕ) → admits a x u → admits b y v → (a ≡ b) × (x ≡ y) × (u ≡ v))
+    → {r s : R} {x y u v : List ℕ} → As tell (λ a. admits a x u) r → As tell (λ a. admits a y v) s → (r ≡ s) × (x ≡ y) × (u ≡ v)
+one-lists {tell = tell} one {x = x} {y = y} {u = u} {v = v} h k =
+    let e = one (h .answer) (k .answer) x y u v (h .admitted) (k .admitted) in
+    (h .told ∙ ap tell (e .0) ∙ sym (k .told), e .1, e .2)
+
 pub product-one : (m a b : ℕ) (r s : LocatorValue) → ProductAs m a b r → ProductAs m a b s → r ≡ s
 product-one m a b r s h k = one-struct (product-coincide m a b) h k
 
@@ -47,13 +55,13 @@ position-one m x convention r s h k = one-struct (position-coincide m x conventi
 pub quadratic-one : (m a b : ℕ) (r s : LocatorPair) → QuadraticAs m a b r → QuadraticAs m a b s → r ≡ s
 quadratic-one m a b r s h k = one-struct (quadratic-coincide m a b) h k
 
-pub solve-one : (m c : ℕ) (cs list : List ℕ) (r s : LocatorFound) (x y : List ℕ)
-    → SolvesAs m c cs list r x → SolvesAs m c cs list s y → (r ≡ s) × (x ≡ y)
-solve-one m c cs list r s x y h k = one-memory (solve-coincide m c cs list) h k
+pub solve-one : (m c : ℕ) (cs roots mults : List ℕ) (r s : LocatorFound) (x y u v : List ℕ)
+    → SolvesAs m c cs roots mults r x u → SolvesAs m c cs roots mults s y v → (r ≡ s) × (x ≡ y) × (u ≡ v)
+solve-one m c cs roots mults r s x y u v h k = one-lists (solve-coincide m c cs roots mults) h k
 
-pub search-one : (m : ℕ) (cs list : List ℕ) (r s : LocatorFound) (x y : List ℕ)
-    → SearchesAs m cs list r x → SearchesAs m cs list s y → (r ≡ s) × (x ≡ y)
-search-one m cs list r s x y h k = one-memory (search-coincide m cs list) h k
+pub search-one : (m : ℕ) (cs roots mults : List ℕ) (r s : LocatorFound) (x y u v : List ℕ)
+    → SearchesAs m cs roots mults r x u → SearchesAs m cs roots mults s y v → (r ≡ s) × (x ≡ y) × (u ≡ v)
+search-one m cs roots mults r s x y u v h k = one-lists (search-coincide m cs roots mults) h k
 
 pub affine-one : (m : ℕ) (cs : List ℕ) (constant : ℕ) (list : List ℕ) (r s : LocatorSpace) (x y : List ℕ)
     → SpansAs m cs constant list r x → SpansAs m cs constant list s y → (r ≡ s) × (x ≡ y)

@@ -3,15 +3,15 @@
 -- Assumes nothing.
 use mathlib.Core.Path.{_≡_, refl, sym, ap, _∙_}
 use mathlib.Core.Bool.{cond}
-use mathlib.Core.List.{List}
+use mathlib.Core.List.{List, _∷_}
 use Prim.Native.Nat.{ℕ, zero, suc, _<_}
 use native.Mathlib.Nat.{not-suc-le-zero}
 use lib.Dec.{eqb}
 use Rattle.refusals.proofs.Numbers.{by-number, refused-back, accepted-back}
 use Rattle.refusals.proofs.Told.{told-by}
-use Rattle.field.specs.Quadratics.{rootsIn}
+use Rattle.field.specs.Quadratics.{rootsIn, timesIn, doubles}
 use Rattle.field.specs.declared.solver.Quadratic.{Quadratic}
-use Rattle.field.specs.declared.solver.Quadratic.the-variants.{NoRoot, One, Two}
+use Rattle.field.specs.declared.solver.Quadratic.the-variants.{NoRoot, Double, Two}
 use Rattle.field_elements.specs.declared.Roots.{Roots}
 use Rattle.field_elements.specs.declared.Roots.the-variants.{Found as Solutions, Refused as Turned}
 use Rattle.field_elements.specs.Calls.{toldAnswer, toldQuadratic}
@@ -53,19 +53,19 @@ value-by-struct = told-by (λ (a : Answer). asValue (toldAnswer a)) (λ v. v .ou
 
 rootsBack : ℕ → ℕ → ℕ → Quadratic
 rootsBack zero x y = NoRoot
-rootsBack (suc zero) x y = One x
+rootsBack (suc zero) x y = Double x
 rootsBack (suc (suc n)) x y = Two x y
 
 pairBack : LocatorPair → Roots
 pairBack p = Solutions (rootsBack (p .count) (p .lower) (p .upper))
 
-pair-back : (q : Quadratic) → pairBack (asPair (0, rootsIn q)) ≡ Solutions q
+pair-back : (q : Quadratic) → pairBack (asPair (0, doubles (timesIn q) ∷ rootsIn q)) ≡ Solutions q
 unfolding pairBack rootsBack
-pair-back = elim [ NoRoot ↦ refl | One x ↦ refl | Two x y ↦ refl ]
+pair-back = elim [ NoRoot ↦ refl | Double x ↦ refl | Two x y ↦ refl ]
 
 pub pair-by-struct : (p q : Roots) → asPair (toldQuadratic p) ≡ asPair (toldQuadratic q) → p ≡ q
 pair-by-struct = told-by (λ (q : Roots). asPair (toldQuadratic q)) (λ p. p .outcome) Turned pairBack
-    (elim [ Solutions q ↦ accepted-back Turned (pairBack (asPair (0, rootsIn q))) ∙ pair-back q | Turned k ↦ refused-back Turned _ k ])
+    (elim [ Solutions q ↦ accepted-back Turned (pairBack (asPair (0, doubles (timesIn q) ∷ rootsIn q))) ∙ pair-back q | Turned k ↦ refused-back Turned _ k ])
 
 -- ---- the whole call, the search, finish
 

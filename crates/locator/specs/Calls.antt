@@ -2,7 +2,8 @@
 -- does not have is 0, so a refusal has zeros behind its number.
 --   valueIn       the value at place i of an outcome, or 0
 --   asValue       outcome and value: product, inverse, position
---   asPair        outcome, how many roots, the lower and the upper: the quadratic. One root is the lower
+--   asPair        outcome, how many roots, the lower and the upper, and 1 where the one root is double: the quadratic.
+--                 One root is the lower
 --   asFound       outcome, how many roots, how many steps: whole call, search, finish. Search and finish take no steps
 --   asSpace       outcome, how many roots, the dimension: the affine call. No root has 0 and 0
 --   asStepped     outcome, and 1 where the table is done
@@ -13,7 +14,7 @@
 use mathlib.Core.Path.{_≡_}
 use mathlib.Core.List.{List}
 use Prim.Native.Nat.{ℕ}
-use lib.ListN.{length, getD}
+use lib.ListN.{length, getD, drop}
 use Rattle.locator.specs.declared.LocatorValue.{LocatorValue}
 use Rattle.locator.specs.declared.LocatorPair.{LocatorPair}
 use Rattle.locator.specs.declared.LocatorFound.{LocatorFound}
@@ -38,7 +39,13 @@ abbrev pub asValue : ℕ × List ℕ → LocatorValue
 asValue o = record { outcome = o .0; value = valueIn o 0 }
 
 abbrev pub asPair : ℕ × List ℕ → LocatorPair
-asPair o = record { outcome = o .0; count = length (o .1); lower = valueIn o 0; upper = valueIn o 1 }
+asPair o = record {
+  outcome = o .0;
+  count = length (drop 1 (o .1));
+  lower = valueIn o 1;
+  upper = valueIn o 2;
+  doubled = valueIn o 0;
+}
 
 abbrev pub asFound : ℕ × List ℕ → LocatorFound
 asFound o = record { outcome = o .0; count = valueIn o 0; steps = valueIn o 1 }
@@ -72,11 +79,13 @@ abbrev pub QuadraticAs : ℕ → ℕ → ℕ → LocatorPair → Type 0
 QuadraticAs m a b = As (λ x. asPair (toldQuadratic x)) (TellsQuadratic m a b)
 
 -- with lent memory afterwards
-abbrev pub SolvesAs : ℕ → ℕ → List ℕ → List ℕ → LocatorFound → List ℕ → Type 0
-SolvesAs m c cs list r after = As (λ x. asFound (toldSolved x)) (λ x. Solves m c cs list x after) r
+abbrev pub SolvesAs : ℕ → ℕ → List ℕ → List ℕ → List ℕ → LocatorFound → List ℕ → List ℕ → Type 0
+SolvesAs m c cs roots mults r after beside =
+    As (λ x. asFound (toldSolved x)) (λ x. Solves m c cs roots mults x after beside) r
 
-abbrev pub SearchesAs : ℕ → List ℕ → List ℕ → LocatorFound → List ℕ → Type 0
-SearchesAs m cs list r after = As (λ x. asFound (toldSearched x)) (λ x. Searches m cs list x after) r
+abbrev pub SearchesAs : ℕ → List ℕ → List ℕ → List ℕ → LocatorFound → List ℕ → List ℕ → Type 0
+SearchesAs m cs roots mults r after beside =
+    As (λ x. asFound (toldSearched x)) (λ x. Searches m cs roots mults x after beside) r
 
 abbrev pub SpansAs : ℕ → List ℕ → ℕ → List ℕ → LocatorSpace → List ℕ → Type 0
 SpansAs m cs constant list r after = As (λ x. asSpace (toldSpanned x)) (λ x. Spans m cs constant list x after) r

@@ -2,7 +2,7 @@
 ghost use mathlib.Core.Path.{_≡_};
 ghost use mathlib.Core.List.{[], _∷_};
 ghost use Rattle.refusals.specs.Numbers.{numberOf};
-ghost use Rattle.field.specs.Quadratics.{rootsIn};
+ghost use Rattle.field.specs.Quadratics.{rootsIn, timesIn, doubles};
 ghost use Rattle.field_elements.specs.Calls.{toldAnswer, toldQuadratic};
 ghost use Rattle.find_solve.specs.Calls.{toldSolved};
 ghost use Rattle.find_search.specs.Calls.{toldSearched};
@@ -57,6 +57,7 @@ pub fn pair_of(a: Roots) -> LocatorPair
             count: 0,
             lower: 0,
             upper: 0,
+            doubled: 0,
         },
         Roots::Found(q) => roots_of(q),
     }
@@ -64,7 +65,7 @@ pub fn pair_of(a: Roots) -> LocatorPair
 
 // Of its roots.
 fn roots_of(q: Quadratic) -> LocatorPair
-    ensures { λ r. ⌜ r ≡ asPair (0, rootsIn q) ⌝ }
+    ensures { λ r. ⌜ r ≡ asPair (0, doubles (timesIn q) ∷ rootsIn q) ⌝ }
 {
     match q {
         Quadratic::NoRoot => LocatorPair {
@@ -72,18 +73,21 @@ fn roots_of(q: Quadratic) -> LocatorPair
             count: 0,
             lower: 0,
             upper: 0,
+            doubled: 0,
         },
-        Quadratic::One(x) => LocatorPair {
+        Quadratic::Double(x) => LocatorPair {
             outcome: 0,
             count: 1,
             lower: x,
             upper: 0,
+            doubled: 1,
         },
         Quadratic::Two(x, y) => LocatorPair {
             outcome: 0,
             count: 2,
             lower: x,
             upper: y,
+            doubled: 0,
         },
     }
 }

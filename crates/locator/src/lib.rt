@@ -13,13 +13,14 @@ pub struct LocatorValue {
     pub value: u16,
 }
 
-// The quadratic's answer: how many roots, the lower first.
+// The quadratic's answer: how many roots, the lower first, and 1 where the one root is double.
 #[repr(C)]
 pub struct LocatorPair {
     pub outcome: u16,
     pub count: u16,
     pub lower: u16,
     pub upper: u16,
+    pub doubled: u16,
 }
 
 // What was found: how many roots, and in how many steps.
@@ -91,18 +92,26 @@ pub extern "C" fn locator_solve(
     coeffs: &[u16],
     cutoff: u16,
     roots: &mut [u16],
+    mults: &mut [u16],
 ) -> LocatorFound
-    ensures { λ r. ⌜ SolvesAs m cutoff (now (coeffs .entry)) (now (roots .entry)) r (now (roots .exit)) ⌝ }
+    ensures { λ r. ⌜ SolvesAs m cutoff (now (coeffs .entry)) (now (roots .entry)) (now (mults .entry))
+        r (now (roots .exit)) (now (mults .exit)) ⌝ }
 {
-    answers::solved_of(find_solve::solve(m, coeffs, cutoff, roots))
+    answers::solved_of(find_solve::solve(m, coeffs, cutoff, roots, mults))
 }
 
 // The plain search.
 #[no_mangle]
-pub extern "C" fn locator_search(m: u16, coeffs: &[u16], roots: &mut [u16]) -> LocatorFound
-    ensures { λ r. ⌜ SearchesAs m (now (coeffs .entry)) (now (roots .entry)) r (now (roots .exit)) ⌝ }
+pub extern "C" fn locator_search(
+    m: u16,
+    coeffs: &[u16],
+    roots: &mut [u16],
+    mults: &mut [u16],
+) -> LocatorFound
+    ensures { λ r. ⌜ SearchesAs m (now (coeffs .entry)) (now (roots .entry)) (now (mults .entry))
+        r (now (roots .exit)) (now (mults .exit)) ⌝ }
 {
-    answers::searched_of(find_search::search(m, coeffs, roots))
+    answers::searched_of(find_search::search(m, coeffs, roots, mults))
 }
 
 // The roots of an affine polynomial.

@@ -15,7 +15,7 @@ fn quadratic_roots(m: u16, halves: &[u16], a: u16, b: u16, out: &mut [u16]) -> u
     let poly = poly_of(m);
     match quadratic_of(m, poly, halves, a, b) {
         Quadratic::NoRoot => 0,
-        Quadratic::One(x) => {
+        Quadratic::Double(x) => {
             out[0] = x;
             1
         }

@@ -14,6 +14,7 @@ pub mod Scanning
 -- the known fields; a step keeps every sound table sound; where it writes
 pub mod Fields
 pub mod Polynomials
+pub mod RootMemory
 pub mod Keeping
 pub mod Places
 -- begun tables and DEMAND 3

@@ -1,16 +1,19 @@
 -- Which polynomials are accepted, and what is known of them.
 --   polynomial-told             what a polynomial that passed the five tests is
 --   roots-few                   it has no more roots than the limit
+--   nonzero-place               it has a coefficient that is not 0
 --   passed-more                 where the five pass, the tests that follow decide: by a pass
 --   passed-first, passed-rest   and where all pass, the five and those that follow do
 -- Assumes nothing.
 use mathlib.Core.Path.{_≡_, refl, sym, _∙_}
-use mathlib.Core.Bool.{Bool, true, false}
+use mathlib.Core.Logic.{_≢_}
+use mathlib.Core.Bool.{Bool, true, false, _&&_}
 use mathlib.Core.Option.{Option, none, some}
-use mathlib.Core.List.{List, []}
+use mathlib.Core.List.{List, [], _∷_}
 use Prim.Native.Nat.{ℕ, suc, _≤_, _^_}
 use native.Mathlib.Omega.{arith}
 use borrow.Author.Tests.{eqb-false, ltb-false, not-false}
+use lib.Dec.{ltb}
 use lib.ListN.{length, getD}
 use Rattle.algebra.specs.Field.{OnNumbers}
 use Rattle.algebra.specs.Routines.{norm}
@@ -56,6 +59,19 @@ roots-few {m} {f} t = go (norm (G m) (length f) f) refl
         let o : _≡_ {A = ℕ} 0 1 = cc in
         absurd (let x : ⊥ = omega arith in x)
     go (some s) e = omega (arith, rootsOf-degree N f (t .small) e, norm-made N f (t .small) e .shorter, t .few)
+
+-- it has a coefficient that is not 0
+pub nonzero-place : {m : ℕ} {f : List ℕ} → PolynomialIn m f → (j : ℕ) × (getD f j 0 ≢ 0)
+unfolding allBelow
+nonzero-place {m} {f} t = go f (t .nonzero)
+  where
+    go : (l : List ℕ) → allZero l ≡ false → (j : ℕ) × (getD l j 0 ≢ 0)
+    go [] e = let x : _≡_ {A = ℕ} 0 1 = cc in absurd (omega arith)
+    go (x ∷ l) e = at (ltb x 1) refl e (go l)
+      where
+        at : (b : Bool) → ltb x 1 ≡ b → (b && allBelow 1 l) ≡ false → (allBelow 1 l ≡ false → (j : ℕ) × (getD l j 0 ≢ 0)) → (j : ℕ) × (getD (x ∷ l) j 0 ≢ 0)
+        at true t f rec = let r = rec f in (suc (r .0), r .1)
+        at false t f rec = (0, λ z. omega (arith, ltb-false x 1 t))
 
 -- ---- further tests behind the five
 

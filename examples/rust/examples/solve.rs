@@ -8,15 +8,28 @@ fn listed(numbers: &[u16]) -> String {
 
 /// The line of a whole call: outcome, and where it is 0 the number of roots, of steps, and the roots.
 fn solve(what: &str, m: u16, coeffs: &[u16], cutoff: u16) {
-    match locator::solve(m, coeffs, cutoff, &mut [0; ROOTS]) {
+    match locator::solve(m, coeffs, cutoff, &mut [0; ROOTS], &mut [0; ROOTS]) {
         Ok(found) => println!(
             "{what}: 0 {} {}{}",
-            found.roots.len(),
+            found.roots.distinct.len(),
             found.steps,
-            listed(found.roots)
+            listed(found.roots.distinct)
         ),
         Err(refusal) => println!("{what}: {}", refusal.number()),
     }
+}
+
+/// The roots, each with its multiplicity.
+fn repeated(what: &str, m: u16, coeffs: &[u16]) -> Result<(), Refusal> {
+    let (mut roots, mut mults) = ([0; ROOTS], [0; ROOTS]);
+    let found = locator::solve(m, coeffs, 0, &mut roots, &mut mults)?;
+    let pairs: String = found
+        .roots
+        .pairs()
+        .map(|(r, e)| format!(" {r} times {e}"))
+        .collect();
+    println!("{what}:{pairs}");
+    Ok(())
 }
 
 /// The slots of a table up to its last that is not 0.
@@ -50,11 +63,15 @@ fn main() -> Result<(), Refusal> {
     solve("z^3+1", 4, &unity, 0);
     solve("z^16+z", 4, &all, 0);
     split(4, &cubic, 1)?;
-    let mut list = [0; ROOTS];
-    let seen = locator::search(4, &unity, &mut list)?;
+    repeated("z^2 (z+3)^3", 4, &[0, 0, 15, 5, 3, 1])?;
+    let (mut list, mut mults) = ([0; ROOTS], [0; ROOTS]);
+    let seen = locator::search(4, &unity, &mut list, &mut mults)?.distinct;
     println!("searched: 0 {}{}", seen.len(), listed(seen));
     if let Pair::Two(lower, upper) = locator::quadratic(4, 1, 6)? {
         println!("z^2+z+6: 0 2 {lower} {upper}");
+    }
+    if let Pair::Double(root) = locator::quadratic(4, 0, 2)? {
+        println!("z^2+2: 0 1 {root} double");
     }
     println!(
         "places of 3: Goppa {} recorders {}",
@@ -68,7 +85,7 @@ fn main() -> Result<(), Refusal> {
     solve("cutoff 4", 4, &cubic, 4);
     println!(
         "31 slots: {}",
-        outcome(locator::solve(4, &cubic, 1, &mut [0; ROOTS - 1]))
+        outcome(locator::solve(4, &cubic, 1, &mut [0; ROOTS], &mut [0; ROOTS - 1]))
     );
     println!("inverse of 0: {}", outcome(locator::inverse(4, 0)));
     Ok(())

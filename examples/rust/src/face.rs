@@ -13,6 +13,7 @@ pub struct Pair {
     pub count: u16,
     pub lower: u16,
     pub upper: u16,
+    pub doubled: u16,
 }
 
 #[repr(C)]
@@ -53,8 +54,18 @@ extern "C" {
         cutoff: u16,
         roots: *mut u16,
         room: usize,
+        mults: *mut u16,
+        mult_room: usize,
     ) -> Found;
-    fn locator_search(m: u16, coeffs: *const u16, n: usize, roots: *mut u16, room: usize) -> Found;
+    fn locator_search(
+        m: u16,
+        coeffs: *const u16,
+        n: usize,
+        roots: *mut u16,
+        room: usize,
+        mults: *mut u16,
+        mult_room: usize,
+    ) -> Found;
     fn locator_affine(
         m: u16,
         coeffs: *const u16,
@@ -92,7 +103,13 @@ pub fn quadratic(m: u16, a: u16, b: u16) -> Pair {
     unsafe { locator_quadratic(m, a, b) }
 }
 
-pub fn solve(m: u16, coeffs: &[u16], cutoff: u16, roots: &mut [u16]) -> Found {
+pub fn solve(
+    m: u16,
+    coeffs: &[u16],
+    cutoff: u16,
+    roots: &mut [u16],
+    mults: &mut [u16],
+) -> Found {
     unsafe {
         locator_solve(
             m,
@@ -101,11 +118,13 @@ pub fn solve(m: u16, coeffs: &[u16], cutoff: u16, roots: &mut [u16]) -> Found {
             cutoff,
             roots.as_mut_ptr(),
             roots.len(),
+            mults.as_mut_ptr(),
+            mults.len(),
         )
     }
 }
 
-pub fn search(m: u16, coeffs: &[u16], roots: &mut [u16]) -> Found {
+pub fn search(m: u16, coeffs: &[u16], roots: &mut [u16], mults: &mut [u16]) -> Found {
     unsafe {
         locator_search(
             m,
@@ -113,6 +132,8 @@ pub fn search(m: u16, coeffs: &[u16], roots: &mut [u16]) -> Found {
             coeffs.len(),
             roots.as_mut_ptr(),
             roots.len(),
+            mults.as_mut_ptr(),
+            mults.len(),
         )
     }
 }

@@ -98,14 +98,33 @@ pub enum Convention {
 #[derive(Clone, Copy, Debug, PartialEq, Eq)]
 pub enum Pair {
     None,
-    One(u16),
+    /// One root, double.
+    Double(u16),
     Two(u16, u16),
 }
 
-/// What the whole call finds: the roots, ascending, at the front of the list that was lent, and the number of steps.
+/// The distinct roots of a polynomial, ascending, and the multiplicity of each at the same place: the fronts of the two
+/// lists that were lent.
+#[derive(Clone, Copy, Debug, PartialEq, Eq)]
+pub struct Roots<'a> {
+    pub distinct: &'a [u16],
+    pub multiplicities: &'a [u16],
+}
+
+impl<'a> Roots<'a> {
+    /// Each root r with its multiplicity, the largest e for which (z + r)^e divides the polynomial.
+    pub fn pairs(self) -> impl Iterator<Item = (u16, u16)> + 'a {
+        self.distinct
+            .iter()
+            .copied()
+            .zip(self.multiplicities.iter().copied())
+    }
+}
+
+/// What the whole call finds: the roots, and the number of steps.
 #[derive(Clone, Copy, Debug, PartialEq, Eq)]
 pub struct Solved<'a> {
-    pub roots: &'a [u16],
+    pub roots: Roots<'a>,
     pub steps: u16,
 }
 
@@ -166,12 +185,12 @@ pub fn quadratic(m: u16, a: u16, b: u16) -> Result<Pair, Refusal> {
     let p = face::quadratic(m, a, b);
     accepted(p.outcome).map(|()| match p.count {
         0 => Pair::None,
-        1 => Pair::One(p.lower),
+        1 => Pair::Double(p.lower),
         _ => Pair::Two(p.lower, p.upper),
     })
 }
 
-/// All distinct roots, by splitting along the trace. A decoder must compare their number with the degree of its
+/// All distinct roots with their multiplicities, by splitting along the trace. A decoder must compare their number with the degree of its
 /// locator: a polynomial is, up to a constant factor, the locator of a set of places exactly if it has as many distinct
 /// roots as its degree, none of them 0. With fewer the word has more bad bits than its code corrects, and the places
 /// mean nothing.
@@ -180,20 +199,34 @@ pub fn solve<'a>(
     coeffs: &[u16],
     cutoff: u16,
     roots: &'a mut [u16],
+    mults: &'a mut [u16],
 ) -> Result<Solved<'a>, Refusal> {
-    let found = face::solve(m, coeffs, cutoff, roots);
+    let found = face::solve(m, coeffs, cutoff, roots, mults);
     accepted(found.outcome)?;
     Ok(Solved {
-        roots: &roots[..found.count.into()],
+        roots: fronts(roots, mults, found.count.into()),
         steps: found.steps,
     })
 }
 
-/// All distinct roots, by trying every element.
-pub fn search<'a>(m: u16, coeffs: &[u16], roots: &'a mut [u16]) -> Result<&'a [u16], Refusal> {
-    let found = face::search(m, coeffs, roots);
+/// All distinct roots with their multiplicities, by trying every element.
+pub fn search<'a>(
+    m: u16,
+    coeffs: &[u16],
+    roots: &'a mut [u16],
+    mults: &'a mut [u16],
+) -> Result<Roots<'a>, Refusal> {
+    let found = face::search(m, coeffs, roots, mults);
     accepted(found.outcome)?;
-    Ok(&roots[..found.count.into()])
+    Ok(fronts(roots, mults, found.count.into()))
+}
+
+/// The fronts of two lists.
+fn fronts<'a>(roots: &'a [u16], mults: &'a [u16], count: usize) -> Roots<'a> {
+    Roots {
+        distinct: &roots[..count],
+        multiplicities: &mults[..count],
+    }
 }
 
 /// The roots of the affine polynomial constant + coeffs[0] z + coeffs[1] z^2 + coeffs[2] z^4 + .. up to z^(2^(m-1)): m

@@ -52,10 +52,11 @@ fn a_locator_gives_back_its_places_under_its_convention() {
         (goppa, Convention::Goppa),
         (recorders, Convention::Recorders),
     ] {
-        let mut list = [0; ROOTS];
-        let found = solve(11, &multiplied(11, &factors), 0, &mut list).unwrap();
+        let (mut list, mut mults) = ([0; ROOTS], [0; ROOTS]);
+        let found = solve(11, &multiplied(11, &factors), 0, &mut list, &mut mults).unwrap();
         let mut given: Vec<u16> = found
             .roots
+            .distinct
             .iter()
             .map(|&r| position(11, r, convention).unwrap())
             .collect();
@@ -65,27 +66,52 @@ fn a_locator_gives_back_its_places_under_its_convention() {
 }
 
 #[test]
-fn quadratics_have_none_one_or_two_roots() {
+fn quadratics_have_none_a_double_or_two_roots() {
     assert_eq!(quadratic(4, 1, 8), Ok(Pair::None));
-    assert_eq!(quadratic(4, 0, 2), Ok(Pair::One(5)));
+    assert_eq!(quadratic(4, 0, 2), Ok(Pair::Double(5)));
     assert_eq!(quadratic(4, 1, 6), Ok(Pair::Two(2, 3)));
-    assert_eq!(quadratic(4, 0, 0), Ok(Pair::One(0)));
+    assert_eq!(quadratic(4, 0, 0), Ok(Pair::Double(0)));
 }
 
 #[test]
 fn the_engines_agree_and_write_the_roots_only() {
-    let (mut list, mut seen) = ([999; 40], [999; 40]);
-    let found = solve(4, &CUBIC, 1, &mut list).unwrap();
-    assert_eq!(
-        found,
-        Solved {
-            roots: &[1, 2, 3],
-            steps: 4
-        }
-    );
-    assert_eq!(search(4, &CUBIC, &mut seen), Ok(&[1, 2, 3][..]));
-    assert_eq!(list, seen);
+    let (mut list, mut mults) = ([999; 40], [888; 40]);
+    let (mut seen, mut counted) = ([999; 40], [888; 40]);
+    let roots = Roots {
+        distinct: &[1, 2, 3],
+        multiplicities: &[1, 1, 1],
+    };
+    let found = solve(4, &CUBIC, 1, &mut list, &mut mults).unwrap();
+    assert_eq!(found, Solved { roots, steps: 4 });
+    assert_eq!(search(4, &CUBIC, &mut seen, &mut counted), Ok(roots));
+    assert_eq!((list, mults), (seen, counted));
     assert!(list[3..].iter().all(|&x| x == 999));
+    assert!(mults[3..].iter().all(|&x| x == 888));
+}
+
+#[test]
+fn repeated_roots_have_their_multiplicity() {
+    let shapes: [&[(u16, u16)]; 4] = [
+        &[(7, 32)],
+        &[(0, 2), (3, 3)],
+        &[(1, 1), (5, 16), (9, 15)],
+        &[(0, 31), (2, 1)],
+    ];
+    for m in [4, 8, 11] {
+        for shape in shapes {
+            let factors: Vec<(u16, u16)> = shape
+                .iter()
+                .flat_map(|&(r, e)| (0..e).map(move |_| (r, 1)))
+                .collect();
+            let coeffs = multiplied(m, &factors);
+            let (mut list, mut mults) = ([0; ROOTS], [0; ROOTS]);
+            let found = solve(m, &coeffs, 0, &mut list, &mut mults).unwrap();
+            assert_eq!(found.roots.pairs().collect::<Vec<_>>(), shape);
+            let (mut list, mut mults) = ([0; ROOTS], [0; ROOTS]);
+            let seen = search(m, &coeffs, &mut list, &mut mults).unwrap();
+            assert_eq!(seen.pairs().collect::<Vec<_>>(), shape);
+        }
+    }
 }
 
 #[test]
@@ -100,7 +126,9 @@ fn steps_until_done_give_the_whole_call() {
         assert_eq!((taken, table[3]), (steps, steps));
         assert_eq!(finish(&table, &mut list), Ok(&[1, 2, 3][..]));
         assert_eq!(
-            solve(4, &CUBIC, cutoff, &mut [0; ROOTS]).unwrap().steps,
+            solve(4, &CUBIC, cutoff, &mut [0; ROOTS], &mut [0; ROOTS])
+                .unwrap()
+                .steps,
             steps
         );
     }
@@ -108,7 +136,7 @@ fn steps_until_done_give_the_whole_call() {
 
 #[test]
 fn every_refusal_has_its_number_and_writes_nothing() {
-    let mut list = [999; ROOTS];
+    let (mut list, mut mults) = ([999; ROOTS], [888; ROOTS]);
     let calls: [(u16, &[u16], u16); 6] = [
         (1120, &CUBIC, 0),
         (4, &[], 0),
@@ -119,12 +147,18 @@ fn every_refusal_has_its_number_and_writes_nothing() {
     ];
     for (i, (m, coeffs, cutoff)) in calls.into_iter().enumerate() {
         assert_eq!(
-            solve(m, coeffs, cutoff, &mut list).unwrap_err().number(),
+            solve(m, coeffs, cutoff, &mut list, &mut mults)
+                .unwrap_err()
+                .number(),
             i as u16 + 1
         );
-        assert_eq!(list, [999; ROOTS]);
+        assert_eq!((list, mults), ([999; ROOTS], [888; ROOTS]));
     }
-    assert_eq!(solve(4, &CUBIC, 0, &mut list[..31]), Err(Refusal::Room));
+    for (room, mult_room) in [(31, 32), (32, 31), (31, 31)] {
+        let (roots, mults) = (&mut list[..room], &mut mults[..mult_room]);
+        assert_eq!(solve(4, &CUBIC, 0, roots, mults), Err(Refusal::Room));
+        assert_eq!(search(4, &CUBIC, roots, mults), Err(Refusal::Room));
+    }
     assert_eq!(begin(4, &CUBIC, 0, &mut [0; 99]), Err(Refusal::Room));
     assert_eq!(step(&mut [0; SLOTS]), Err(Refusal::Unsound));
     let mut stuck = [0; SLOTS];
@@ -136,7 +170,7 @@ fn every_refusal_has_its_number_and_writes_nothing() {
         assert_eq!(position(4, 16, convention), Err(Refusal::Element));
         assert_eq!(position(4, 0, convention), Err(Refusal::OfZero));
     }
-    assert_eq!(list, [999; ROOTS]);
+    assert_eq!((list, mults), ([999; ROOTS], [888; ROOTS]));
 }
 
 #[test]

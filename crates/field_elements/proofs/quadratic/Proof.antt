@@ -1,9 +1,10 @@
 -- `field_elements::quadratic` meets its contract: the tests decide, and the value is that of the shared routine.
 -- Assumes nothing.
-use mathlib.Core.Path.{sym, ap, _∙_}
-use mathlib.Core.List.{List}
+use mathlib.Core.Path.{sym, ap, ap₂, _∙_}
+use mathlib.Core.List.{List, _∷_}
 use Prim.Native.Nat.{ℕ}
 use borrow.Author.Needs.{needs}
+use Rattle.field.specs.Quadratics.{doubles}
 use Rattle.refusals.proofs.Admitting.{let-in, turned-away}
 use Rattle.field_elements.proofs.Admitting.{pair-told}
 use Rattle.refusals.proofs.Order.{refused, accepted}
@@ -28,7 +29,9 @@ returns c = sym (refused _ (turned-away (c .before .before .before .admit-pair .
 
 returns-2 : tie.Need-returns-2
 returns-2 c =
-    let i = let-in (c .before .before .before .admit-pair .ensures) (c .before .enum-told .given .1) in ap (λ (l : List ℕ). (0, l)) (c .roots-in .ensures) ∙ sym (accepted _ i)
+    let i = let-in (c .before .before .before .admit-pair .ensures) (c .before .enum-told .given .1) in
+    let o = c .roots-in .ensures in
+    ap₂ (λ (d : ℕ) (l : List ℕ). (0, d ∷ l)) (ap doubles (o .times)) (o .roots) ∙ sym (accepted _ i)
 
 pub quadratic-spec : {M : Type 1} → statement M
 quadratic-spec = tie.close (tie.spec admit-pair-requires enum-known-k enum-told roots-in-requires returns returns-2)

@@ -13,8 +13,11 @@ solved-of-requires c κs = search needs
 same-length : tie.Need-same-length
 same-length c = search needs
 
+same-length-2 : tie.Need-same-length-2
+same-length-2 c = search needs
+
 returns : tie.Need-returns
-returns c = let call = c .before .before .before .solve in record { answer = call .result; admitted = call .ensures; told = c .solved-of .ensures }
+returns c = let call = c .before .before .before .before .before .solve in record { answer = call .result; admitted = call .ensures; told = c .solved-of .ensures }
 
 pub locator-solve-spec : {M : Type 1} → statement M
-locator-solve-spec = tie.close (tie.spec solve-requires solved-of-requires same-length returns)
+locator-solve-spec = tie.close (tie.spec solve-requires solved-of-requires same-length same-length-2 returns)

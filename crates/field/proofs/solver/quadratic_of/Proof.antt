@@ -1,6 +1,6 @@
 -- `field::solver::quadratic_of` meets its contract, by the laws of the solutions of x^2 + x = b / a^2.
 -- Assumes nothing.
-use mathlib.Core.Path.{_≡_, sym, _∙_}
+use mathlib.Core.Path.{_≡_, _∙_}
 use Prim.Native.Nat.{ℕ, _-_, _<_, _≤_, _^_}
 use native.Mathlib.Omega.{arith}
 use lib.Bits.{xor-lt}
@@ -10,7 +10,8 @@ use Rattle.field.specs.Powers.{turned, raisedBy}
 use Rattle.field.proofs.Generator.{generated, small, product-asks, mul-inverse}
 use Rattle.field.proofs.Ring.{mul-comm}
 use Rattle.field.proofs.Raising.{raisedBy-lt, raised-squared}
-use Rattle.field.proofs.Solutions.{one-root, answer-none, answer-up, answer-down, solution}
+use Rattle.field.proofs.Solutions.{answer-none, answer-up, answer-down, solution}
+use Rattle.field.proofs.Doubles.{solved-none, solved-double, solved-two}
 use borrow.Author.Needs.{needs}
 use Rattle.field.proofs.solver.quadratic_of.Statement.{statement}
 use Rattle.field.proofs.solver.quadratic_of.Tie as tie
@@ -36,7 +37,7 @@ root-of-requires : tie.Need-root-of-requires
 root-of-requires c κs = search needs
 
 returns : tie.Need-returns
-returns c = sym (one-root _ (generated (c .before .before .before .pre .0)) (c .before .if1 .taken) (c .before .before .before .pre .3) (c .root-of .ensures .0) (c .root-of .ensures .1))
+returns c = solved-double _ (generated (c .before .before .before .pre .0)) (c .before .if1 .taken) (c .before .before .before .pre .3) (c .root-of .ensures .0) (c .root-of .ensures .1)
 
 raised-requires : tie.Need-raised-requires
 raised-requires c κs = search needs
@@ -58,8 +59,8 @@ returns-2 c =
     let n = c .before .before .before .if1 .left in
     let e = c .before .before .raised .ensures in
     let h = quotient-lt _ _ (p .0) (p .3) e in
-    sym (answer-none _ (generated (p .0)) _ _ _ (p .2) (p .3) (inverse-times _ (p .0) n (p .2)) _ h (quotient-root _ _ (p .0) n (p .2) (p .3) e)
-    (p .1 .entry _ h) (marked (p .0)) (c .if2 .taken))
+    solved-none _ (generated (p .0)) (answer-none _ (generated (p .0)) _ _ _ (p .2) (p .3) (inverse-times _ (p .0) n (p .2)) _ h
+    (quotient-root _ _ (p .0) n (p .2) (p .3) e) (p .1 .entry _ h) (marked (p .0)) (c .if2 .taken))
 
 product-of-requires : tie.Need-product-of-requires
 product-of-requires c κs =
@@ -73,8 +74,8 @@ returns-3 c =
     let n = c .before .before .before .before .before .if1 .left in
     let e = c .before .before .before .before .raised .ensures in
     let h = quotient-lt _ _ (p .0) (p .3) e in
-    sym (answer-up _ (generated (p .0)) _ _ _ (p .2) (p .3) (inverse-times _ (p .0) n (p .2)) _ h (quotient-root _ _ (p .0) n (p .2) (p .3) e)
-    (p .1 .entry _ h) (c .before .before .if2 .left) (c .before .product-of .ensures) (c .if3 .taken))
+    solved-two _ (generated (p .0)) (p .2) (p .3) (answer-up _ (generated (p .0)) _ _ _ (p .2) (p .3) (inverse-times _ (p .0) n (p .2)) _ h
+    (quotient-root _ _ (p .0) n (p .2) (p .3) e) (p .1 .entry _ h) (c .before .before .if2 .left) (c .before .product-of .ensures) (c .if3 .taken))
 
 returns-4 : tie.Need-returns-4
 returns-4 c =
@@ -82,8 +83,9 @@ returns-4 c =
     let n = c .before .before .before .before .before .if1 .left in
     let e = c .before .before .before .before .raised .ensures in
     let h = quotient-lt _ _ (p .0) (p .3) e in
-    sym (answer-down _ (generated (p .0)) _ _ _ (p .2) (p .3) (inverse-times _ (p .0) n (p .2)) _ h (quotient-root _ _ (p .0) n (p .2) (p .3) e)
-    (p .1 .entry _ h) (c .before .before .if2 .left) (c .before .product-of .ensures) (omega arith) (let k = c .if3 .left in omega arith))
+    solved-two _ (generated (p .0)) (p .2) (p .3) (answer-down _ (generated (p .0)) _ _ _ (p .2) (p .3) (inverse-times _ (p .0) n (p .2)) _ h
+    (quotient-root _ _ (p .0) n (p .2) (p .3) e) (p .1 .entry _ h) (c .before .before .if2 .left) (c .before .product-of .ensures) (omega arith)
+    (let k = c .if3 .left in omega arith))
 
 pub quadratic-of-spec : {M : Type 1} → statement M
 quadratic-of-spec =

@@ -4,7 +4,7 @@ use mathlib.Core.Path.{_≡_, sym, subst}
 use Prim.Native.Nat.{ℕ, _<_, _^_}
 use Rattle.field.proofs.Known.{last-row}
 use Rattle.field.specs.Field.{fieldAt}
-use Rattle.field.specs.Quadratics.{rootsIn, rootsOfQuadratic}
+use Rattle.field.specs.Quadratics.{SolvesQuadratic}
 use Rattle.field.specs.declared.solver.Quadratic.{Quadratic}
 use Rattle.field_tables.proofs.field_types.roots_in.Statement.{statement}
 use Rattle.field_tables.proofs.field_types.roots_in.Tie as tie
@@ -12,8 +12,8 @@ use Rattle.field_tables.proofs.field_types.roots_in.Tie as tie
 within : {m n : ℕ} (a b : ℕ) → m ≡ n → (a < 2 ^ m) × (b < 2 ^ m) → (a < 2 ^ n) × (b < 2 ^ n)
 within a b e h = subst (λ (k : ℕ). (a < 2 ^ k) × (b < 2 ^ k)) e h
 
-carried : {m n : ℕ} (a b : ℕ) (r : Quadratic) → m ≡ n → rootsIn r ≡ rootsOfQuadratic (fieldAt n) a b → rootsIn r ≡ rootsOfQuadratic (fieldAt m) a b
-carried a b r e h = subst (λ (k : ℕ). rootsIn r ≡ rootsOfQuadratic (fieldAt k) a b) (sym e) h
+carried : {m n : ℕ} (a b : ℕ) (r : Quadratic) → m ≡ n → SolvesQuadratic (fieldAt n) a b r → SolvesQuadratic (fieldAt m) a b r
+carried a b r e h = subst (λ (k : ℕ). SolvesQuadratic (fieldAt k) a b r) (sym e) h
 
 roots-requires : tie.Need-roots-requires
 roots-requires c κs = within _ _ (c .match .keys1) (c .before .pre .1, c .before .pre .2)

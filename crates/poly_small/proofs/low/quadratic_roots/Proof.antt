@@ -30,19 +30,19 @@ slice-write-out-3 : tie.Need-slice-write-out-3
 slice-write-out-3 c = search needs
 
 returns : tie.Need-returns
-returns c = front-none _ (quadratic-list _ _ _ (c .before .before .before .poly-of .ensures) (c .before .before .quadratic-of .ensures) (c .enum-told .given .1))
+returns c = front-none _ (quadratic-list _ _ _ (c .before .before .before .poly-of .ensures) (c .before .before .quadratic-of .ensures .roots) (c .enum-told .given .1))
 
 same-length : tie.Need-same-length
 same-length c = search needs
 
 returns-2 : tie.Need-returns-2
-returns-2 c = quadratic-one-root _ (c .before .before .before .before .before .before .before .pre) (quadratic-list _ _ _ (c .before .before .before .before .poly-of .ensures) (c .before .before .before .quadratic-of .ensures) (c .before .x .given .1))
+returns-2 c = quadratic-one-root _ (c .before .before .before .before .before .before .before .pre) (quadratic-list _ _ _ (c .before .before .before .before .poly-of .ensures) (c .before .before .before .quadratic-of .ensures .roots) (c .before .x .given .1))
 
 same-length-2 : tie.Need-same-length-2
 same-length-2 c = search needs
 
 returns-3 : tie.Need-returns-3
-returns-3 c = quadratic-two-roots _ _ (c .before .before .before .before .before .before .before .pre) (quadratic-list _ _ _ (c .before .before .before .before .poly-of .ensures) (c .before .before .before .quadratic-of .ensures) (c .before .x2 .given .1))
+returns-3 c = quadratic-two-roots _ _ (c .before .before .before .before .before .before .before .pre) (quadratic-list _ _ _ (c .before .before .before .before .poly-of .ensures) (c .before .before .before .quadratic-of .ensures .roots) (c .before .x2 .given .1))
 
 pub quadratic-roots-spec : {M : Type 1} → statement M
 quadratic-roots-spec =
