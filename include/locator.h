@@ -8,8 +8,8 @@
    coefficients, bit 0 the constant; a is the element 2.
 
    POLYNOMIALS. n coefficients, the constant first, n from 1 to 33. Zeros at the top are allowed. The cutoff is 1, 2 or 3, or 0 for the house
-   default, which is 2; the roots do not depend on it. An affine polynomial, with terms at z^(2^i) and a constant alone, has a call of its own, and m
-   coefficients beside its constant.
+   default, which is 3; the roots do not depend on it, the number of steps does. An affine polynomial, with terms at z^(2^i) and a constant alone,
+   has a call of its own, and m coefficients beside its constant.
 
    OUTCOMES. 0: accepted. Any other is the number under which the input was turned away:
        1  there is no field of degree m          6  the cutoff is above 3

@@ -113,7 +113,7 @@ static void chien(void *of)
     job->count = s;
 }
 
-/* solve1 and solve3 are the whole call at cutoffs 1 and 3; solve is at 2, the house default. */
+/* solve1, solve and solve3 are the whole call at cutoffs 1, 2 and 3. */
 static const struct finder finders[] = {
     {"solve", true, start_ours, prepare_job, solve_2, job_roots},
     {"solve1", true, start_ours, prepare_job, solve_1, job_roots},

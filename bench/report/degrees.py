@@ -82,7 +82,7 @@ made this section and degrees.svg on {about['date']}, at commit {about['commit']
 
 - Where: {about['where']}.
 - C: {about['compiler']}. lib/bch.c: {about['bch']}, in its usual build, and compiled for m = 11, t = 64 alone (constant).
-- Field 11; 64 polynomials of each degree, with as many distinct nonzero roots. The whole call is at cutoff 2, the house default.
+- Field 11; 64 polynomials of each degree, with as many distinct nonzero roots. The whole call is at cutoff 2; the house default is 3.
 {chr(10).join(sentences(run))}
 
 {counted}

@@ -102,7 +102,7 @@ made this page and benchmark.svg on {about['date']}.
 - C: {about['compiler']}. lib/bch.c: {about['bch']}. FLINT (fq_zech_poly_roots): {about['flint'] or 'not to be had'}.
 - Everything is compiled for x86-64 and runs in one process, on the same 64 polynomials of each kind, drawn from a fixed seed. Split ones have as many
   distinct nonzero roots as their degree; dense ones have random coefficients.
-- The whole call is at cutoff 2, the house default, where no other is named. Peers hold their tables in memory; each of our calls copies its own.
+- The whole call is at cutoff 2 where no other is named; the house default is 3. Peers hold their tables in memory; each of our calls copies its own.
 
 ![instructions a polynomial, by field and degree](benchmark.svg)
 

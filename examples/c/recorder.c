@@ -50,7 +50,7 @@ static uint16_t places_of(uint16_t m, const uint16_t *roots, size_t count, uint1
 static void print_word(uint16_t m, const uint16_t *coeffs, size_t n)
 {
     uint16_t roots[LOCATOR_ROOTS], mults[LOCATOR_ROOTS], places[LOCATOR_ROOTS];
-    locator_found found = locator_solve(m, coeffs, n, 0, roots, LOCATOR_ROOTS, mults, LOCATOR_ROOTS);
+    locator_found found = locator_solve(m, coeffs, n, 2, roots, LOCATOR_ROOTS, mults, LOCATOR_ROOTS);
     if (found.outcome != 0) {
         printf("refused under %u: %s\n", found.outcome, reason(found.outcome));
         return;

@@ -22,7 +22,7 @@ static void solve(const char *what, uint16_t m, const uint16_t *coeffs, size_t n
 static void repeated(const char *what, uint16_t m, const uint16_t *coeffs, size_t n)
 {
     uint16_t roots[LOCATOR_ROOTS], mults[LOCATOR_ROOTS];
-    locator_found found = locator_solve(m, coeffs, n, 0, roots, LOCATOR_ROOTS, mults, LOCATOR_ROOTS);
+    locator_found found = locator_solve(m, coeffs, n, 2, roots, LOCATOR_ROOTS, mults, LOCATOR_ROOTS);
     printf("%s:", what);
     for (size_t i = 0; i < found.count; i++)
         printf(" %u times %u", roots[i], mults[i]);
@@ -67,8 +67,8 @@ int main(void)
     uint16_t all[17] = {0, 1}, roots[LOCATOR_ROOTS], mults[LOCATOR_ROOTS];
     all[16] = 1;
     solve("z^3+7z+6", 4, cubic, 4, 1);
-    solve("z^3+1", 4, unity, 4, 0);
-    solve("z^16+z", 4, all, 17, 0);
+    solve("z^3+1", 4, unity, 4, 2);
+    solve("z^16+z", 4, all, 17, 2);
     split(4, cubic, 4, 1);
     repeated("z^2 (z+3)^3", 4, powers, 6);
     locator_found seen = locator_search(4, unity, 4, roots, LOCATOR_ROOTS, mults, LOCATOR_ROOTS);

@@ -92,7 +92,7 @@ static void line(unsigned k, unsigned m, unsigned cutoff, const uint16_t *f, siz
     print("%u ", k);
     print("%u", out);
     if (out == 0) {
-        unsigned count = all_roots(m, f, n, roots), steps = count_steps(m, cutoff == 0 ? 2 : cutoff, roots, count);
+        unsigned count = all_roots(m, f, n, roots), steps = count_steps(m, cutoff == 0 ? 3 : cutoff, roots, count);
         print(" %u", count);
         print(" %u", steps);
         for (unsigned i = 0; i < count; i++)

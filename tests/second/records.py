@@ -44,14 +44,14 @@ class Maker:
 
     def good(self):
         m = self.rng.choice(field.DEGREES)
-        return record(m, self.rng.randrange(4), self.makers[m].polynomial())
+        return record(m, tables.drawn_cutoff(self.rng), self.makers[m].polynomial())
 
     def quick(self):
         """An accepted record of field 4 or a constant, cheap to search."""
         rng = self.rng
         if rng.randrange(2):
-            return record(rng.choice(field.DEGREES), rng.randrange(4), [1 + rng.randrange(15)])
-        return record(4, rng.randrange(4), self.makers[4].polynomial())
+            return record(rng.choice(field.DEGREES), tables.drawn_cutoff(rng), [1 + rng.randrange(15)])
+        return record(4, tables.drawn_cutoff(rng), self.makers[4].polynomial())
 
     def refused(self):
         """A complete record with a refusal, or with several."""
@@ -59,7 +59,7 @@ class Maker:
         m = rng.choice(field.DEGREES)
         q = field.size(m)
         f = self.makers[m].polynomial()
-        cutoff = rng.randrange(4)
+        cutoff = tables.drawn_cutoff(rng)
         for _ in range(rng.choice((1, 1, 2, 3))):
             shape = rng.randrange(7)
             if shape == 0:
@@ -97,7 +97,7 @@ class Maker:
         if (length - len(data)) % 2 == 0:  # each record is odd in length
             data += nine
         n = (length - len(data) - 5) // 2
-        return data + record(4, 0, [self.rng.randrange(16) for _ in range(n)])
+        return data + record(4, 2, [self.rng.randrange(16) for _ in range(n)])
 
     def damaged(self, data):
         """A few bytes changed, taken out or put in."""
@@ -188,7 +188,7 @@ class Maker:
         # bodies that hold records: who skips a head alone reads them
         inner = record(4, 1, [6, 7, 0, 1])
         for m in (4, 8, 11, 5):
-            for cutoff in (0, 3, 4):
+            for cutoff in (2, 3, 4):
                 for repeats in (1, 2, 3, 5, 6, 30):
                     body = (inner * repeats)[:510]
                     words = [body[i] | body[i + 1] << 8 for i in range(0, len(body) - 1, 2)]

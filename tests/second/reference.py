@@ -17,7 +17,7 @@ END = "end"  # reader: no byte remains
 HOUSE = "house"  # a record's cutoff 0
 
 CONVENTIONS = (0, 1)  # of a position: Goppa, recorders
-HOUSE_CUTOFF = 2
+HOUSE_CUTOFF = 3
 MOST_COEFFICIENTS = 33
 MOST_ROOTS = 32
 SLOTS = 100

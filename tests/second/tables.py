@@ -64,6 +64,11 @@ def pack_search(m, coefficients, lent, mults):
     return bytes((SEARCH,)) + pack_numbers(head + list(coefficients) + list(lent) + list(mults))
 
 
+def drawn_cutoff(rng):
+    """1, 2 or 3, as they are stated; 2 twice as often."""
+    return rng.randrange(4) or 2
+
+
 class Tape:
     def __init__(self, data):
         self.data = data
@@ -308,17 +313,17 @@ class Maker:
         rng, m = self.rng, self.m
         for number in range(count):
             f = self.polynomial()
-            yield pack_begin(m, f, rng.randrange(4), self.noise(100))
+            yield pack_begin(m, f, drawn_cutoff(rng), self.noise(100))
         # every refusal, and each with those behind it in the order
         bad_lists = self.bad_lists()
         for degree in (m, 0, 1, 5, 13, 255, 256 + m, 65535):
             known = degree == m
             for f in bad_lists:
-                for cutoff in (0, 3, 4, 256, 65535) if known else (0, 4):
+                for cutoff in (2, 3, 4, 256, 65535) if known else (2, 4):
                     for slots in (100, 99, 101, 0) if known else (100, 99):
                         yield pack_begin(degree, f, cutoff, self.noise(slots))
         for slots in (1, 3, 4, 50, 200, 356):
-            yield pack_begin(m, GOOD, 0, self.noise(slots))
+            yield pack_begin(m, GOOD, 2, self.noise(slots))
 
     def wholes(self, count):
         """The whole call and the search, accepted and refused."""
@@ -327,12 +332,12 @@ class Maker:
         repeated = powers + [self.repeated() for _ in range(count)]
         for f in [self.polynomial() for _ in range(count)] + repeated:
             room, mult_room = rng.choice((32, 33, 40)), rng.choice((32, 33, 40))
-            yield pack_whole(m, f, rng.randrange(4), self.noise(room), self.noise(mult_room))
+            yield pack_whole(m, f, drawn_cutoff(rng), self.noise(room), self.noise(mult_room))
             yield pack_search(m, f, self.noise(room), self.noise(mult_room))
         for degree in (m, 0, 1, 5, 13, 256 + m, 65535):
             for f in self.bad_lists():
                 for rooms in ((32, 32), (31, 32), (32, 31), (0, 40), (40, 0), (0, 0)):
-                    for cutoff in (0, 3, 4, 65535):
+                    for cutoff in (2, 3, 4, 65535):
                         yield pack_whole(degree, f, cutoff, *map(self.noise, rooms))
                     yield pack_search(degree, f, *map(self.noise, rooms))
 
@@ -348,7 +353,7 @@ class Maker:
         yield from self.wholes(count)
         bases = []
         for number in range(count):
-            tables = self.begun(self.polynomial(), rng.randrange(4))
+            tables = self.begun(self.polynomial(), drawn_cutoff(rng))
             if number < 40:
                 for table in tables:
                     yield from self.both(table)
@@ -389,11 +394,20 @@ class Maker:
         for _ in range(count):
             yield from self.both(tuple(self.noise(100)))
 
+    def house(self, count):
+        """Cutoff 0, which stands for the house default: begin and the whole call, accepted and refused."""
+        for f in [self.polynomial() for _ in range(count)] + list(self.bad_lists()) + [GOOD]:
+            for degree in (self.m, 5):
+                yield pack_begin(degree, f, 0, self.noise(100))
+                yield pack_whole(degree, f, 0, self.noise(32), self.noise(32))
+
 
 def make_cases(seed, count):
     rng = random.Random(seed)
     for m in field.DEGREES:
         yield from Maker(m, rng).cases(count)
+    for m in field.DEGREES:
+        yield from Maker(m, rng).house(count)
 
 
 def tally(data):

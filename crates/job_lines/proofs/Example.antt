@@ -1,5 +1,5 @@
 -- The three records of docs/RULES.md section 6.4: their lines are exactly those that it prints.
---   sample-text    1 0 3 4 1 2 3, 2 1 and 3 0 3 2 1 6 7, each ended by a line feed
+--   sample-text    1 0 3 4 1 2 3, 2 1 and 3 0 3 0 1 6 7, each ended by a line feed
 --   sample-lines   the law
 -- Assumes nothing.
 use mathlib.Core.Path.{refl}
@@ -22,7 +22,7 @@ abbrev pub sample-text : List ℕ
 sample-text =
     49 ∷ 32 ∷ 48 ∷ 32 ∷ 51 ∷ 32 ∷ 52 ∷ 32 ∷ 49 ∷ 32 ∷ 50 ∷ 32 ∷ 51 ∷ 10
     ∷ 50 ∷ 32 ∷ 49 ∷ 10
-    ∷ 51 ∷ 32 ∷ 48 ∷ 32 ∷ 51 ∷ 32 ∷ 50 ∷ 32 ∷ 49 ∷ 32 ∷ 54 ∷ 32 ∷ 55 ∷ 10 ∷ []
+    ∷ 51 ∷ 32 ∷ 48 ∷ 32 ∷ 51 ∷ 32 ∷ 48 ∷ 32 ∷ 49 ∷ 32 ∷ 54 ∷ 32 ∷ 55 ∷ 10 ∷ []
 
 pub sample-lines : LinesOf sample sample-text
 unfolding linesFrom decimalIn decimal spaced words knownIn polyIn rootsOf upFrom eval mul trace power bitWords groupsAt groupCount sumBelow agrees inForceBy

@@ -1,4 +1,4 @@
--- The house default, over its value: what changes where it is raised (docs/CHANGES.md, M-105).
+-- The house default, over its value: what changes where it is raised.
 --   inForce-house                cutoff 0 stands for the house default
 --   inForce-stated               a cutoff that is not 0 is in force as it is
 --   inForce-least, inForce-most  the cutoff in force is 1 to 3

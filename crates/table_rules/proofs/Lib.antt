@@ -21,7 +21,7 @@ pub mod Places
 pub mod Begun
 pub mod Finish
 pub mod Demand
--- what change requests ask of the theory (docs/CHANGES.md: M-105, M-112)
+-- the house default over its value, and what a change request asks of the theory (docs/CHANGES.md: M-112)
 pub mod HouseDefault
 pub mod Picks
 -- figures, by evaluation

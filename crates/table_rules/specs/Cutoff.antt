@@ -11,7 +11,7 @@ abbrev pub highestCutoff : ℕ
 highestCutoff = 3
 
 abbrev pub houseDefault : ℕ
-houseDefault = 2
+houseDefault = 3
 
 unfoldable pub inForceBy : ℕ → ℕ → ℕ
 inForceBy d c = cond (eqb c 0) d c

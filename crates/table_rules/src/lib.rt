@@ -4,7 +4,7 @@
 // The highest cutoff, and what cutoff 0 stands for (specs/Cutoff.antt).
 pub const HIGHEST_CUTOFF: u16 = 3;
 
-pub const HOUSE_DEFAULT: u16 = 2;
+pub const HOUSE_DEFAULT: u16 = 3;
 
 // The highest sum of degrees (specs/Limit.antt), and the most coefficients, one more.
 pub const LIMIT: usize = 32;

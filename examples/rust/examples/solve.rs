@@ -22,7 +22,7 @@ fn solve(what: &str, m: u16, coeffs: &[u16], cutoff: u16) {
 /// The roots, each with its multiplicity.
 fn repeated(what: &str, m: u16, coeffs: &[u16]) -> Result<(), Refusal> {
     let (mut roots, mut mults) = ([0; ROOTS], [0; ROOTS]);
-    let found = locator::solve(m, coeffs, 0, &mut roots, &mut mults)?;
+    let found = locator::solve(m, coeffs, 2, &mut roots, &mut mults)?;
     let pairs: String = found
         .roots
         .pairs()
@@ -60,8 +60,8 @@ fn main() -> Result<(), Refusal> {
     let mut all = [0; 17];
     (all[1], all[16]) = (1, 1);
     solve("z^3+7z+6", 4, &cubic, 1);
-    solve("z^3+1", 4, &unity, 0);
-    solve("z^16+z", 4, &all, 0);
+    solve("z^3+1", 4, &unity, 2);
+    solve("z^16+z", 4, &all, 2);
     split(4, &cubic, 1)?;
     repeated("z^2 (z+3)^3", 4, &[0, 0, 15, 5, 3, 1])?;
     let (mut list, mut mults) = ([0; ROOTS], [0; ROOTS]);

@@ -90,7 +90,7 @@ fn the_whole_call_finds_the_same_within_its_limit() {
         (dense[0], dense[1], dense[2], dense[16], dense[32]) = (constant, 7, 1000, 3, 1);
         let coeffs = [7, 1000, 0, 0, 3, 1, 0, 0, 0, 0, 0];
         let space = affine(11, &coeffs, constant, &mut list).unwrap();
-        let whole = solve(11, &dense, 0, &mut short, &mut mults).unwrap();
+        let whole = solve(11, &dense, 2, &mut short, &mut mults).unwrap();
         assert_eq!(space.roots(), whole.roots.distinct);
     }
 }

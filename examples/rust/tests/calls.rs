@@ -53,7 +53,7 @@ fn a_locator_gives_back_its_places_under_its_convention() {
         (recorders, Convention::Recorders),
     ] {
         let (mut list, mut mults) = ([0; ROOTS], [0; ROOTS]);
-        let found = solve(11, &multiplied(11, &factors), 0, &mut list, &mut mults).unwrap();
+        let found = solve(11, &multiplied(11, &factors), 2, &mut list, &mut mults).unwrap();
         let mut given: Vec<u16> = found
             .roots
             .distinct
@@ -105,7 +105,7 @@ fn repeated_roots_have_their_multiplicity() {
                 .collect();
             let coeffs = multiplied(m, &factors);
             let (mut list, mut mults) = ([0; ROOTS], [0; ROOTS]);
-            let found = solve(m, &coeffs, 0, &mut list, &mut mults).unwrap();
+            let found = solve(m, &coeffs, 2, &mut list, &mut mults).unwrap();
             assert_eq!(found.roots.pairs().collect::<Vec<_>>(), shape);
             let (mut list, mut mults) = ([0; ROOTS], [0; ROOTS]);
             let seen = search(m, &coeffs, &mut list, &mut mults).unwrap();
@@ -138,11 +138,11 @@ fn steps_until_done_give_the_whole_call() {
 fn every_refusal_has_its_number_and_writes_nothing() {
     let (mut list, mut mults) = ([999; ROOTS], [888; ROOTS]);
     let calls: [(u16, &[u16], u16); 6] = [
-        (1120, &CUBIC, 0),
-        (4, &[], 0),
-        (4, &[1; 34], 0),
-        (4, &[16, 1], 0),
-        (4, &[0, 0], 0),
+        (1120, &CUBIC, 2),
+        (4, &[], 2),
+        (4, &[1; 34], 2),
+        (4, &[16, 1], 2),
+        (4, &[0, 0], 2),
         (4, &CUBIC, 4),
     ];
     for (i, (m, coeffs, cutoff)) in calls.into_iter().enumerate() {
@@ -156,10 +156,10 @@ fn every_refusal_has_its_number_and_writes_nothing() {
     }
     for (room, mult_room) in [(31, 32), (32, 31), (31, 31)] {
         let (roots, mults) = (&mut list[..room], &mut mults[..mult_room]);
-        assert_eq!(solve(4, &CUBIC, 0, roots, mults), Err(Refusal::Room));
+        assert_eq!(solve(4, &CUBIC, 2, roots, mults), Err(Refusal::Room));
         assert_eq!(search(4, &CUBIC, roots, mults), Err(Refusal::Room));
     }
-    assert_eq!(begin(4, &CUBIC, 0, &mut [0; 99]), Err(Refusal::Room));
+    assert_eq!(begin(4, &CUBIC, 2, &mut [0; 99]), Err(Refusal::Room));
     assert_eq!(step(&mut [0; SLOTS]), Err(Refusal::Unsound));
     let mut stuck = [0; SLOTS];
     stuck[..8].copy_from_slice(&[4, 1, 1, 0, 4, 2, 1, 1]);
