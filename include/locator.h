@@ -1,5 +1,5 @@
-/* locator.h: the roots of locator polynomials over GF(2^m), m = 4, 8 or 11, and a corrector of blocks over m = 11. Link with liblocator.a (tools/library
-   builds it, for x86-64 Linux).
+/* locator.h: the roots of locator polynomials over GF(2^m), m = 4, 8 or 11, a corrector of blocks over m = 11, and salvage of job files. Link with
+   liblocator.a (tools/library builds it, for x86-64 Linux).
 
    Every call is proved to do what stands over it, for every input (crates/locator/src/lib.rt has the contracts). docs/RULES.md has the rules in
    full: fields and element calls are its sections 1 and 2, polynomials 3 (affine ones 3.6), work tables 4, the block corrector 7, refusals and their order 8.
@@ -14,7 +14,8 @@
    OUTCOMES. 0: accepted. Any other is the number under which the input was turned away:
        1  there is no field of degree m          6  the cutoff is above 3
        2  there are no coefficients              7  a list has under 32 slots (of an affine polynomial's
-                                                    roots under 2^m), or the table has not 100
+                                                    roots under 2^m), the table has not 100, or the room
+                                                    for a salvaged file is shorter than the file
        3  there are more than 33 coefficients    8  the table is not sound
        4  an element or a coefficient            9  the table cannot be stepped: the first factor above the cutoff
           is 2^m or more                            has level m, or the steps are at their limit
@@ -28,7 +29,7 @@
    Where two apply, the one that stands first in the call's order is given. A refusal writes nothing, and its other fields are 0.
 
    MEMORY. All memory is the caller's, before and after: no call keeps a pointer. A list is a pointer, aligned for uint16_t, and the number of its
-   elements; a word is a pointer, which need not be aligned, and the number of its bytes. A count of 0 is an empty list, and its pointer is not looked at: it may be null. With any other count the pointer must point to so many
+   elements; a word or a file is a pointer, which need not be aligned, and the number of its bytes. A count of 0 is an empty list, and its pointer is not looked at: it may be null. With any other count the pointer must point to so many
    elements. Memory that a call may write must not overlap other memory lent to the same call. A list that is const is only read.
 
    WHERE IT MAY RUN. No call allocates, waits, calls out or keeps state; each ends. So any of them may run in an interrupt or in several threads at
@@ -153,6 +154,16 @@ typedef struct { uint16_t outcome, flips; } locator_corrected;
 
    examples/c/encode.h makes codewords; examples/c/blocks.c records and corrects them. */
 locator_corrected locator_correct(uint16_t strength, uint8_t *word, size_t bytes);
+
+/* What salvage gives: how many bytes it kept, 0 where refused. */
+typedef struct { uint16_t outcome; size_t length; } locator_salvaged;
+
+/* Salvage of a damaged job file. At each place, from the front on, a record is kept if its mark is there, it is complete, and the whole call would not
+   refuse its field, coefficients or cutoff; what stands behind it comes next. Else one byte is dropped. The records kept are copied unaltered, in order,
+   to the front of kept, length bytes in all; what is behind them is not written. A file of such records comes back unchanged, and salvaging what was
+   kept changes nothing. The program `salvage` prints what was dropped as well.
+   Outcomes 0, 7; 7 where room is less than n, whatever the file holds. */
+locator_salvaged locator_salvage(const uint8_t *file, size_t n, uint8_t *kept, size_t room);
 
 #ifdef __cplusplus
 }

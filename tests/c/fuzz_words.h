@@ -11,10 +11,9 @@ typedef struct { uint8_t *at, *low, was[MOST]; size_t n; } block;
 
 static block lent_word;
 
-/* n bytes of a word, against the page behind it or before it */
-static void lend_word(const uint8_t *from, size_t n, int front)
+/* n bytes, against the page behind them or before them */
+static void lend_bytes(block *b, const uint8_t *from, size_t n, int front)
 {
-    block *b = &lent_word;
     if (b->low == NULL) {
         char *room = mmap(NULL, 3 * PAGE, PROT_NONE, MAP_PRIVATE | MAP_ANONYMOUS, -1, 0);
         expect(room != MAP_FAILED && mprotect(room + PAGE, PAGE, PROT_READ | PROT_WRITE) == 0, "no memory");
@@ -30,13 +29,19 @@ static void lend_word(const uint8_t *from, size_t n, int front)
     }
 }
 
+/* the guards of lent bytes are as they were */
+static void guarded(const block *b, int front)
+{
+    for (size_t i = 0; i < GUARD; i++)
+        expect(b->at[front ? (ptrdiff_t)(b->n + i) : -(ptrdiff_t)(i + 1)] == MARKED, "a write outside lent bytes");
+}
+
 /* the corrector on the lent word; the guards are as they were, and a refusal has written nothing */
 static locator_corrected corrected(uint16_t strength, int front)
 {
     const block *b = &lent_word;
     locator_corrected c = locator_correct(strength, b->n == 0 && front ? NULL : b->at, b->n);
-    for (size_t i = 0; i < GUARD; i++)
-        expect(b->at[front ? (ptrdiff_t)(b->n + i) : -(ptrdiff_t)(i + 1)] == MARKED, "a write outside a lent word");
+    guarded(b, front);
     if (c.outcome != 0)
         expect(c.flips == 0 && memcmp(b->at, b->was, b->n) == 0, "a refusal of the corrector with a value or a write");
     return c;
@@ -91,7 +96,7 @@ static void check_corrected(locator_corrected c, unsigned t, int front, unsigned
     if (c.outcome != 0)
         return;
     expect(is_codeword(word, t) && c.flips <= t && apart(word, was) == c.flips, "a correction that is none");
-    lend_word(word, sizeof word, !front);
+    lend_bytes(&lent_word, word, sizeof word, !front);
     locator_corrected again = corrected((uint16_t)t, !front);
     expect(again.outcome == 0 && again.flips == 0 && apart(lent_word.at, word) == 0, "a codeword that is changed");
 }
@@ -107,7 +112,7 @@ static void correct_word(void)
     unsigned errors = write_word(bytes, n, right ? strength : t, codeword);
     if (n == BLOCK_BYTES && kind % 16 != 2)
         bytes[BLOCK_BYTES - 1] &= 127;
-    lend_word(bytes, n, front);
+    lend_bytes(&lent_word, bytes, n, front);
     locator_corrected c = corrected(strength, front);
     note(CORRECT, c.outcome, c.flips + strength % 10 * 10);
     if (n != BLOCK_BYTES || bytes[BLOCK_BYTES - 1] > 127)

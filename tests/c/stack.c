@@ -7,13 +7,14 @@
 #include <string.h>
 #include <ucontext.h>
 
-enum { CALLS = 11, WIDEST = 11, PAINT = 0xA5 };
+enum { CALLS = 12, WIDEST = 11, PAINT = 0xA5 };
 
-static const char *const name[CALLS] = {"product", "inverse", "position", "quadratic", "solve", "search", "begin", "step", "finish", "correct", "affine"};
+static const char *const name[CALLS] = {"product", "inverse", "position", "quadratic", "solve", "search", "begin", "step", "finish", "correct", "affine",
+                                        "salvage"};
 static unsigned char stack[1 << 20];
 static ucontext_t home, there;
 static uint16_t field, f[LOCATOR_COEFFICIENTS], roots[LOCATOR_ROOTS], mults[LOCATOR_ROOTS], table[LOCATOR_SLOTS], elements[LOCATOR_ELEMENTS];
-static uint8_t word[LOCATOR_WORD];
+static uint8_t word[LOCATOR_WORD], file[256], kept[256];
 static int call;
 static unsigned failed;
 
@@ -38,6 +39,17 @@ static void affine(void)
     failed |= locator_affine(field, zeros, field, 7, elements, LOCATOR_ELEMENTS).count != 0;
 }
 
+/* Marks everywhere, and one record that is kept. */
+static void salvage(void)
+{
+    static const uint8_t constant[7] = {0x4C, 0x52, 4, 0, 1, 1, 0};
+    for (unsigned k = 0; k < sizeof file; k++)
+        file[k] = k % 2 == 0 ? 0x4C : 0x52;
+    memcpy(file + 100, constant, sizeof constant);
+    locator_salvaged s = locator_salvage(file, sizeof file, kept, sizeof kept);
+    failed |= s.outcome != 0 || s.length != sizeof constant;
+}
+
 static void go(void)
 {
     switch (call) {
@@ -52,6 +64,7 @@ static void go(void)
     case 8: failed |= locator_finish(table, LOCATOR_SLOTS, roots, LOCATOR_ROOTS).outcome; break;
     case 9: correct(); break;
     case 10: affine(); break;
+    case 11: salvage(); break;
     }
 }
 

@@ -5,10 +5,11 @@
     records.py tally FOLDER
     records.py cases --seed S --count N FOLDER
     records.py answers FOLDER
+    records.py salvaged FOLDER
 
 The folder is made if it is missing; the files are named NNNN-kind.bin. `cases` puts all files into files.bin and the name of each into kinds.txt, and
 `answers` the lines of each into lines.bin, each behind its length in four bytes, low byte first; it prints how many files of each kind and lines of
-each outcome there are.
+each outcome there are. `salvaged` puts what the program `salvage` keeps of each file into kept.bin and its lines into report.bin in the same form.
 """
 
 import argparse
@@ -289,6 +290,20 @@ def answers(folder):
     print("lines by outcome: " + ", ".join("%d: %d" % (outcome, outcomes[outcome]) for outcome in sorted(outcomes)))
 
 
+def salvaged(folder):
+    """What is kept of each file, and the lines of the program `salvage`."""
+    with open(os.path.join(folder, "files.bin"), "rb") as file:
+        data = file.read()
+    files = records = stretches = 0
+    with open(os.path.join(folder, "kept.bin"), "wb") as keeps, open(os.path.join(folder, "report.bin"), "wb") as reports:
+        for one in unframed(data):
+            texts, kept = R.salvage_lines(one)
+            keeps.write(framed(kept))
+            reports.write(framed("".join(text + "\n" for text in texts).encode()))
+            files, records, stretches = files + 1, records + int(texts[-1]), stretches + len(texts) - 1
+    print("files: %d, records kept: %d, stretches dropped: %d" % (files, records, stretches))
+
+
 def tally(folder):
     counts = {}
     files = sorted(os.listdir(folder))
@@ -317,6 +332,8 @@ def main():
     all_cases.add_argument("folder")
     answered = commands.add_parser("answers")
     answered.add_argument("folder")
+    kept = commands.add_parser("salvaged")
+    kept.add_argument("folder")
     lines = commands.add_parser("lines")
     lines.add_argument("file")
     tallied = commands.add_parser("tally")
@@ -334,6 +351,9 @@ def main():
         return
     if options.command == "answers":
         answers(options.folder)
+        return
+    if options.command == "salvaged":
+        salvaged(options.folder)
         return
     if options.command == "tally":
         tally(options.folder)

@@ -500,6 +500,29 @@ def read_record(data, at):
     return 0, (m, stated, start, 2 * n, behind), ()
 
 
+def salvage(data):
+    """The records kept of a damaged file, and the dropped stretches, each [start, length]."""
+    kept, dropped, at = [], [], 0
+    while at < len(data):
+        outcome, values, _ = read_record(data, at)
+        if outcome == 0:
+            kept.append(data[at:values[-1]])
+            at = values[-1]
+            continue
+        if dropped and sum(dropped[-1]) == at:
+            dropped[-1][1] += 1
+        else:
+            dropped.append([at, 1])
+        at += 1
+    return kept, dropped
+
+
+def salvage_lines(data):
+    """The lines of the program `salvage` on this standard input, and what it puts into kept.lr."""
+    kept, dropped = salvage(data[:MOST_BYTES])
+    return ["%d %d" % (start, length) for start, length in dropped] + [str(len(kept))], b"".join(kept)
+
+
 def coefficients_of(part):
     return [part[i] + 256 * part[i + 1] for i in range(0, len(part), 2)]
 

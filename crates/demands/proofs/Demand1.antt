@@ -34,6 +34,8 @@ use Rattle.job_lines.proofs.Coincide.{turned-once}
 use Rattle.corrector.specs.Correcting.{distance, Corrects}
 use Rattle.corrector.specs.Correcting.Corrects.{no-block, no-strength, none-near, mended}
 use Rattle.corrector.proofs.Coincide.{correct-coincide}
+use Rattle.job_salvage.specs.Calls.{salvageTests}
+use Rattle.job_salvage.proofs.Coincide.{salvage-coincide, next-coincide}
 use Rattle.job_records.specs.Reading.{Outcome, startTests, recordTests, HandsBack}
 use Rattle.job_records.proofs.Coincide.{read-coincide}
 use Rattle.job_records.proofs.Exactly.{ends-exactly, stops-exactly, refuses-exactly, accepts-exactly}
@@ -148,6 +150,7 @@ demand-1 = record {
   search = λ m cs roots mults r after beside h. listed (omega arith, (omega arith, (omega arith, (omega arith, (omega arith, (omega arith, (omega arith, tt))))))) h;
   affine = λ m cs constant list r after h. answered (affineTests m cs constant (length list)) _ _ list (omega arith, (omega arith, (omega arith, (omega arith, tt)))) h;
   correct = λ t word o after h. settles h;
+  salvage = λ file room r after h. answered (salvageTests file room) _ _ room (omega arith, tt) h;
   ends = λ file at r h. of-told h (ends-exactly file at);
   stops = λ file at k r h. of-told h (stops-exactly file at k);
   refuses = λ file at k r h. of-told h (refuses-exactly file at k);
@@ -163,6 +166,8 @@ demand-1 = record {
   search-one = search-coincide;
   affine-one = affine-coincide;
   correct-one = λ t word r s x y h k. correct-coincide r s x y h k;
+  salvage-one = salvage-coincide;
+  next-one = λ file at start end start′ end′ h k. next-coincide h k;
   read-one = read-coincide;
   turn-one = λ read bytes k old r s x y w h g. turned-once (h (w .file) (w .at) (w .read) (w .lent)) (g (w .file) (w .at) (w .read) (w .lent));
 }

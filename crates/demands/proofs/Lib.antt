@@ -1,4 +1,4 @@
--- The three demands, that the two ways agree, and what is promised of the block corrector.
+-- The three demands, that the two ways agree, and what is promised of the block corrector and of salvage.
 pub mod Agreement
 pub mod Demand1
 pub mod Demand2
@@ -6,3 +6,4 @@ pub mod Demand2Affine
 pub mod Demand3
 pub mod Cutoffs
 pub mod Corrector
+pub mod Salvage

@@ -49,6 +49,9 @@ use Rattle.job_lines.specs.Printing.{TurnedBy}
 use Rattle.job_lines.specs.declared.Turn.{Turn}
 use Rattle.corrector.specs.Correcting.{IsBlock, IsStrength, Within, distance, Corrects, toldCorrected}
 use Rattle.corrector.specs.declared.Corrected.{Corrected}
+use Rattle.job_salvage.specs.Pieces.{keptRecords, keptFile}
+use Rattle.job_salvage.specs.Calls.{NextIs, salvageTests, toldSalvaged, Salvages}
+use Rattle.job_salvage.specs.declared.Salvaged.{Salvaged}
 
 pub record Decides (tests : List (ℕ × Bool)) (values : List ℕ) (outcome : ℕ × List ℕ) : Type 0 where
   pub refused : (k : ℕ) → (outcome ≡ (suc k, [])) ↔ Given (suc k) tests
@@ -106,6 +109,10 @@ pub record Demand1 : Type 0 where
   -- correct: 22, 23, 24
   pub correct : (t : ℕ) (word : List ℕ) (outcome : ℕ × List ℕ) (after : List ℕ)
       → Corrects t word outcome after → Settles t word outcome after
+  -- salvage: 7
+  pub salvage : (file room : List ℕ) (r : Salvaged) (after : List ℕ) → Salvages file room r after
+      → Decides (salvageTests file room) (length (keptFile file) ∷ length (keptRecords file) ∷ []) (toldSalvaged r)
+      × Spares (salvageTests file room) (copied (keptFile file) room) room after
   -- the reader at a place of a file: it ends where no byte remains, stops under 12 or 11, and refuses a complete
   -- record under 1 to 6 with the place behind it
   pub ends : (file : List ℕ) (at : ℕ) (r : Read) → ReadsAt file at r
@@ -139,6 +146,10 @@ pub record Demand1 : Type 0 where
       → Spans m cs constant list r x → Spans m cs constant list s y → (r ≡ s) × (x ≡ y)
   pub correct-one : (t : ℕ) (word : List ℕ) (r s : Corrected) (x y : List ℕ)
       → Corrects t word (toldCorrected r) x → Corrects t word (toldCorrected s) y → (r ≡ s) × (x ≡ y)
+  pub salvage-one : (file room : List ℕ) (r s : Salvaged) (x y : List ℕ)
+      → Salvages file room r x → Salvages file room s y → (r ≡ s) × (x ≡ y)
+  pub next-one : (file : List ℕ) (at start end start′ end′ : ℕ)
+      → NextIs file at start end → NextIs file at start′ end′ → (start ≡ start′) × (end ≡ end′)
   pub read-one : (file : List ℕ) (at : ℕ) (r s : Read) → ReadsAt file at r → ReadsAt file at s → r ≡ s
   -- a record's line and where reading goes on (take_turn), of what some file gives: one text, one place
   pub turn-one : (read : Read) (bytes : List ℕ) (k : ℕ) (old : List ℕ) (r s : Turn) (x y : List ℕ) → Stands read bytes

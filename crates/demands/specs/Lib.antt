@@ -4,3 +4,4 @@ pub mod Demand2Affine
 pub mod Demand3
 pub mod Cutoffs
 pub mod Corrector
+pub mod Salvage

@@ -4,13 +4,14 @@ ghost use mathlib.Core.Path.{_≡_};
 ghost use Prim.Native.Nat.{_+_, _*_, _≤_, _<_, _^_};
 ghost use lib.ListN.{length};
 ghost use Rattle.refusals.specs.Admitting.{Admits};
-ghost use Rattle.find_admit.specs.Values.{Largest};
+ghost use Rattle.find_admit.specs.Values.{Measured};
 ghost use Rattle.job_records.specs.Layout.{headLength, word, words, part};
 ghost use Rattle.job_records.specs.Cutoffs.{statedCutoff, statedBy, asked};
 ghost use Rattle.job_records.specs.Reading.{toldRead, answered, bytesOf, readHere, ReadsAt, callTests, Spelled};
 use find_admit::admit_call;
 use refusals::Admission;
 use refusals::Refusal;
+use table_rules::COEFFICIENTS;
 
 pub mod held; // a reader that holds the file
 
@@ -73,11 +74,14 @@ pub fn asked(cutoff: Cutoff) -> u16
     }
 }
 
-// The largest of the coefficients that the bytes spell, or 0 where there are none.
+// The largest of the coefficients that the bytes spell; 0 where there are none or too many.
 fn largest(bytes: &[u8]) -> u16
-    ensures { λ r. ⌜ Largest (words (now (bytes .entry))) r ⌝ }
+    ensures { λ r. ⌜ Measured (words (now (bytes .entry))) (length (words (now (bytes .entry)))) r ⌝ }
 {
     let n = bytes.len() / 2;
+    if COEFFICIENTS < n {
+        return 0;
+    }
     let mut top = 0;
     for k in 0..n {
         let i = 2 * k;

@@ -14,13 +14,15 @@ use Rattle.table_begin.proofs.Coincide.{begin-coincide}
 use Rattle.table_step.proofs.Coincide.{step-coincide}
 use Rattle.table_finish.proofs.Coincide.{finish-coincide}
 use Rattle.corrector.proofs.Coincide.{correct-coincide}
-use Rattle.locator.specs.Calls.{As, ProductAs, InverseAs, PositionAs, QuadraticAs, SolvesAs, SearchesAs, SpansAs, BeginsAs, StepsAs, FinishesAs, CorrectsAs}
+use Rattle.job_salvage.proofs.Coincide.{salvage-coincide}
+use Rattle.locator.specs.Calls.{As, ProductAs, InverseAs, PositionAs, QuadraticAs, SolvesAs, SearchesAs, SpansAs, BeginsAs, StepsAs, FinishesAs, CorrectsAs, SalvagesAs}
 use Rattle.locator.specs.declared.LocatorValue.{LocatorValue}
 use Rattle.locator.specs.declared.LocatorPair.{LocatorPair}
 use Rattle.locator.specs.declared.LocatorFound.{LocatorFound}
 use Rattle.locator.specs.declared.LocatorSpace.{LocatorSpace}
 use Rattle.locator.specs.declared.LocatorStepped.{LocatorStepped}
 use Rattle.locator.specs.declared.LocatorCorrected.{LocatorCorrected}
+use Rattle.locator.specs.declared.LocatorSalvaged.{LocatorSalvaged}
 
 -- one answer, one struct
 one-struct : {A R : Type 0} {tell : A → R} {admits : A → Type 0} → ((a b : A) → admits a → admits b → a ≡ b)
@@ -81,3 +83,7 @@ finish-one table list r s x y h k = one-memory (finish-coincide table list) h k
 pub correct-one : (t : ℕ) (word : List ℕ) (r s : LocatorCorrected) (x y : List ℕ)
     → CorrectsAs t word r x → CorrectsAs t word s y → (r ≡ s) × (x ≡ y)
 correct-one t word r s x y h k = one-memory (λ a b x y. correct-coincide a b x y) h k
+
+pub salvage-one : (file room : List ℕ) (r s : LocatorSalvaged) (x y : List ℕ)
+    → SalvagesAs file room r x → SalvagesAs file room s y → (r ≡ s) × (x ≡ y)
+salvage-one file room r s x y h k = one-memory (salvage-coincide file room) h k

@@ -1,4 +1,5 @@
--- The C face loses nothing: a struct tells the answer that it was made from.
+-- The C face loses nothing: a struct tells the answer that it was made from. That of salvage leaves out how many records
+-- were kept, which the bytes tell.
 --   value-by-struct ..       so for the struct of each answer
 -- Assumes nothing.
 use mathlib.Core.Path.{_≡_, refl, sym, ap, _∙_}

@@ -8,6 +8,7 @@
 --   asSpace       outcome, how many roots, the dimension: the affine call. No root has 0 and 0
 --   asStepped     outcome, and 1 where the table is done
 --   asCorrected   outcome, and how many bits were flipped
+--   asSalvaged    outcome, and how many bytes are kept; how many records is not told
 --   As            r is the struct of an answer that a contract admits
 --   ProductAs ..  THE CONTRACT of each export, by that of the call
 -- Assumes nothing.
@@ -21,6 +22,7 @@ use Rattle.locator.specs.declared.LocatorFound.{LocatorFound}
 use Rattle.locator.specs.declared.LocatorSpace.{LocatorSpace}
 use Rattle.locator.specs.declared.LocatorStepped.{LocatorStepped}
 use Rattle.locator.specs.declared.LocatorCorrected.{LocatorCorrected}
+use Rattle.locator.specs.declared.LocatorSalvaged.{LocatorSalvaged}
 use Rattle.field_elements.specs.Calls.{toldAnswer, toldQuadratic, TellsProduct}
 use Rattle.field_elements.specs.Calls.{TellsInverse, TellsPosition, TellsQuadratic}
 use Rattle.find_solve.specs.Calls.{toldSolved, Solves}
@@ -30,6 +32,7 @@ use Rattle.table_begin.specs.Calls.{toldBegun, Begins}
 use Rattle.table_step.specs.Calls.{toldStepped, Steps}
 use Rattle.table_finish.specs.Calls.{toldFinished, Finishes}
 use Rattle.corrector.specs.Correcting.{toldCorrected, Corrects}
+use Rattle.job_salvage.specs.Calls.{toldSalvaged, Salvages}
 
 -- the value at place i of an outcome, or 0
 abbrev pub valueIn : ℕ × List ℕ → ℕ → ℕ
@@ -59,6 +62,10 @@ asStepped o = record { outcome = o .0; done = valueIn o 0 }
 -- outcome and flips
 abbrev pub asCorrected : ℕ × List ℕ → LocatorCorrected
 asCorrected o = record { outcome = o .0; flips = valueIn o 0 }
+
+-- outcome and bytes
+abbrev pub asSalvaged : ℕ × List ℕ → LocatorSalvaged
+asSalvaged o = record { outcome = o .0; length = valueIn o 0 }
 
 -- THE CONTRACTS of the exports: r is the struct of an answer that the contract of the call admits
 pub record As {A R : Type 0} (tell : A → R) (admits : A → Type 0) (r : R) : Type 0 where
@@ -101,3 +108,6 @@ FinishesAs table list r after = As (λ x. asFound (toldFinished x)) (λ x. Finis
 
 abbrev pub CorrectsAs : ℕ → List ℕ → LocatorCorrected → List ℕ → Type 0
 CorrectsAs t word r after = As (λ x. asCorrected (toldCorrected x)) (λ x. Corrects t word (toldCorrected x) after) r
+
+abbrev pub SalvagesAs : List ℕ → List ℕ → LocatorSalvaged → List ℕ → Type 0
+SalvagesAs file room r after = As (λ x. asSalvaged (toldSalvaged x)) (λ x. Salvages file room x after) r

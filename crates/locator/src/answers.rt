@@ -11,10 +11,12 @@ ghost use Rattle.table_begin.specs.Calls.{toldBegun};
 ghost use Rattle.table_step.specs.Calls.{toldStepped};
 ghost use Rattle.table_finish.specs.Calls.{toldFinished};
 ghost use Rattle.corrector.specs.Correcting.{toldCorrected};
-ghost use Rattle.locator.specs.Calls.{asValue, asPair, asFound, asSpace, asStepped, asCorrected};
+ghost use Rattle.job_salvage.specs.Calls.{toldSalvaged};
+ghost use Rattle.locator.specs.Calls.{asValue, asPair, asFound, asSpace, asStepped, asCorrected, asSalvaged};
 use crate::LocatorCorrected;
 use crate::LocatorFound;
 use crate::LocatorPair;
+use crate::LocatorSalvaged;
 use crate::LocatorSpace;
 use crate::LocatorStepped;
 use crate::LocatorValue;
@@ -25,6 +27,7 @@ use field_elements::Roots;
 use find_affine::Spanned;
 use find_search::Searched;
 use find_solve::Solved;
+use job_salvage::Salvaged;
 use refusals::Refusal;
 use refusals::number;
 use table_begin::Begun;
@@ -209,6 +212,22 @@ pub fn corrected_of(a: Corrected) -> LocatorCorrected
         Corrected::NotCorrected(k) => LocatorCorrected {
             outcome: number(k),
             flips: 0,
+        },
+    }
+}
+
+// Of salvage.
+pub fn salvaged_of(a: Salvaged) -> LocatorSalvaged
+    ensures { λ r. ⌜ r ≡ asSalvaged (toldSalvaged a) ⌝ }
+{
+    match a {
+        Salvaged::Kept { bytes, .. } => LocatorSalvaged {
+            outcome: 0,
+            length: bytes,
+        },
+        Salvaged::NotSalvaged(k) => LocatorSalvaged {
+            outcome: number(k),
+            length: 0,
         },
     }
 }

@@ -1,8 +1,9 @@
 // The C face (docs/RULES.md section 9): the element calls, the whole call, the plain search, the affine call, begin,
-// step and finish, and the block corrector, as include/locator.h declares them. A slice is a pointer, then a count.
-// Each call answers every input; it neither allocates nor calls out, and keeps no state.
+// step and finish, the block corrector and salvage, as include/locator.h declares them. A slice is a pointer, then a
+// count. Each call answers every input; it neither allocates nor calls out, and keeps no state.
 ghost use Rattle.locator.specs.Calls.{ProductAs, InverseAs, PositionAs, QuadraticAs};
 ghost use Rattle.locator.specs.Calls.{SolvesAs, SearchesAs, SpansAs, BeginsAs, StepsAs, FinishesAs, CorrectsAs};
+ghost use Rattle.locator.specs.Calls.{SalvagesAs};
 
 mod answers; // what the calls answer, as these structs
 
@@ -51,6 +52,13 @@ pub struct LocatorStepped {
 pub struct LocatorCorrected {
     pub outcome: u16,
     pub flips: u16,
+}
+
+// What salvage kept: how many bytes.
+#[repr(C)]
+pub struct LocatorSalvaged {
+    pub outcome: u16,
+    pub length: usize,
 }
 
 // The product of a and b in the field of degree m.
@@ -157,4 +165,12 @@ pub extern "C" fn locator_correct(strength: u16, word: &mut [u8]) -> LocatorCorr
     ensures { λ r. ⌜ CorrectsAs strength (now (word .entry)) r (now (word .exit)) ⌝ }
 {
     answers::corrected_of(corrector::correct(strength, word))
+}
+
+// Salvage of a damaged job file.
+#[no_mangle]
+pub extern "C" fn locator_salvage(file: &[u8], kept: &mut [u8]) -> LocatorSalvaged
+    ensures { λ r. ⌜ SalvagesAs (now (file .entry)) (now (kept .entry)) r (now (kept .exit)) ⌝ }
+{
+    answers::salvaged_of(job_salvage::salvage(file, kept))
 }

@@ -42,6 +42,12 @@ pub struct Corrected {
     pub flips: u16,
 }
 
+#[repr(C)]
+pub struct Salvaged {
+    pub outcome: u16,
+    pub length: usize,
+}
+
 extern "C" {
     fn locator_product(m: u16, a: u16, b: u16) -> Value;
     fn locator_inverse(m: u16, a: u16) -> Value;
@@ -85,6 +91,7 @@ extern "C" {
     fn locator_step(table: *mut u16, slots: usize) -> Stepped;
     fn locator_finish(table: *const u16, slots: usize, roots: *mut u16, room: usize) -> Found;
     fn locator_correct(strength: u16, word: *mut u8, bytes: usize) -> Corrected;
+    fn locator_salvage(file: *const u8, n: usize, kept: *mut u8, room: usize) -> Salvaged;
 }
 
 pub fn product(m: u16, a: u16, b: u16) -> Value {
@@ -174,4 +181,8 @@ pub fn finish(table: &[u16], roots: &mut [u16]) -> Found {
 
 pub fn correct(strength: u16, word: &mut [u8]) -> Corrected {
     unsafe { locator_correct(strength, word.as_mut_ptr(), word.len()) }
+}
+
+pub fn salvage(file: &[u8], kept: &mut [u8]) -> Salvaged {
+    unsafe { locator_salvage(file.as_ptr(), file.len(), kept.as_mut_ptr(), kept.len()) }
 }

@@ -1,5 +1,5 @@
 //! Safe calls of the proved root finder: the roots of polynomials over GF(2^m), m = 4, 8 or 11, of affine ones of any
-//! degree, and the block corrector.
+//! degree, the block corrector, and salvage of job files.
 //! include/locator.h says what each call does; here a refusal is an error, a list is a slice, and what is given back is
 //! typed. No call allocates, calls out or keeps state. The module `encode` makes codewords for the corrector; it is
 //! tested and not proved.
@@ -278,4 +278,12 @@ pub fn finish<'a>(table: &[u16], roots: &'a mut [u16]) -> Result<&'a [u16], Refu
 pub fn correct(strength: u16, word: &mut [u8]) -> Result<u16, Refusal> {
     let corrected = face::correct(strength, word);
     accepted(corrected.outcome).map(|()| corrected.flips)
+}
+
+/// Salvage of a damaged job file: the records that can be kept, unaltered and in order, at the front of `kept`, which must
+/// be as long as the file. What is behind them is not written.
+pub fn salvage<'a>(file: &[u8], kept: &'a mut [u8]) -> Result<&'a [u8], Refusal> {
+    let salvaged = face::salvage(file, kept);
+    accepted(salvaged.outcome)?;
+    Ok(&kept[..salvaged.length])
 }

@@ -174,6 +174,21 @@ fn every_refusal_has_its_number_and_writes_nothing() {
 }
 
 #[test]
+fn salvage_keeps_what_can_be_kept() {
+    let good = [0x4C, 0x52, 4, 1, 4, 6, 0, 7, 0, 0, 0, 1, 0];
+    let unknown_field = [0x4C, 0x52, 5, 1, 1, 1, 0];
+    let file = [&good[..], &unknown_field, &good, &[0x4C]].concat();
+    let mut kept = [99; 40];
+    assert_eq!(salvage(&file, &mut kept[..33]), Err(Refusal::Room));
+    assert_eq!(kept, [99; 40]);
+    let back = salvage(&file, &mut kept).unwrap().to_vec();
+    assert_eq!(back, [good, good].concat());
+    assert_eq!(kept[26..], [99; 14]);
+    assert_eq!(salvage(&back, &mut kept), Ok(&back[..]));
+    assert_eq!(salvage(&[], &mut []), Ok(&[][..]));
+}
+
+#[test]
 fn numbers_and_refusals_are_one_to_one() {
     let known: Vec<u16> = (0..100)
         .filter(|&k| Refusal::from_number(k).is_some())

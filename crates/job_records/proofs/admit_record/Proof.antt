@@ -27,7 +27,7 @@ returns c =
     let l = c .before in
     let a = l .before .before .args in
     values-admit (a .m) (words (now (a .bytes))) ((6, ltb highestCutoff (a .c)) ∷ []) (c .admit-call .result)
-    (record { count = sym (whole-words (now (a .bytes)) (a .n) (omega arith)); largest = λ _. l .largest .ensures })
+    (record { count = sym (whole-words (now (a .bytes)) (a .n) (omega arith)); largest = l .largest .ensures .largest })
     (c .admit-call .ensures)
 
 pub admit-record-spec : {M : Type 1} → statement M

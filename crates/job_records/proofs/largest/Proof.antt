@@ -2,17 +2,24 @@
 -- Assumes nothing.
 use Prim.Native.Nat.{_-_}
 use native.Mathlib.Omega.{arith}
+use mathlib.Core.Path.{refl}
 use mathlib.Core.Logic.{⊎-elim}
-use borrow.Author.Needs.{needs}
+use denote.Ref.{now}
+use Rattle.job_records.proofs.Words.{length-words}
 use Rattle.job_records.proofs.Spelling.{Topping, top-from, top-raise, top-keep, top-end}
+use borrow.Author.Needs.{needs}
 use Rattle.job_records.proofs.largest.Statement.{statement}
 use Rattle.job_records.proofs.largest.Tie as tie
+use Rattle.job_records.proofs.word.Reads as word-reads
 
 abbrev Inv-loop : tie.InvT-loop
 Inv-loop bytes n top₀ k₀ top k = Topping bytes top k
 
 abbrev μ-loop : tie.MeasureT-loop
 μ-loop bytes n top₀ k₀ top k = n - k
+
+returns : tie.Need-returns Inv-loop μ-loop
+returns c = record { count = refl; largest = λ h. absurd (omega (arith, length-words (now (c .before .before .args .bytes)))) }
 
 loop-holds : tie.Need-loop-holds Inv-loop μ-loop
 loop-holds c = top-from _
@@ -44,10 +51,10 @@ loop-again c =
     ⊎-elim
     (λ w. rw (w .1) (top-raise s (omega arith) (c .before .word .ensures) (w .0 .taken)))
     (λ w. rw (w .1) (top-keep s (omega arith) (c .before .word .ensures) (w .0 .left)))
-    (c .if1 .came)
+    (c .if2 .came)
 
-returns : tie.Need-returns Inv-loop μ-loop
-returns c = top-end (c .before .loop .inv) (omega arith)
+returns-2 : tie.Need-returns-2 Inv-loop μ-loop
+returns-2 c = record { count = refl; largest = λ h. top-end (c .before .loop .inv) (omega arith) }
 
 pub largest-spec : {M : Type 1} → statement M
 largest-spec =
@@ -55,6 +62,7 @@ largest-spec =
     (tie.spec
     Inv-loop
     μ-loop
+    returns
     loop-holds
     mul-i
     shared-slice-read-word
@@ -64,4 +72,4 @@ largest-spec =
     add-k
     loop-less
     loop-again
-    returns)
+    returns-2)

@@ -4,10 +4,12 @@
 use mathlib.Core.Path.{sym}
 use native.Mathlib.Omega.{arith}
 use lib.Seq.{length-take-le}
-use borrow.Author.Needs.{needs}
 use Rattle.job_lines.proofs.Turning.{turn-fits, turn-on}
+use borrow.Author.Needs.{needs}
 use Rattle.roots.proofs.print_turn.Statement.{statement}
 use Rattle.roots.proofs.print_turn.Tie as tie
+use Rattle.job_lines.proofs.take_turn.Reads as take-turn-reads
+use Rattle.job_streams.proofs.print.Reads as print-reads
 
 slice-aggregate-take-turn : tie.Need-slice-aggregate-take-turn
 slice-aggregate-take-turn c = search needs
@@ -15,16 +17,19 @@ slice-aggregate-take-turn c = search needs
 take-turn-requires : tie.Need-take-turn-requires
 take-turn-requires c κs = search needs
 
+slice-aggregate-print : tie.Need-slice-aggregate-print
+slice-aggregate-print c = search needs
+
 array-share-prefix-out : tie.Need-array-share-prefix-out
 array-share-prefix-out c =
-    let t = c .before in
+    let t = c .before .before in
     let s = t .before .before .before .pre .1 in
     let same = t .take-turn .kept .1 .1 .1 .0 in
     omega (arith, turn-fits (t .take-turn .ensures (s .file) (s .at) (s .read) (s .lent)) same, same)
 
-slice-aggregate-print : tie.Need-slice-aggregate-print
-slice-aggregate-print c =
-    let t = c .before .before in
+slice-aggregate-print-2 : tie.Need-slice-aggregate-print-2
+slice-aggregate-print-2 c =
+    let t = c .before .before .before in
     let s = t .before .before .before .pre .1 in
     let same = t .take-turn .kept .1 .1 .1 .0 in
     sym (length-take-le _ _ (omega (arith, turn-fits (t .take-turn .ensures (s .file) (s .at) (s .read) (s .lent)) same, same)))
@@ -43,7 +48,7 @@ enum-told c = search needs
 
 returns-2 : tie.Need-returns-2
 returns-2 c file at e b small within =
-    let t = c .before .before .before .before .before .before .before in
+    let t = c .before .before .before .before .before .before .before .before in
     omega (arith, turn-on (t .take-turn .ensures file at e b) (c .before .next .given .1) .ahead)
 
 returns-3 : tie.Need-returns-3
@@ -55,8 +60,9 @@ print-turn-spec =
     (tie.spec
     slice-aggregate-take-turn
     take-turn-requires
-    array-share-prefix-out
     slice-aggregate-print
+    array-share-prefix-out
+    slice-aggregate-print-2
     print-requires
     returns
     enum-known-next

@@ -1,4 +1,4 @@
--- `roots::read_all` ends and stays within its room: a read that gives nothing ends it, and any other leaves less to
+-- `job_streams::read_all` ends and stays within its room: a read that gives nothing ends it, and any other leaves less to
 -- fill.
 -- Assumes nothing.
 use mathlib.Core.Path.{_≡_, sym}
@@ -6,14 +6,17 @@ use Prim.Native.Nat.{_-_, _≤_}
 use lib.ListN.{length}
 use lib.Seq.{length-take-le}
 use borrow.Author.Needs.{needs}
-use Rattle.roots.proofs.read_all.Statement.{statement}
-use Rattle.roots.proofs.read_all.Tie as tie
+use Rattle.job_streams.proofs.read_all.Statement.{statement}
+use Rattle.job_streams.proofs.read_all.Tie as tie
+use Rattle.io.proofs.count.Reads as count-reads
+use Rattle.libc.proofs.read.Reads as read-reads
+use Rattle.os.proofs.fail.Reads as fail-reads
 
 abbrev Inv-loop : tie.InvT-loop
-Inv-loop room₀ done₀ t6 room done = (length room ≡ length room₀) × (done ≤ length room)
+Inv-loop what room₀ done₀ room done = (length room ≡ length room₀) × (done ≤ length room)
 
 abbrev μ-loop : tie.MeasureT-loop
-μ-loop room₀ done₀ t6 room done = length room - done
+μ-loop what room₀ done₀ room done = length room - done
 
 loop-holds : tie.Need-loop-holds Inv-loop μ-loop
 loop-holds c = search needs
@@ -29,9 +32,6 @@ part-rest-end c = search needs
 
 read-requires : tie.Need-read-requires Inv-loop μ-loop
 read-requires c κs = search needs
-
-slice-aggregate-fail : tie.Need-slice-aggregate-fail Inv-loop μ-loop
-slice-aggregate-fail c = search needs
 
 fail-requires : tie.Need-fail-requires Inv-loop μ-loop
 fail-requires c κs = search needs
@@ -77,7 +77,6 @@ read-all-spec =
     part-rest-start
     part-rest-end
     read-requires
-    slice-aggregate-fail
     fail-requires
     same-length
     returns

@@ -1,0 +1,58 @@
+-- `job_salvage::put_bytes` meets its contract: at each turn the first j bytes stand in the room.
+-- Assumes nothing.
+use Prim.Native.Nat.{_-_}
+use native.Mathlib.Omega.{arith}
+use lib.ListN.{length}
+use Rattle.job_salvage.proofs.Turns.{Putting, put-from, put-on, put-end}
+use borrow.Author.Needs.{needs}
+use Rattle.job_salvage.proofs.put_bytes.Statement.{statement}
+use Rattle.job_salvage.proofs.put_bytes.Tie as tie
+
+abbrev Inv-loop : tie.InvT-loop
+Inv-loop bytes at room₀ end₀ j₀ j-end room end j = Putting bytes at room₀ room end j
+
+abbrev μ-loop : tie.MeasureT-loop
+μ-loop bytes at room₀ end₀ j₀ j-end room end j = length bytes - j
+
+loop-holds : tie.Need-loop-holds Inv-loop μ-loop
+loop-holds c = put-from _ _ _ (search needs)
+
+shared-slice-read-room : tie.Need-shared-slice-read-room Inv-loop μ-loop
+shared-slice-read-room c = search needs
+
+slice-write-room : tie.Need-slice-write-room Inv-loop μ-loop
+slice-write-room c = search needs
+
+add-end : tie.Need-add-end Inv-loop μ-loop
+add-end c = search needs
+
+add-j : tie.Need-add-j Inv-loop μ-loop
+add-j c = search needs
+
+loop-less : tie.Need-loop-less Inv-loop μ-loop
+loop-less c = search needs
+
+loop-again : tie.Need-loop-again Inv-loop μ-loop
+loop-again c = put-on (c .before .before .loop .inv) (omega arith)
+
+same-length : tie.Need-same-length Inv-loop μ-loop
+same-length c = search needs
+
+returns : tie.Need-returns Inv-loop μ-loop
+returns c = put-end (c .before .loop .inv) (omega arith)
+
+pub put-bytes-spec : {M : Type 1} → statement M
+put-bytes-spec =
+    tie.close
+    (tie.spec
+    Inv-loop
+    μ-loop
+    loop-holds
+    shared-slice-read-room
+    slice-write-room
+    add-end
+    add-j
+    loop-less
+    loop-again
+    same-length
+    returns)
