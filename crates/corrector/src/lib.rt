@@ -8,22 +8,27 @@ ghost use mathlib.Core.Path.{_≡_};
 ghost use mathlib.Core.Bool.{true, false};
 ghost use Prim.Native.Nat.{ℕ, _<_, _≤_, _^_};
 ghost use lib.ListN.{getD, length};
+ghost use Rattle.algebra.specs.Polynomial.{Below};
 ghost use Rattle.field.specs.Field.{fieldAt, rootsAt};
-ghost use Rattle.field.specs.Tables.{Logs, Antilogs};
+ghost use Rattle.field.specs.Tables.{Logs};
 ghost use Rattle.field_elements.specs.Calls.{positionUnder};
-ghost use Rattle.poly.specs.Lent.{Lent};
+ghost use Rattle.poly.specs.Monic.{TopIs, MadeMonic};
 ghost use Rattle.poly_small.specs.Roots.{Front};
-ghost use Rattle.corrector_locator.specs.Under.{Under};
+ghost use Rattle.corrector_locator.specs.Under.{Under, Powers, Tables};
 ghost use Rattle.corrector.specs.Places.{placesOf, sumAt, placesIn, flipAll, Findable, Placing, Placed, Few8};
 ghost use Rattle.corrector.specs.Places.{Spotted, Located, Tells, Agrees};
 ghost use Rattle.corrector.specs.Correcting.{IsBlock, IsStrength, Corrects, toldCorrected};
+use corrector_locator::inverse_of;
+use corrector_locator::powers11;
+use corrector_locator::product;
 use field::arithmetic::position_of;
 use field_tables::constants::antilogs11;
 use field_tables::constants::halves11;
 use field_tables::constants::logs11;
 use field_tables::field_types::F11;
 use find_solve::solve_lent;
-use poly::monic::make_monic;
+use poly::monic::top;
+use poly_small::checked::guessed_roots;
 use poly_small::low::low_roots;
 use refusals::Refusal;
 use table_rules::LIMIT;
@@ -56,24 +61,45 @@ fn nowhere() -> Places
     }
 }
 
+// The locator polynomial divided by its leading coefficient, that before place j.
+fn monic_of(logs: &[u16], powers: &[u16], locator: [u16; 9], j: usize) -> [u16; 9]
+    requires { ⌜ Tables (now logs) (now powers) × Below 2048 locator × TopIs locator j × (0 < j) ⌝ }
+    ensures { λ r. ⌜ MadeMonic 11 locator j r ⌝ }
+{
+    let k = j - 1;
+    let v = inverse_of(logs, powers, locator[k]);
+    let mut r = locator;
+    let mut i: usize = 0;
+    while i < k {
+        r[i] = product(logs, powers, v, r[i]);
+        i += 1;
+    }
+    r
+}
+
 // Writes the roots of a locator polynomial to the front of the list, by the engine that is cheapest at its degree:
-// closed forms, and above them the trace engine (the plain search costs more at every degree up to 8). Returns how
-// many there are.
-fn roots_of(logs: &[u16], antilogs: &[u16], locator: [u16; 9], roots: &mut [u16]) -> u16
-    requires { ⌜ Lent 11 (now logs) (now antilogs) × Findable locator (now roots) ⌝ }
+// closed forms, guesses at degrees 3 and 4, and where they do not serve the trace engine (the plain search costs more
+// at every degree up to 8). Only above the closed forms is the wide table made. Returns how many there are.
+fn roots_of(logs: &[u16], powers: &[u16], locator: [u16; 9], roots: &mut [u16]) -> u16
+    requires { ⌜ Tables (now logs) (now powers) × Findable locator (now roots) ⌝ }
     ensures { λ k. ⌜ Front (rootsAt 11 locator) k (now (roots .exit)) ⌝ }
 {
-    let mut monic = locator;
-    let d = make_monic(11, logs, antilogs, &mut monic) - 1;
+    let j = top(&locator);
+    let monic = monic_of(logs, powers, locator, j);
+    let d = j - 1;
     if d == 1 {
         roots[0] = monic[0];
         return 1;
     }
-    let halves = halves11();
     if d <= CLOSED as usize {
-        return low_roots(11, &halves, &monic[..d], roots) as u16;
+        return low_roots(11, &halves11(), &monic[..d], roots) as u16;
     }
-    let found = solve_lent(11, CLOSED, &locator, logs, antilogs, &halves, roots);
+    let antilogs = antilogs11();
+    if guessed_roots(11, logs, &antilogs, &monic[..d], roots) {
+        return d as u16;
+    }
+    let halves = halves11();
+    let found = solve_lent(11, CLOSED, &locator, logs, &antilogs, &halves, roots);
     found.s
 }
 
@@ -104,12 +130,12 @@ fn places_of(logs: &[u16], roots: &[u16], n: u16) -> Places
 }
 
 // The places that a locator polynomial names, unless there are more than t.
-fn spots_of(logs: &[u16], antilogs: &[u16], locator: [u16; 9], t: u16) -> Places
-    requires { ⌜ Lent 11 (now logs) (now antilogs) × Under locator × (getD locator 0 0 ≡ 1) × (t ≤ 8) ⌝ }
+fn spots_of(logs: &[u16], powers: &[u16], locator: [u16; 9], t: u16) -> Places
+    requires { ⌜ Tables (now logs) (now powers) × Under locator × (getD locator 0 0 ≡ 1) × (t ≤ 8) ⌝ }
     ensures { λ r. ⌜ Spotted (placesOf locator) t r ⌝ }
 {
     let mut roots = [0u16; LIMIT];
-    let s = roots_of(logs, antilogs, locator, &mut roots);
+    let s = roots_of(logs, powers, locator, &mut roots);
     if t < s {
         return nowhere();
     }
@@ -117,8 +143,8 @@ fn spots_of(logs: &[u16], antilogs: &[u16], locator: [u16; 9], t: u16) -> Places
 }
 
 // The sum of a^(k j) over the places j.
-fn power_sum(antilogs: &[u16], p: Places, k: u32) -> u16
-    requires { ⌜ Antilogs (fieldAt 11) (now antilogs) × Few8 p × (k < 100) ⌝ }
+fn power_sum(powers: &[u16], p: Places, k: u32) -> u16
+    requires { ⌜ Powers (now powers) × Few8 p × (k < 100) ⌝ }
     ensures { λ r. ⌜ r ≡ sumAt (placesIn p) k ⌝ }
 {
     let at = p.at;
@@ -127,20 +153,20 @@ fn power_sum(antilogs: &[u16], p: Places, k: u32) -> u16
     let mut i: usize = 0;
     while i < n {
         let e = (at[i] as u32) * k % 2047;
-        sum = sum ^ antilogs[2 * (e as usize)];
+        sum = sum ^ powers[e as usize];
         i += 1;
     }
     sum
 }
 
 // Are the first t odd power sums of the places these?
-fn agree(antilogs: &[u16], p: Places, odd: [u16; 8], t: u32) -> bool
-    requires { ⌜ Antilogs (fieldAt 11) (now antilogs) × Few8 p × (t ≤ 8) ⌝ }
+fn agree(powers: &[u16], p: Places, odd: [u16; 8], t: u32) -> bool
+    requires { ⌜ Powers (now powers) × Few8 p × (t ≤ 8) ⌝ }
     ensures { λ r. ⌜ Tells (Agrees odd t (placesIn p)) r ⌝ }
 {
     let mut i: u32 = 0;
     while i < t {
-        if power_sum(antilogs, p, 2 * i + 1) != odd[i as usize] {
+        if power_sum(powers, p, 2 * i + 1) != odd[i as usize] {
             return false;
         }
         i += 1;
@@ -154,14 +180,14 @@ fn locate(odd: [u16; 8], t: u16) -> Places
     ensures { λ r. ⌜ Located odd t r ⌝ }
 {
     let logs = logs11();
-    let antilogs = antilogs11();
-    let s = corrector_locator::all_sums(&logs, &antilogs, odd);
-    let r = corrector_locator::key(&logs, &antilogs, &s, t as usize);
+    let powers = powers11();
+    let s = corrector_locator::all_sums(&logs, &powers, odd);
+    let r = corrector_locator::key(&logs, &powers, &s, t as usize);
     let locator = r.locator;
-    let p = spots_of(&logs, &antilogs, locator, t);
+    let p = spots_of(&logs, &powers, locator, t);
     let good = p.good;
     if good {
-        if agree(&antilogs, p, odd, t as u32) {
+        if agree(&powers, p, odd, t as u32) {
             return p;
         }
         return nowhere();

@@ -1,4 +1,5 @@
--- Why: the loops, the registers of a run, and the squares.
+-- Why: the tables, the loops, the registers of a run, and the squares.
+pub mod Tabled
 pub mod Loops
 pub mod Fine
 pub mod Turns

@@ -125,17 +125,19 @@ module _ {m : ℕ} {ls ts r : List ℕ} {j : ℕ} (l : Lent m ls ts) (b : Below 
           ∙ mul-inverse (fieldAt m) (field-of l) (getD r (j - 1) 0) lead-pos lead-small in
           absurd (let w : ⊥ = omega arith in w)
 
-  pub made-some : {v : ℕ} {y : List ℕ} → v ≡ inverse (fieldAt m) (getD r (j - 1) 0) → y ≡ map (G m .mul v) (take (j - 1) r) → MadeMonic m r j (y ++ drop (j - 1) r)
-  unfolding monicLow
-  made-some {v} {y} e s =
-      let k : ℕ = j - 1 in
-      let w = t .within in
-      let back : suc k ≡ j = omega arith in
-      let long : length (take k r) ≡ k = length-take-le k r (omega arith) in
-      let same : length y ≡ k = ap length s ∙ length-map (take k r) (G m .mul v) ∙ long in
-      record {
-        within = w;
-        long = length-front r y k (same ∙ sym long);
-        made = norm-skip m r j (length r) w (t .above) ∙ ap (λ i. norm (G m) i r) (sym back) ∙ norm-lead m k r (t .nonzero (omega arith))
-            ∙ ap some (ap (λ u. map (G m .mul u) (take k r)) (sym e) ∙ sym s ∙ sym (take-at y (drop k r) k same)) ∙ ap (λ i. monicLow i (y ++ drop k r)) back;
-      }
+-- divided by it
+pub made-some : {m : ℕ} {r : List ℕ} {j v : ℕ} {y : List ℕ} → TopIs r j → j ≢ 0 → v ≡ inverse (fieldAt m) (getD r (j - 1) 0)
+    → y ≡ map (G m .mul v) (take (j - 1) r) → MadeMonic m r j (y ++ drop (j - 1) r)
+unfolding monicLow
+made-some {m} {r} {j} {v} {y} t h e s =
+    let k : ℕ = j - 1 in
+    let w = t .within in
+    let back : suc k ≡ j = omega arith in
+    let long : length (take k r) ≡ k = length-take-le k r (omega arith) in
+    let same : length y ≡ k = ap length s ∙ length-map (take k r) (G m .mul v) ∙ long in
+    record {
+      within = w;
+      long = length-front r y k (same ∙ sym long);
+      made = norm-skip m r j (length r) w (t .above) ∙ ap (λ i. norm (G m) i r) (sym back) ∙ norm-lead m k r (t .nonzero (omega arith))
+          ∙ ap some (ap (λ u. map (G m .mul u) (take k r)) (sym e) ∙ sym s ∙ sym (take-at y (drop k r) k same)) ∙ ap (λ i. monicLow i (y ++ drop k r)) back;
+    }

@@ -8,10 +8,10 @@ use Rattle.corrector.proofs.power_sum.Statement.{statement}
 use Rattle.corrector.proofs.power_sum.Tie as tie
 
 abbrev Inv-loop : tie.InvT-loop
-Inv-loop antilogs k at n sum₀ i₀ sum i = SummingPlaces at k n sum i
+Inv-loop powers k at n sum₀ i₀ sum i = SummingPlaces at k n sum i
 
 abbrev μ-loop : tie.MeasureT-loop
-μ-loop antilogs k at n sum₀ i₀ sum i = n - i
+μ-loop powers k at n sum₀ i₀ sum i = n - i
 
 cast-n : tie.Need-cast-n Inv-loop μ-loop
 cast-n c = search needs
@@ -36,9 +36,6 @@ cast-sum c = search needs
 
 mul-sum : tie.Need-mul-sum Inv-loop μ-loop
 mul-sum c = search needs
-
-mul-sum-2 : tie.Need-mul-sum-2 Inv-loop μ-loop
-mul-sum-2 c = search needs
 
 shared-slice-read-sum : tie.Need-shared-slice-read-sum Inv-loop μ-loop
 shared-slice-read-sum c = let f = c .before .before .before .before .before .pre .0 in let n = f .entries in omega arith
@@ -69,7 +66,6 @@ power-sum-spec =
     mul-e-2
     cast-sum
     mul-sum
-    mul-sum-2
     shared-slice-read-sum
     add-i
     loop-less

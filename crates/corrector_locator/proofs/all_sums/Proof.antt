@@ -11,10 +11,10 @@ use Rattle.corrector_locator.proofs.all_sums.Tie as tie
 use Rattle.corrector_locator.proofs.product.Reads as product-reads
 
 abbrev Inv-loop : tie.InvT-loop
-Inv-loop logs antilogs odd s₀ i₀ s i = (length odd ≡ 8) × Squaring odd s i
+Inv-loop logs powers odd s₀ i₀ s i = (length odd ≡ 8) × Squaring odd s i
 
 abbrev μ-loop : tie.MeasureT-loop
-μ-loop logs antilogs odd s₀ i₀ s i = 8 - i
+μ-loop logs powers odd s₀ i₀ s i = 8 - i
 
 loop-holds : tie.Need-loop-holds Inv-loop μ-loop
 loop-holds c = (omega arith, squaring-from _)

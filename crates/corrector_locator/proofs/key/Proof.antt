@@ -12,10 +12,10 @@ use Rattle.corrector_locator.proofs.key.Tie as tie
 use Rattle.corrector_locator.proofs.turn_register.Reads as turn-register-reads
 
 abbrev Inv-loop : tie.InvT-loop
-Inv-loop logs antilogs s t r₀ m₀ r m = Turning (λ j. getD s j 0) t r m
+Inv-loop logs powers s t r₀ m₀ r m = Turning (λ j. getD s j 0) t r m
 
 abbrev μ-loop : tie.MeasureT-loop
-μ-loop logs antilogs s t r₀ m₀ r m = t - m
+μ-loop logs powers s t r₀ m₀ r m = t - m
 
 loop-holds : tie.Need-loop-holds Inv-loop μ-loop
 unfolding register

@@ -15,10 +15,10 @@ use Rattle.corrector_locator.proofs.plus_times.Tie as tie
 use Rattle.corrector_locator.proofs.product.Reads as product-reads
 
 abbrev Inv-loop : tie.InvT-loop
-Inv-loop logs antilogs d q r₀ i₀ r i = (length r₀ ≡ 9) × (length q ≡ 9) × Filling (plusTimes F11 r₀ d q) r₀ r i
+Inv-loop logs powers d q r₀ i₀ r i = (length r₀ ≡ 9) × (length q ≡ 9) × Filling (plusTimes F11 r₀ d q) r₀ r i
 
 abbrev μ-loop : tie.MeasureT-loop
-μ-loop logs antilogs d q r₀ i₀ r i = 9 - i
+μ-loop logs powers d q r₀ i₀ r i = 9 - i
 
 loop-holds : tie.Need-loop-holds Inv-loop μ-loop
 loop-holds c = (omega arith, omega arith, fill-from _ _ (plusTimes-long _ _ _ (omega arith)))

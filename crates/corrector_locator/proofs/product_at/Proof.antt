@@ -12,10 +12,10 @@ use Rattle.corrector_locator.proofs.product_at.Tie as tie
 use Rattle.corrector_locator.proofs.product.Reads as product-reads
 
 abbrev Inv-loop : tie.InvT-loop
-Inv-loop logs antilogs s k p d₀ i₀ d i = (length p ≡ 9) × Convolving p (λ j. getD s j 0) k d i
+Inv-loop logs powers s k p d₀ i₀ d i = (length p ≡ 9) × Convolving p (λ j. getD s j 0) k d i
 
 abbrev μ-loop : tie.MeasureT-loop
-μ-loop logs antilogs s k p d₀ i₀ d i = 9 - i
+μ-loop logs powers s k p d₀ i₀ d i = 9 - i
 
 loop-holds : tie.Need-loop-holds Inv-loop μ-loop
 loop-holds c = (omega arith, convolve-start _ _ _)

@@ -14,7 +14,7 @@ use Rattle.corrector_locator.proofs.turn_register.Tie as tie
 use Rattle.corrector_locator.proofs.plus_times.Reads as plus-times-reads
 use Rattle.corrector_locator.proofs.product_at.Reads as product-at-reads
 use Rattle.corrector_locator.proofs.shifted.Reads as shifted-reads
-use Rattle.poly.proofs.monic.inverse_by_logs.Reads as inverse-by-logs-reads
+use Rattle.corrector_locator.proofs.inverse_of.Reads as inverse-of-reads
 
 mul-product-at : tie.Need-mul-product-at
 mul-product-at c = search needs
@@ -39,13 +39,13 @@ plus-times-requires c κs =
     let a = c .before .before .before .before .before .before .before in
     (a .pre .0, subst (λ d. d < 2048) (sym (c .before .product-at .ensures)) (conv-lt _ _ _), a .pre .3 .1)
 
-inverse-by-logs-requires : tie.Need-inverse-by-logs-requires
-inverse-by-logs-requires c κs = (c .before .before .before .before .before .before .before .before .before .pre .0, omega (arith, c .before .before .if1 .left), subst (λ d. d < 2048) (sym (c .before .before .before .product-at .ensures)) (conv-lt _ _ _))
+inverse-of-requires : tie.Need-inverse-of-requires
+inverse-of-requires c κs = (c .before .before .before .before .before .before .before .before .before .pre .0, omega (arith, c .before .before .if1 .left), subst (λ d. d < 2048) (sym (c .before .before .before .product-at .ensures)) (conv-lt _ _ _))
 
 plus-times-requires-2 : tie.Need-plus-times-requires-2
 plus-times-requires-2 c κs =
     let a = c .before .before .before .before .before .before .before .before .before .before in
-    (a .pre .0, subst (λ d. d < 2048) (sym (c .inverse-by-logs .ensures)) (inverse-lt (fieldAt 11) gen11 _), a .pre .3 .0)
+    (a .pre .0, subst (λ d. d < 2048) (sym (c .inverse-of .ensures)) (inverse-lt (fieldAt 11) gen11 _), a .pre .3 .0)
 
 shifted-requires-2 : tie.Need-shifted-requires-2
 shifted-requires-2 c κs = search needs
@@ -57,7 +57,7 @@ returns-2 : tie.Need-returns-2
 returns-2 c =
     let a = c .before .before .before .before .before .before .product-at .ensures in
     turn-long _ _ _ _ _ _ a (c .before .before .before .before .before .if1 .left) (c .before .before .before .before .plus-times .ensures) (c .before .before .before .if2 .taken)
-    (c .before .before .inverse-by-logs .ensures) (c .before .before .before .before .before .before .before .before .before .before .before .before .pre .3 .4) (c .before .plus-times2 .ensures) (c .shifted2 .ensures)
+    (c .before .before .inverse-of .ensures) (c .before .before .before .before .before .before .before .before .before .before .before .before .pre .3 .4) (c .before .plus-times2 .ensures) (c .shifted2 .ensures)
 
 shifted-requires-3 : tie.Need-shifted-requires-3
 shifted-requires-3 c κs = search needs
@@ -80,7 +80,7 @@ turn-register-spec =
     add-t21
     returns
     plus-times-requires
-    inverse-by-logs-requires
+    inverse-of-requires
     plus-times-requires-2
     shifted-requires-2
     add-t22

@@ -49,7 +49,7 @@ same-length-2 : tie.Need-same-length-2
 same-length-2 c = search needs
 
 returns-2 : tie.Need-returns-2
-returns-2 c = made-some (c .before .before .before .before .before .before .before .before .before .before .before .before .pre .0) (c .before .before .before .before .before .before .before .before .before .before .before .before .pre .1) (c .before .before .before .before .before .before .before .top .ensures) (c .before .before .before .before .before .before .if1 .left) (c .before .before .before .before .inverse-by-logs .ensures) (c .before .before .scale .ensures)
+returns-2 c = made-some (c .before .before .before .before .before .before .before .top .ensures) (c .before .before .before .before .before .before .if1 .left) (c .before .before .before .before .inverse-by-logs .ensures) (c .before .before .scale .ensures)
 
 pub make-monic-spec : {M : Type 1} → statement M
 make-monic-spec =
