@@ -33,8 +33,11 @@ use poly_small::low::low_roots;
 use refusals::Refusal;
 use table_rules::LIMIT;
 
-// Up to this degree roots have closed forms, and it is the trace engine's cutoff.
+// Up to this degree roots have closed forms.
 const CLOSED: u16 = 2;
+
+// The trace engine's cutoff: its cubics are guessed and tried.
+const CUTOFF: u16 = 3;
 
 // What the corrector answers: the number of flips, or what is turned away.
 pub enum Corrected {
@@ -99,7 +102,7 @@ fn roots_of(logs: &[u16], powers: &[u16], locator: [u16; 9], roots: &mut [u16]) 
         return d as u16;
     }
     let halves = halves11();
-    let found = solve_lent(11, CLOSED, &locator, logs, &antilogs, &halves, roots);
+    let found = solve_lent(11, CUTOFF, &locator, logs, &antilogs, &halves, roots);
     found.s
 }
 
