@@ -1,7 +1,7 @@
 -- The tests of the element calls: which refusal the code's tests show, and what is known where all pass.
 --   pair-outside, pair-in, pair-told   the tests on two elements
 --   one-tests, one-told                the tests on one element that must not be 0
---   place-tests, place-told            the tests of a position
+--   place-tests, place-unnamed, place-told   the tests of a position
 -- Assumes nothing.
 use mathlib.Core.Path.{_≡_, refl, sym, ap, subst, _∙_}
 use mathlib.Core.Bool.{Bool, true, false, not, _||_}
@@ -9,16 +9,17 @@ use mathlib.Core.List.{List, [], _∷_}
 use mathlib.Core.Logic.{_⊎_, inl, inr}
 use Prim.Native.Nat.{ℕ, _≤_, _<_, _^_}
 use native.Mathlib.Omega.{arith}
-use borrow.Author.Tests.{le-leb, lt-leb, leb-false, eqb-false, not-false}
+use borrow.Author.Tests.{le-ltb, lt-ltb, le-leb, lt-leb, leb-false, eqb-false, not-false}
 use lib.Dec.{eqb, leb, ltb}
 use Rattle.refusals.specs.Order.{Given, Passed}
+use Rattle.refusals.specs.Order.Given.{here, later}
 use Rattle.refusals.specs.Order.Passed.{none}
 use Rattle.field.specs.Rows.{known, IsRow}
 use Rattle.refusals.specs.Admitting.{Admits, withTest}
 use Rattle.field.specs.declared.rows.Row.{Row}
 use Rattle.refusals.specs.declared.Refusal.the-variants.{Element, OfZero, Convention}
 use Rattle.refusals.specs.declared.Admission.{Admission}
-use Rattle.refusals.specs.declared.Admission.the-variants.{In}
+use Rattle.refusals.specs.declared.Admission.the-variants.{In, Out}
 use Rattle.refusals.proofs.Order.{holds, fails, passes, failed, others}
 use Rattle.refusals.proofs.Admitting.{admits-also}
 use Rattle.field.proofs.Known.{listed-on}
@@ -85,21 +86,18 @@ one-told {m} {a} p =
     }
 
 -- ---- a position
--- the tests behind that of the field, as the code makes them
-pub place-tests : {m : ℕ} (r v : ℕ) {row : Row} {told within all : Admission} → IsRow m row
-    → told ≡ withTest In (ltb 1 v) Convention
-    → within ≡ withTest told (leb (row .size) r) Element
-    → all ≡ withTest within (eqb r 0) OfZero
-    → Admits (positionTests m r v) all
-place-tests {m} r v {row} {told} {within} i f g h =
-    let one : List (ℕ × Bool) = (1, not (known m)) ∷ [] in
-    let two : List (ℕ × Bool) = (1, not (known m)) ∷ (21, ltb 1 v) ∷ [] in
-    let three : List (ℕ × Bool) = (1, not (known m)) ∷ (21, ltb 1 v) ∷ (4, outside m r) ∷ [] in
-    let size = ap (λ (n : ℕ). withTest told (leb n r) Element) (i .size) in
-    let first : Admits one In = passes (listed-on i) none in
-    let second = admits-also one In (ltb 1 v) Convention f first in
-    let third = admits-also two told (outside m r) Element (g ∙ size) second in
-    admits-also three within (eqb r 0) OfZero h third
+-- a test that fails may stand behind the first
+behind-first : {n j i : ℕ} {s t : Bool} {ts : List (ℕ × Bool)} → t ≡ false → Given n ((j, s) ∷ ts) → Given n ((j, s) ∷ (i, t) ∷ ts)
+behind-first e here = here
+behind-first e (later g) = later (fails e g)
+
+-- under a convention there are the tests of the element; what is none is turned away in every field that is known
+pub place-tests : (m r : ℕ) {v : ℕ} (a : Admission) → v ≤ 1 → Admits (nonzeroTests m r) a → Admits (positionTests m r v) a
+place-tests m r {v} In h p = passes (failed p) (passes (le-ltb 1 v h) (others p))
+place-tests m r {v} (Out k) h g = behind-first (le-ltb 1 v h) g
+
+pub place-unnamed : {m : ℕ} (r : ℕ) {v : ℕ} {row : Row} → IsRow m row → 1 < v → Given 21 (positionTests m r v)
+place-unnamed r {v} i h = fails (listed-on i) (holds (lt-ltb 1 v h))
 
 -- what is known of an element and a convention that were let in
 pub place-told : {m a : ℕ} (v : ℕ) → Passed (positionTests m a v) → OneIn m a

@@ -14,6 +14,9 @@ use refusals::Admission;
 use refusals::Refusal;
 use refusals::also;
 
+// An element of a field by its number, or a number that may be none.
+pub type Element = u16;
+
 // What an element call answers: a value, or what is turned away.
 pub enum Answer {
     Value(u16),
@@ -27,7 +30,7 @@ pub enum Roots {
 }
 
 // The tests of the calls on two elements.
-fn admit_pair(m: u16, a: u16, b: u16) -> Admission
+fn admit_pair(m: u16, a: Element, b: Element) -> Admission
     ensures { λ r. ⌜ Admits (pairTests m a b) r ⌝ }
 {
     let found = row_of(m);
@@ -44,14 +47,14 @@ fn admit_pair(m: u16, a: u16, b: u16) -> Admission
 }
 
 // The tests of the calls on one element that must not be 0: those of a pair of it, and one behind them.
-fn admit_nonzero(m: u16, a: u16) -> Admission
+fn admit_nonzero(m: u16, a: Element) -> Admission
     ensures { λ r. ⌜ Admits (nonzeroTests m a) r ⌝ }
 {
     also(admit_pair(m, a, a), a == 0, Refusal::OfZero)
 }
 
 // The product of a and b in the field of degree m.
-pub fn product(m: u16, a: u16, b: u16) -> Answer
+pub fn product(m: u16, a: Element, b: Element) -> Answer
     ensures { λ r. ⌜ TellsProduct m a b r ⌝ }
 {
     match admit_pair(m, a, b) {
@@ -61,7 +64,7 @@ pub fn product(m: u16, a: u16, b: u16) -> Answer
 }
 
 // The inverse of a in the field of degree m.
-pub fn inverse(m: u16, a: u16) -> Answer
+pub fn inverse(m: u16, a: Element) -> Answer
     ensures { λ r. ⌜ TellsInverse m a r ⌝ }
 {
     match admit_nonzero(m, a) {
@@ -70,46 +73,43 @@ pub fn inverse(m: u16, a: u16) -> Answer
     }
 }
 
-// The tests of the position call, each behind those before it.
-fn admit_position(m: u16, r: u16, convention: u16) -> Admission
+// The tests of the position call: those of an element that must not be 0, with the convention's behind the field's.
+fn admit_position(m: u16, r: Element, convention: u16) -> Admission
     ensures { λ a. ⌜ Admits (positionTests m r convention) a ⌝ }
 {
-    let found = row_of(m);
-    let FoundRow::At(row) = found else {
-        return Admission::Out(Refusal::Field);
-    };
-    let size = row.size;
-    let told = also(Admission::In, 1 < convention, Refusal::Convention);
-    let within = also(told, size <= r, Refusal::Element);
-    also(within, r == 0, Refusal::OfZero)
+    if convention <= 1 {
+        return admit_nonzero(m, r);
+    }
+    match row_of(m) {
+        FoundRow::At(_) => Admission::Out(Refusal::Convention),
+        FoundRow::Unknown => Admission::Out(Refusal::Field),
+    }
 }
 
 // The position of a root r in the field of degree m: where the bad bit stands. Under convention 0 (Goppa locators,
 // products of z + X) the root 2^j stands for place j; under 1 (recorders, products of 1 + X z) for its mirror image
 // among the 2^m - 1 places, and place 0 stays 0.
-pub fn position(m: u16, r: u16, convention: u16) -> Answer
+pub fn position(m: u16, r: Element, convention: u16) -> Answer
     ensures { λ j. ⌜ TellsPosition m r convention j ⌝ }
 {
-    match admit_position(m, r, convention) {
-        Admission::Out(k) => Answer::Refused(k),
-        Admission::In => {
-            let j = position_in(m, r);
-            if convention == 0 {
-                return Answer::Value(j);
-            }
-            let size = size_of(m);
-            let order = size - 1;
-            Answer::Value((order - j) % order)
-        }
+    if let Admission::Out(k) = admit_position(m, r, convention) {
+        return Answer::Refused(k);
     }
+    let j = position_in(m, r);
+    if convention == 0 {
+        return Answer::Value(j);
+    }
+    let size = size_of(m);
+    let order = size - 1;
+    Answer::Value((order - j) % order)
 }
 
 // The roots of z^2 + az + b in the field of degree m.
-pub fn quadratic(m: u16, a: u16, b: u16) -> Roots
+pub fn quadratic(m: u16, a: Element, b: Element) -> Roots
     ensures { λ r. ⌜ TellsQuadratic m a b r ⌝ }
 {
-    match admit_pair(m, a, b) {
-        Admission::Out(k) => Roots::Refused(k),
-        Admission::In => Roots::Found(roots_in(m, a, b)),
+    if let Admission::Out(k) = admit_pair(m, a, b) {
+        return Roots::Refused(k);
     }
+    Roots::Found(roots_in(m, a, b))
 }

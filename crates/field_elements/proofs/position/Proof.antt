@@ -31,6 +31,9 @@ admit-position-requires c κs = search needs
 enum-known-k : tie.Need-enum-known-k
 enum-known-k c = search needs
 
+returns : tie.Need-returns
+returns c = sym (refused _ (turned-away (c .before .before .before .admit-position .ensures) (c .before .k .given .1)))
+
 enum-told : tie.Need-enum-told
 enum-told c = search needs
 
@@ -39,8 +42,8 @@ position-in-requires c κs =
     let t = place-told (c .before .before .before .args .convention) (let-through c) in
     (t .field, t .positive, t .below)
 
-returns : tie.Need-returns
-returns c = goppa-outcome (its (c .before)) (c .if1 .taken)
+returns-2 : tie.Need-returns-2
+returns-2 c = goppa-outcome (its (c .before)) (c .if1 .taken)
 
 size-of-requires : tie.Need-size-of-requires
 size-of-requires c κs = place-told (c .before .before .before .before .before .args .convention) (let-through (c .before .before)) .field
@@ -48,14 +51,11 @@ size-of-requires c κs = place-told (c .before .before .before .before .before .
 sub-order : tie.Need-sub-order
 sub-order c = let w = its (c .before .before) .within in let e = c .size-of .ensures in omega arith
 
-sub-t11 : tie.Need-sub-t11
-sub-t11 c = let w = its (c .before .before) .within in let e = c .size-of .ensures in omega arith
+sub-t10 : tie.Need-sub-t10
+sub-t10 c = let w = its (c .before .before) .within in let e = c .size-of .ensures in omega arith
 
-rem-t12 : tie.Need-rem-t12
-rem-t12 c = let w = its (c .before .before) .within in let e = c .size-of .ensures in omega arith
-
-returns-2 : tie.Need-returns-2
-returns-2 c = sym (refused _ (turned-away (c .before .before .before .admit-position .ensures) (c .before .k .given .1)))
+rem-t11 : tie.Need-rem-t11
+rem-t11 c = let w = its (c .before .before) .within in let e = c .size-of .ensures in omega arith
 
 returns-3 : tie.Need-returns-3
 returns-3 c = recorder-outcome (its (c .before .before)) (c .size-of .ensures) (c .before .if1 .left)
@@ -66,12 +66,12 @@ position-spec =
     (tie.spec
     admit-position-requires
     enum-known-k
+    returns
     enum-told
     position-in-requires
-    returns
+    returns-2
     size-of-requires
     sub-order
-    sub-t11
-    rem-t12
-    returns-2
+    sub-t10
+    rem-t11
     returns-3)

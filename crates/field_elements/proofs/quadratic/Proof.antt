@@ -17,15 +17,15 @@ admit-pair-requires c κs = search needs
 enum-known-k : tie.Need-enum-known-k
 enum-known-k c = search needs
 
+returns : tie.Need-returns
+returns c = sym (refused _ (turned-away (c .before .before .before .admit-pair .ensures) (c .before .k .given .1)))
+
 enum-told : tie.Need-enum-told
 enum-told c = search needs
 
 roots-in-requires : tie.Need-roots-in-requires
 roots-in-requires c κs =
     let i = let-in (c .before .before .admit-pair .ensures) (c .enum-told .given .1) in let t = pair-told i in (t .field, t .first, t .second)
-
-returns : tie.Need-returns
-returns c = sym (refused _ (turned-away (c .before .before .before .admit-pair .ensures) (c .before .k .given .1)))
 
 returns-2 : tie.Need-returns-2
 returns-2 c =
@@ -34,4 +34,4 @@ returns-2 c =
     ap₂ (λ (d : ℕ) (l : List ℕ). (0, d ∷ l)) (ap doubles (o .times)) (o .roots) ∙ sym (accepted _ i)
 
 pub quadratic-spec : {M : Type 1} → statement M
-quadratic-spec = tie.close (tie.spec admit-pair-requires enum-known-k enum-told roots-in-requires returns returns-2)
+quadratic-spec = tie.close (tie.spec admit-pair-requires enum-known-k returns enum-told roots-in-requires returns-2)
