@@ -4,8 +4,23 @@
 ghost use Rattle.locator.specs.Calls.{ProductAs, InverseAs, PositionAs, QuadraticAs};
 ghost use Rattle.locator.specs.Calls.{SolvesAs, SearchesAs, SpansAs, BeginsAs, StepsAs, FinishesAs, CorrectsAs};
 ghost use Rattle.locator.specs.Calls.{SalvagesAs};
+use answers::found;
+use answers::refused;
+use answers::roots_of;
+use answers::value_of;
+use corrector::Corrected;
+use field_elements::Element;
+use field_elements::Roots;
+use find_affine::Spanned;
+use find_search::Searched;
+use find_solve::Solved;
+use job_salvage::Salvaged;
+use refusals::number;
+use table_begin::Begun;
+use table_finish::Finished;
+use table_step::Stepped;
 
-mod answers; // what the calls answer, as these structs
+mod answers; // the structs that several calls answer
 
 // An element call's answer.
 #[repr(C)]
@@ -63,84 +78,118 @@ pub struct LocatorSalvaged {
 
 // The product of a and b in the field of degree m.
 #[no_mangle]
-pub extern "C" fn locator_product(m: u16, a: u16, b: u16) -> LocatorValue
+pub extern "C" fn locator_product(m: u16, a: Element, b: Element) -> LocatorValue
     ensures { λ r. ⌜ ProductAs m a b r ⌝ }
 {
-    answers::value_of(field_elements::product(m, a, b))
+    value_of(field_elements::product(m, a, b))
 }
 
 // The inverse of a in the field of degree m.
 #[no_mangle]
-pub extern "C" fn locator_inverse(m: u16, a: u16) -> LocatorValue
+pub extern "C" fn locator_inverse(m: u16, a: Element) -> LocatorValue
     ensures { λ r. ⌜ InverseAs m a r ⌝ }
 {
-    answers::value_of(field_elements::inverse(m, a))
+    value_of(field_elements::inverse(m, a))
 }
 
 // The position of a root r in the field of degree m: where the bad bit stands, under a convention.
 #[no_mangle]
-pub extern "C" fn locator_position(m: u16, r: u16, convention: u16) -> LocatorValue
+pub extern "C" fn locator_position(m: u16, r: Element, convention: u16) -> LocatorValue
     ensures { λ j. ⌜ PositionAs m r convention j ⌝ }
 {
-    answers::value_of(field_elements::position(m, r, convention))
+    value_of(field_elements::position(m, r, convention))
 }
 
 // The roots of z^2 + az + b in the field of degree m.
 #[no_mangle]
-pub extern "C" fn locator_quadratic(m: u16, a: u16, b: u16) -> LocatorPair
+pub extern "C" fn locator_quadratic(m: u16, a: Element, b: Element) -> LocatorPair
     ensures { λ r. ⌜ QuadraticAs m a b r ⌝ }
 {
-    answers::pair_of(field_elements::quadratic(m, a, b))
+    match field_elements::quadratic(m, a, b) {
+        Roots::Found(q) => roots_of(q),
+        Roots::Refused(k) => LocatorPair {
+            outcome: number(k),
+            count: 0,
+            lower: 0,
+            upper: 0,
+            doubled: 0,
+        },
+    }
 }
 
 // The whole call.
 #[no_mangle]
 pub extern "C" fn locator_solve(
     m: u16,
-    coeffs: &[u16],
+    coeffs: &[Element],
     cutoff: u16,
-    roots: &mut [u16],
+    roots: &mut [Element],
     mults: &mut [u16],
 ) -> LocatorFound
     ensures { λ r. ⌜ SolvesAs m cutoff (now (coeffs .entry)) (now (roots .entry)) (now (mults .entry))
         r (now (roots .exit)) (now (mults .exit)) ⌝ }
 {
-    answers::solved_of(find_solve::solve(m, coeffs, cutoff, roots, mults))
+    match find_solve::solve(m, coeffs, cutoff, roots, mults) {
+        Solved::Found { s, steps } => found(s, steps),
+        Solved::NotSolved(k) => refused(k),
+    }
 }
 
 // The plain search.
 #[no_mangle]
 pub extern "C" fn locator_search(
     m: u16,
-    coeffs: &[u16],
-    roots: &mut [u16],
+    coeffs: &[Element],
+    roots: &mut [Element],
     mults: &mut [u16],
 ) -> LocatorFound
     ensures { λ r. ⌜ SearchesAs m (now (coeffs .entry)) (now (roots .entry)) (now (mults .entry))
         r (now (roots .exit)) (now (mults .exit)) ⌝ }
 {
-    answers::searched_of(find_search::search(m, coeffs, roots, mults))
+    match find_search::search(m, coeffs, roots, mults) {
+        Searched::Seen(s) => found(s, 0),
+        Searched::NotSearched(k) => refused(k),
+    }
 }
 
-// The roots of an affine polynomial.
+// The roots of an affine polynomial: 0 of them where there is none.
 #[no_mangle]
 pub extern "C" fn locator_affine(
     m: u16,
-    coeffs: &[u16],
-    constant: u16,
-    roots: &mut [u16],
+    coeffs: &[Element],
+    constant: Element,
+    roots: &mut [Element],
 ) -> LocatorSpace
     ensures { λ r. ⌜ SpansAs m (now (coeffs .entry)) constant (now (roots .entry)) r (now (roots .exit)) ⌝ }
 {
-    answers::space_of(find_affine::affine(m, coeffs, constant, roots))
+    match find_affine::affine(m, coeffs, constant, roots) {
+        Spanned::NoRoot => LocatorSpace {
+            outcome: 0,
+            count: 0,
+            dimension: 0,
+        },
+        Spanned::Space { dimension, count } => LocatorSpace {
+            outcome: 0,
+            count: count,
+            dimension: dimension,
+        },
+        Spanned::NotSpanned(k) => LocatorSpace {
+            outcome: number(k),
+            count: 0,
+            dimension: 0,
+        },
+    }
 }
 
 // Begins a table: its number alone.
 #[no_mangle]
-pub extern "C" fn locator_begin(m: u16, coeffs: &[u16], cutoff: u16, table: &mut [u16]) -> u16
+pub extern "C" fn locator_begin(m: u16, coeffs: &[Element], cutoff: u16, table: &mut [u16]) -> u16
     ensures { λ r. ⌜ BeginsAs m cutoff (now (coeffs .entry)) (now (table .entry)) r (now (table .exit)) ⌝ }
 {
-    answers::begun_of(table_begin::begin(m, coeffs, cutoff, table))
+    match table_begin::begin(m, coeffs, cutoff, table) {
+        Begun::Ready => 0,
+        Begun::NotBegun(k) => number(k),
+    }
 }
 
 // One step of a table.
@@ -148,15 +197,31 @@ pub extern "C" fn locator_begin(m: u16, coeffs: &[u16], cutoff: u16, table: &mut
 pub extern "C" fn locator_step(table: &mut [u16]) -> LocatorStepped
     ensures { λ r. ⌜ StepsAs (now (table .entry)) r (now (table .exit)) ⌝ }
 {
-    answers::stepped_of(table_step::step(table))
+    match table_step::step(table) {
+        Stepped::Taken => LocatorStepped {
+            outcome: 0,
+            done: 0,
+        },
+        Stepped::Done => LocatorStepped {
+            outcome: 0,
+            done: 1,
+        },
+        Stepped::NotStepped(k) => LocatorStepped {
+            outcome: number(k),
+            done: 0,
+        },
+    }
 }
 
 // Finishes a table that is done.
 #[no_mangle]
-pub extern "C" fn locator_finish(table: &[u16], roots: &mut [u16]) -> LocatorFound
+pub extern "C" fn locator_finish(table: &[u16], roots: &mut [Element]) -> LocatorFound
     ensures { λ r. ⌜ FinishesAs (now (table .entry)) (now (roots .entry)) r (now (roots .exit)) ⌝ }
 {
-    answers::finished_of(table_finish::finish(table, roots))
+    match table_finish::finish(table, roots) {
+        Finished::Listed(s) => found(s, 0),
+        Finished::NotFinished(k) => refused(k),
+    }
 }
 
 // The block corrector.
@@ -164,7 +229,13 @@ pub extern "C" fn locator_finish(table: &[u16], roots: &mut [u16]) -> LocatorFou
 pub extern "C" fn locator_correct(strength: u16, word: &mut [u8]) -> LocatorCorrected
     ensures { λ r. ⌜ CorrectsAs strength (now (word .entry)) r (now (word .exit)) ⌝ }
 {
-    answers::corrected_of(corrector::correct(strength, word))
+    match corrector::correct(strength, word) {
+        Corrected::Flips(flips) => LocatorCorrected { outcome: 0, flips },
+        Corrected::NotCorrected(k) => LocatorCorrected {
+            outcome: number(k),
+            flips: 0,
+        },
+    }
 }
 
 // Salvage of a damaged job file.
@@ -172,5 +243,14 @@ pub extern "C" fn locator_correct(strength: u16, word: &mut [u8]) -> LocatorCorr
 pub extern "C" fn locator_salvage(file: &[u8], kept: &mut [u8]) -> LocatorSalvaged
     ensures { λ r. ⌜ SalvagesAs (now (file .entry)) (now (kept .entry)) r (now (kept .exit)) ⌝ }
 {
-    answers::salvaged_of(job_salvage::salvage(file, kept))
+    match job_salvage::salvage(file, kept) {
+        Salvaged::Kept { bytes, .. } => LocatorSalvaged {
+            outcome: 0,
+            length: bytes,
+        },
+        Salvaged::NotSalvaged(k) => LocatorSalvaged {
+            outcome: number(k),
+            length: 0,
+        },
+    }
 }

@@ -1,5 +1,10 @@
--- `locator::locator_affine` meets its contract: it is the library's call, told as the struct.
+-- `locator::locator_affine` meets its contract: what the library's call answers is told as the struct, case by case.
 -- Assumes nothing.
+use mathlib.Core.Path.{refl, ap}
+use mathlib.Core.List.{[]}
+use Prim.Native.Nat.{ℕ}
+use Rattle.locator.specs.Calls.{asSpace}
+use Rattle.locator.proofs.Exports.{told-as}
 use borrow.Author.Needs.{needs}
 use Rattle.locator.proofs.locator_affine.Statement.{statement}
 use Rattle.locator.proofs.locator_affine.Tie as tie
@@ -7,14 +12,52 @@ use Rattle.locator.proofs.locator_affine.Tie as tie
 affine-requires : tie.Need-affine-requires
 affine-requires c κs = search needs
 
-space-of-requires : tie.Need-space-of-requires
-space-of-requires c κs = search needs
+enum-told : tie.Need-enum-told
+enum-told c = search needs
+
+enum-known-dimension : tie.Need-enum-known-dimension
+enum-known-dimension c = search needs
+
+enum-known-k : tie.Need-enum-known-k
+enum-known-k c = search needs
+
+number-requires : tie.Need-number-requires
+number-requires c κs = search needs
 
 same-length : tie.Need-same-length
 same-length c = search needs
 
 returns : tie.Need-returns
-returns c = let call = c .before .before .before .affine in record { answer = call .result; admitted = call .ensures; told = c .space-of .ensures }
+returns c = told-as (c .before .before .before .before .affine .ensures) (c .enum-told .given .1) refl
+
+same-length-2 : tie.Need-same-length-2
+same-length-2 c = search needs
+
+returns-2 : tie.Need-returns-2
+returns-2 c =
+    told-as (c .before .before .before .before .before .affine .ensures) (c .before .dimension .given .1)
+    refl
+
+same-length-3 : tie.Need-same-length-3
+same-length-3 c = search needs
+
+returns-3 : tie.Need-returns-3
+returns-3 c =
+    told-as (c .before .before .before .before .before .before .affine .ensures) (c .before .before .k .given .1)
+    (ap (λ (n : ℕ). asSpace (n, [])) (c .number .ensures))
 
 pub locator-affine-spec : {M : Type 1} → statement M
-locator-affine-spec = tie.close (tie.spec affine-requires space-of-requires same-length returns)
+locator-affine-spec =
+    tie.close
+    (tie.spec
+    affine-requires
+    enum-told
+    enum-known-dimension
+    enum-known-k
+    number-requires
+    same-length
+    returns
+    same-length-2
+    returns-2
+    same-length-3
+    returns-3)

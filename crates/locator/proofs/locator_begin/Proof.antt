@@ -1,5 +1,7 @@
--- `locator::locator_begin` meets its contract: it is the library's call, told as the struct.
+-- `locator::locator_begin` meets its contract: what the library's call answers is told as the struct, case by case.
 -- Assumes nothing.
+use mathlib.Core.Path.{refl}
+use Rattle.locator.proofs.Exports.{told-as}
 use borrow.Author.Needs.{needs}
 use Rattle.locator.proofs.locator_begin.Statement.{statement}
 use Rattle.locator.proofs.locator_begin.Tie as tie
@@ -7,14 +9,38 @@ use Rattle.locator.proofs.locator_begin.Tie as tie
 begin-requires : tie.Need-begin-requires
 begin-requires c κs = search needs
 
-begun-of-requires : tie.Need-begun-of-requires
-begun-of-requires c κs = search needs
+enum-told : tie.Need-enum-told
+enum-told c = search needs
+
+enum-known-k : tie.Need-enum-known-k
+enum-known-k c = search needs
+
+number-requires : tie.Need-number-requires
+number-requires c κs = search needs
 
 same-length : tie.Need-same-length
 same-length c = search needs
 
 returns : tie.Need-returns
-returns c = let call = c .before .before .before .begin in record { answer = call .result; admitted = call .ensures; told = c .begun-of .ensures }
+returns c = told-as (c .before .before .before .before .begin .ensures) (c .enum-told .given .1) refl
+
+same-length-2 : tie.Need-same-length-2
+same-length-2 c = search needs
+
+returns-2 : tie.Need-returns-2
+returns-2 c =
+    told-as (c .before .before .before .before .before .before .begin .ensures) (c .before .before .k .given .1)
+    (c .number .ensures)
 
 pub locator-begin-spec : {M : Type 1} → statement M
-locator-begin-spec = tie.close (tie.spec begin-requires begun-of-requires same-length returns)
+locator-begin-spec =
+    tie.close
+    (tie.spec
+    begin-requires
+    enum-told
+    enum-known-k
+    number-requires
+    same-length
+    returns
+    same-length-2
+    returns-2)

@@ -1,5 +1,10 @@
--- `locator::locator_correct` meets its contract: it is the library's call, told as the struct.
+-- `locator::locator_correct` meets its contract: what the library's call answers is told as the struct, case by case.
 -- Assumes nothing.
+use mathlib.Core.Path.{refl, ap}
+use mathlib.Core.List.{[]}
+use Prim.Native.Nat.{ℕ}
+use Rattle.locator.specs.Calls.{asCorrected}
+use Rattle.locator.proofs.Exports.{told-as}
 use borrow.Author.Needs.{needs}
 use Rattle.locator.proofs.locator_correct.Statement.{statement}
 use Rattle.locator.proofs.locator_correct.Tie as tie
@@ -7,14 +12,38 @@ use Rattle.locator.proofs.locator_correct.Tie as tie
 correct-requires : tie.Need-correct-requires
 correct-requires c κs = search needs
 
-corrected-of-requires : tie.Need-corrected-of-requires
-corrected-of-requires c κs = search needs
+enum-known-flips : tie.Need-enum-known-flips
+enum-known-flips c = search needs
+
+enum-known-k : tie.Need-enum-known-k
+enum-known-k c = search needs
+
+number-requires : tie.Need-number-requires
+number-requires c κs = search needs
 
 same-length : tie.Need-same-length
 same-length c = search needs
 
 returns : tie.Need-returns
-returns c = let call = c .before .before .before .correct in record { answer = call .result; admitted = call .ensures; told = c .corrected-of .ensures }
+returns c = told-as (c .before .before .before .before .before .correct .ensures) (c .before .flips .given .1) refl
+
+same-length-2 : tie.Need-same-length-2
+same-length-2 c = search needs
+
+returns-2 : tie.Need-returns-2
+returns-2 c =
+    told-as (c .before .before .before .before .before .before .correct .ensures) (c .before .before .k .given .1)
+    (ap (λ (n : ℕ). asCorrected (n, [])) (c .number .ensures))
 
 pub locator-correct-spec : {M : Type 1} → statement M
-locator-correct-spec = tie.close (tie.spec correct-requires corrected-of-requires same-length returns)
+locator-correct-spec =
+    tie.close
+    (tie.spec
+    correct-requires
+    enum-known-flips
+    enum-known-k
+    number-requires
+    same-length
+    returns
+    same-length-2
+    returns-2)

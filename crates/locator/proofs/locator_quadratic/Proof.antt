@@ -1,5 +1,10 @@
--- `locator::locator_quadratic` meets its contract: it is the library's call, told as the struct.
+-- `locator::locator_quadratic` meets its contract: what the library's call answers is told as the struct, case by case.
 -- Assumes nothing.
+use mathlib.Core.Path.{ap}
+use mathlib.Core.List.{[]}
+use Prim.Native.Nat.{ℕ}
+use Rattle.locator.specs.Calls.{asPair}
+use Rattle.locator.proofs.Exports.{told-as}
 use borrow.Author.Needs.{needs}
 use Rattle.locator.proofs.locator_quadratic.Statement.{statement}
 use Rattle.locator.proofs.locator_quadratic.Tie as tie
@@ -7,11 +12,36 @@ use Rattle.locator.proofs.locator_quadratic.Tie as tie
 quadratic-requires : tie.Need-quadratic-requires
 quadratic-requires c κs = search needs
 
-pair-of-requires : tie.Need-pair-of-requires
-pair-of-requires c κs = search needs
+enum-known-q : tie.Need-enum-known-q
+enum-known-q c = search needs
+
+roots-of-requires : tie.Need-roots-of-requires
+roots-of-requires c κs = search needs
+
+enum-known-k : tie.Need-enum-known-k
+enum-known-k c = search needs
+
+number-requires : tie.Need-number-requires
+number-requires c κs = search needs
 
 returns : tie.Need-returns
-returns c = let call = c .before .quadratic in record { answer = call .result; admitted = call .ensures; told = c .pair-of .ensures }
+returns c =
+    told-as (c .before .before .before .before .quadratic .ensures) (c .before .before .q .given .1)
+    (c .roots-of .ensures)
+
+returns-2 : tie.Need-returns-2
+returns-2 c =
+    told-as (c .before .before .before .before .quadratic .ensures) (c .before .before .k .given .1)
+    (ap (λ (n : ℕ). asPair (n, [])) (c .number .ensures))
 
 pub locator-quadratic-spec : {M : Type 1} → statement M
-locator-quadratic-spec = tie.close (tie.spec quadratic-requires pair-of-requires returns)
+locator-quadratic-spec =
+    tie.close
+    (tie.spec
+    quadratic-requires
+    enum-known-q
+    roots-of-requires
+    enum-known-k
+    number-requires
+    returns
+    returns-2)

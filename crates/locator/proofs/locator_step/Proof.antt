@@ -1,5 +1,10 @@
--- `locator::locator_step` meets its contract: it is the library's call, told as the struct.
+-- `locator::locator_step` meets its contract: what the library's call answers is told as the struct, case by case.
 -- Assumes nothing.
+use mathlib.Core.Path.{refl, ap}
+use mathlib.Core.List.{[]}
+use Prim.Native.Nat.{ℕ}
+use Rattle.locator.specs.Calls.{asStepped}
+use Rattle.locator.proofs.Exports.{told-as}
 use borrow.Author.Needs.{needs}
 use Rattle.locator.proofs.locator_step.Statement.{statement}
 use Rattle.locator.proofs.locator_step.Tie as tie
@@ -7,14 +12,50 @@ use Rattle.locator.proofs.locator_step.Tie as tie
 step-requires : tie.Need-step-requires
 step-requires c κs = search needs
 
-stepped-of-requires : tie.Need-stepped-of-requires
-stepped-of-requires c κs = search needs
+enum-told : tie.Need-enum-told
+enum-told c = search needs
+
+enum-told-2 : tie.Need-enum-told-2
+enum-told-2 c = search needs
+
+enum-known-k : tie.Need-enum-known-k
+enum-known-k c = search needs
+
+number-requires : tie.Need-number-requires
+number-requires c κs = search needs
 
 same-length : tie.Need-same-length
 same-length c = search needs
 
 returns : tie.Need-returns
-returns c = let call = c .before .before .before .step in record { answer = call .result; admitted = call .ensures; told = c .stepped-of .ensures }
+returns c = told-as (c .before .before .before .before .step .ensures) (c .enum-told .given .1) refl
+
+same-length-2 : tie.Need-same-length-2
+same-length-2 c = search needs
+
+returns-2 : tie.Need-returns-2
+returns-2 c = told-as (c .before .before .before .before .step .ensures) (c .enum-told2 .given .1) refl
+
+same-length-3 : tie.Need-same-length-3
+same-length-3 c = search needs
+
+returns-3 : tie.Need-returns-3
+returns-3 c =
+    told-as (c .before .before .before .before .before .before .step .ensures) (c .before .before .k .given .1)
+    (ap (λ (n : ℕ). asStepped (n, [])) (c .number .ensures))
 
 pub locator-step-spec : {M : Type 1} → statement M
-locator-step-spec = tie.close (tie.spec step-requires stepped-of-requires same-length returns)
+locator-step-spec =
+    tie.close
+    (tie.spec
+    step-requires
+    enum-told
+    enum-told-2
+    enum-known-k
+    number-requires
+    same-length
+    returns
+    same-length-2
+    returns-2
+    same-length-3
+    returns-3)

@@ -1,12 +1,12 @@
--- `locator::answers::as_refused` meets its contract: the number is that of the refusal.
+-- `locator::answers::refused` meets its contract: the number is that of the refusal.
 -- Assumes nothing.
 use mathlib.Core.Path.{ap}
 use mathlib.Core.List.{[]}
 use Prim.Native.Nat.{ℕ}
 use Rattle.locator.specs.Calls.{asFound}
 use borrow.Author.Needs.{needs}
-use Rattle.locator.proofs.answers.as_refused.Statement.{statement}
-use Rattle.locator.proofs.answers.as_refused.Tie as tie
+use Rattle.locator.proofs.answers.refused.Statement.{statement}
+use Rattle.locator.proofs.answers.refused.Tie as tie
 
 number-requires : tie.Need-number-requires
 number-requires c κs = search needs
@@ -14,5 +14,5 @@ number-requires c κs = search needs
 returns : tie.Need-returns
 returns c = ap (λ (n : ℕ). asFound (n, [])) (c .number .ensures)
 
-pub as-refused-spec : {M : Type 1} → statement M
-as-refused-spec = tie.close (tie.spec number-requires returns)
+pub refused-spec : {M : Type 1} → statement M
+refused-spec = tie.close (tie.spec number-requires returns)

@@ -1,0 +1,49 @@
+-- `locator::locator_salvage` meets its contract: what the library's call answers is told as the struct, case by case.
+-- Assumes nothing.
+use mathlib.Core.Path.{refl, ap}
+use mathlib.Core.List.{[]}
+use Prim.Native.Nat.{ℕ}
+use Rattle.locator.specs.Calls.{asSalvaged}
+use Rattle.locator.proofs.Exports.{told-as}
+use borrow.Author.Needs.{needs}
+use Rattle.locator.proofs.locator_salvage.Statement.{statement}
+use Rattle.locator.proofs.locator_salvage.Tie as tie
+
+salvage-requires : tie.Need-salvage-requires
+salvage-requires c κs = search needs
+
+enum-known-bytes : tie.Need-enum-known-bytes
+enum-known-bytes c = search needs
+
+enum-known-k : tie.Need-enum-known-k
+enum-known-k c = search needs
+
+number-requires : tie.Need-number-requires
+number-requires c κs = search needs
+
+same-length : tie.Need-same-length
+same-length c = search needs
+
+returns : tie.Need-returns
+returns c = told-as (c .before .before .before .before .before .salvage .ensures) (c .before .bytes .given .1) refl
+
+same-length-2 : tie.Need-same-length-2
+same-length-2 c = search needs
+
+returns-2 : tie.Need-returns-2
+returns-2 c =
+    told-as (c .before .before .before .before .before .before .salvage .ensures) (c .before .before .k .given .1)
+    (ap (λ (n : ℕ). asSalvaged (n, [])) (c .number .ensures))
+
+pub locator-salvage-spec : {M : Type 1} → statement M
+locator-salvage-spec =
+    tie.close
+    (tie.spec
+    salvage-requires
+    enum-known-bytes
+    enum-known-k
+    number-requires
+    same-length
+    returns
+    same-length-2
+    returns-2)
