@@ -9,3 +9,4 @@ pub mod Whole
 pub mod Exactly
 pub mod Example
 mod Owning
+mod Closing

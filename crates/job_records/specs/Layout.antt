@@ -1,10 +1,11 @@
 -- The bytes of a job record (docs/RULES.md section 5.1), counted from its first: two of the mark, then m, cutoff and
 -- n, then n coefficients of two bytes, low byte first.
 --   markLow, markHigh   the mark
---   headLength          how many bytes stand before the coefficients
 --   marked              does a record begin with its mark?
---   degreeByte, cutoffByte, countByte   m, the cutoff and n of a record
---   bodyLength, recordLength            how many bytes its coefficients have, and how many it has in all
+--   headLength          how many bytes stand before the coefficients
+--   countByte           n of a record
+--   bodyLength, recordLength   how many bytes its coefficients have, and how many it has in all
+--   degreeByte, cutoffByte     m and the cutoff of a record
 --   word, words         the number of two bytes, and the numbers of many
 --   part                len bytes from start on, as far as there are so many
 --   coefficients        the coefficients of a record
@@ -15,23 +16,21 @@ use Prim.Native.Nat.{ℕ, _+_, _*_}
 use lib.ListN.{getD, take, drop}
 use lib.Dec.{eqb}
 
+-- ---- its mark
+
 abbrev pub markLow : ℕ
 markLow = 0x4C
 
 abbrev pub markHigh : ℕ
 markHigh = 0x52
 
-abbrev pub headLength : ℕ
-headLength = 5
-
 abbrev pub marked : List ℕ → Bool
 marked r = eqb (getD r 0 0) markLow && eqb (getD r 1 0) markHigh
 
-abbrev pub degreeByte : List ℕ → ℕ
-degreeByte r = getD r 2 0
+-- ---- how long it is
 
-abbrev pub cutoffByte : List ℕ → ℕ
-cutoffByte r = getD r 3 0
+abbrev pub headLength : ℕ
+headLength = 5
 
 abbrev pub countByte : List ℕ → ℕ
 countByte r = getD r 4 0
@@ -41,6 +40,14 @@ bodyLength r = 2 * countByte r
 
 abbrev pub recordLength : List ℕ → ℕ
 recordLength r = headLength + bodyLength r
+
+-- ---- what it says
+
+abbrev pub degreeByte : List ℕ → ℕ
+degreeByte r = getD r 2 0
+
+abbrev pub cutoffByte : List ℕ → ℕ
+cutoffByte r = getD r 3 0
 
 abbrev pub word : ℕ → ℕ → ℕ
 word low high = low + 256 * high

@@ -31,11 +31,11 @@ use denote.Steps.{owned}
 use denote.Struct.Laws as LL
 use denote.Struct.Rest.{own-put}
 use denote.Triple.Entry.{Vals, onEntry}
-use denote.Triple.Spec.{Meets, tripleOf}
-use denote.Triple.Table.{entered}
+use denote.Triple.Spec.{Meets}
 use denote.Triple.Walked.{says, Stays, stay-none, walkOf, goes-none, Walks, ends-at, walked, walk-meets}
 use denote.Exit.{yes}
 use Rattle.job_records.specs.declared.held.Reader.{Reader}
+use Rattle.job_records.proofs.Closing.{entered-in}
 use Rattle.job_records.proofs.Owning.{Row, Shape, Own}
 use Rattle.job_records.proofs.held.Reader as T
 use Rattle.job_records.proofs.held.Reader.Laws as T′
@@ -89,7 +89,5 @@ moved-meets 𝓤 H A W mem run 𝓣 = walk-meets 𝓤 H A moved.ended stayed W (
 
 pub moved-spec : {M : Type 1} → stated.statement M
 unfolding code.routine tablesOf
-moved-spec 𝓤 H 𝓜 𝓖 𝓡 =
-    entered 𝓤 H (tripleOf 𝓤 H (𝓖 .A) moved.signature (moved.spec 𝓤 H (𝓖 .A) (𝓜 .mem) (𝓡 .run)))
-    (tables 𝓤 H 𝓜 𝓡 code.env .C) (tables 𝓤 H 𝓜 𝓡 code.env .Λ) #job-records·held·moved code.function (code.unfolded 𝓤 H 𝓜 𝓡)
+moved-spec 𝓤 H 𝓜 𝓖 𝓡 = entered-in 𝓤 H 𝓜 𝓡 code.env _ #job-records·held·moved code.function (code.unfolded 𝓤 H 𝓜 𝓡)
     (moved-meets 𝓤 H (𝓖 .A) (givenOf 𝓤 H 𝓜 𝓖) (𝓜 .mem) (𝓡 .run) (tablesOf 𝓤 H 𝓜 (tables 𝓤 H 𝓜 𝓡 code.env)))

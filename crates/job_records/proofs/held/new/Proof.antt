@@ -32,11 +32,11 @@ use denote.Slice.{sliceVal, ShrSlice, slice-vals, shr-slice-tells, shr-slice-law
 use denote.Steps.{nothing, owned}
 use denote.Struct.Rest.{own-shut}
 use denote.Triple.Entry.{Vals, onEntry}
-use denote.Triple.Spec.{Meets, tripleOf}
-use denote.Triple.Table.{entered}
+use denote.Triple.Spec.{Meets}
 use denote.Triple.Walked.{says, Stays, stay-none, stay-none-slice, walkOf, goes-none, goes-none-slice, Walks, ends-at, walked, walk-meets}
 use denote.Exit.{yes}
 use Rattle.job_records.specs.declared.held.Reader.{Reader}
+use Rattle.job_records.proofs.Closing.{entered-in}
 use Rattle.job_records.proofs.held.Reader as T
 use Rattle.job_records.proofs.held.Reader.Laws as T′
 use Rattle.job_records.proofs.held.new.Key.{name as #job-records·held·new}
@@ -94,7 +94,5 @@ new-meets 𝓤 H A W mem run 𝓣 = walk-meets 𝓤 H A new.ended stayed W (goes
 
 pub new-spec : {M : Type 1} → stated.statement M
 unfolding code.routine tablesOf
-new-spec 𝓤 H 𝓜 𝓖 𝓡 =
-    entered 𝓤 H (tripleOf 𝓤 H (𝓖 .A) new.signature (new.spec 𝓤 H (𝓖 .A) (𝓜 .mem) (𝓡 .run)))
-    (tables 𝓤 H 𝓜 𝓡 code.env .C) (tables 𝓤 H 𝓜 𝓡 code.env .Λ) #job-records·held·new code.function (code.unfolded 𝓤 H 𝓜 𝓡)
+new-spec 𝓤 H 𝓜 𝓖 𝓡 = entered-in 𝓤 H 𝓜 𝓡 code.env _ #job-records·held·new code.function (code.unfolded 𝓤 H 𝓜 𝓡)
     (new-meets 𝓤 H (𝓖 .A) (givenOf 𝓤 H 𝓜 𝓖) (𝓜 .mem) (𝓡 .run) (tablesOf 𝓤 H 𝓜 (tables 𝓤 H 𝓜 𝓡 code.env)))

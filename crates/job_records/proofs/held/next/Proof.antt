@@ -39,13 +39,14 @@ use denote.Triple.Statement.{Contract, Triple}
 use denote.Triple.Call.{calls-at}
 use denote.Triple.Entry.{Vals, onEntry}
 use denote.Triple.Spec.{Meets, tripleOf}
-use denote.Triple.Table.{entered, cited}
+use denote.Triple.Table.{cited}
 use denote.Triple.Walked.{says, Stays, stay-none, walkOf, goes-none, Walks, ends-at, walked, walk-meets}
 use denote.Exit.{yes}
 use denote.Triple.Clauses.{ensured, lasts}
 use Rattle.job_records.specs.Reading.{Outcome, toldRead, readAt}
 use Rattle.job_records.specs.declared.held.Reader.{Reader}
 use Rattle.job_records.specs.declared.Read.{Read}
+use Rattle.job_records.proofs.Closing.{entered-in}
 use Rattle.job_records.proofs.Owning.{Row, Shape, laws, fields, Own}
 use Rattle.job_records.proofs.held.Reader as T
 use Rattle.job_records.proofs.held.Reader.Laws as T′
@@ -143,8 +144,6 @@ next-meets 𝓤 H A W mem run 𝓣 known-step = walk-meets 𝓤 H A next.ended s
 
 pub next-spec : {M : Type 1} → stated.statement M
 unfolding code.routine tablesOf
-next-spec 𝓤 H 𝓜 𝓖 𝓡 =
-    entered 𝓤 H (tripleOf 𝓤 H (𝓖 .A) next.signature (next.spec 𝓤 H (𝓖 .A) (𝓜 .mem) (𝓡 .run)))
-    (tables 𝓤 H 𝓜 𝓡 code.env .C) (tables 𝓤 H 𝓜 𝓡 code.env .Λ) #job-records·held·next code.function (code.unfolded 𝓤 H 𝓜 𝓡)
+next-spec 𝓤 H 𝓜 𝓖 𝓡 = entered-in 𝓤 H 𝓜 𝓡 code.env _ #job-records·held·next code.function (code.unfolded 𝓤 H 𝓜 𝓡)
     (next-meets 𝓤 H (𝓖 .A) (givenOf 𝓤 H 𝓜 𝓖) (𝓜 .mem) (𝓡 .run) (tablesOf 𝓤 H 𝓜 (tables 𝓤 H 𝓜 𝓡 code.env))
     (cited 𝓤 H (ReadRecord 𝓤 H (𝓖 .A) (𝓜 .mem) (𝓡 .run)) 𝓜 𝓡 code.env #job-records·read-record step-def.routine code.calls-job-records·read-record (step-thm.met 𝓤 H 𝓜 𝓖 𝓡)))
