@@ -1,9 +1,6 @@
 -- `locator::locator_affine` meets its contract: what the library's call answers is told as the struct, case by case.
 -- Assumes nothing.
-use mathlib.Core.Path.{refl, ap}
-use mathlib.Core.List.{[]}
-use Prim.Native.Nat.{ℕ}
-use Rattle.locator.specs.Calls.{asSpace}
+use mathlib.Core.Path.{refl}
 use Rattle.locator.proofs.Exports.{told-as}
 use borrow.Author.Needs.{needs}
 use Rattle.locator.proofs.locator_affine.Statement.{statement}
@@ -34,17 +31,15 @@ same-length-2 : tie.Need-same-length-2
 same-length-2 c = search needs
 
 returns-2 : tie.Need-returns-2
-returns-2 c =
-    told-as (c .before .before .before .before .before .affine .ensures) (c .before .dimension .given .1)
-    refl
+returns-2 c = let answered = c .before .before .before .before .before .affine in
+    told-as (answered .ensures) (c .before .dimension .given .1) refl
 
 same-length-3 : tie.Need-same-length-3
 same-length-3 c = search needs
 
 returns-3 : tie.Need-returns-3
-returns-3 c =
-    told-as (c .before .before .before .before .before .before .affine .ensures) (c .before .before .k .given .1)
-    (ap (λ (n : ℕ). asSpace (n, [])) (c .number .ensures))
+returns-3 c = let answered = c .before .before .before .before .before .before .affine in
+    told-as (answered .ensures) (c .before .before .k .given .1) (rw (c .number .ensures))
 
 pub locator-affine-spec : {M : Type 1} → statement M
 locator-affine-spec =

@@ -28,9 +28,8 @@ same-length-2 : tie.Need-same-length-2
 same-length-2 c = search needs
 
 returns-2 : tie.Need-returns-2
-returns-2 c =
-    told-as (c .before .before .before .before .before .before .begin .ensures) (c .before .before .k .given .1)
-    (c .number .ensures)
+returns-2 c = let answered = c .before .before .before .before .before .before .begin in
+    told-as (answered .ensures) (c .before .before .k .given .1) (c .number .ensures)
 
 pub locator-begin-spec : {M : Type 1} → statement M
 locator-begin-spec =

@@ -1,9 +1,6 @@
 -- `locator::locator_correct` meets its contract: what the library's call answers is told as the struct, case by case.
 -- Assumes nothing.
-use mathlib.Core.Path.{refl, ap}
-use mathlib.Core.List.{[]}
-use Prim.Native.Nat.{ℕ}
-use Rattle.locator.specs.Calls.{asCorrected}
+use mathlib.Core.Path.{refl}
 use Rattle.locator.proofs.Exports.{told-as}
 use borrow.Author.Needs.{needs}
 use Rattle.locator.proofs.locator_correct.Statement.{statement}
@@ -31,9 +28,8 @@ same-length-2 : tie.Need-same-length-2
 same-length-2 c = search needs
 
 returns-2 : tie.Need-returns-2
-returns-2 c =
-    told-as (c .before .before .before .before .before .before .correct .ensures) (c .before .before .k .given .1)
-    (ap (λ (n : ℕ). asCorrected (n, [])) (c .number .ensures))
+returns-2 c = let answered = c .before .before .before .before .before .before .correct in
+    told-as (answered .ensures) (c .before .before .k .given .1) (rw (c .number .ensures))
 
 pub locator-correct-spec : {M : Type 1} → statement M
 locator-correct-spec =

@@ -24,17 +24,15 @@ same-length : tie.Need-same-length
 same-length c = search needs
 
 returns : tie.Need-returns
-returns c =
-    told-as (c .before .before .before .before .before .before .finish .ensures) (c .before .before .s .given .1)
-    (c .found .ensures)
+returns c = let answered = c .before .before .before .before .before .before .finish in
+    told-as (answered .ensures) (c .before .before .s .given .1) (c .found .ensures)
 
 same-length-2 : tie.Need-same-length-2
 same-length-2 c = search needs
 
 returns-2 : tie.Need-returns-2
-returns-2 c =
-    told-as (c .before .before .before .before .before .before .finish .ensures) (c .before .before .k .given .1)
-    (c .refused .ensures)
+returns-2 c = let answered = c .before .before .before .before .before .before .finish in
+    told-as (answered .ensures) (c .before .before .k .given .1) (c .refused .ensures)
 
 pub locator-finish-spec : {M : Type 1} → statement M
 locator-finish-spec =

@@ -1,9 +1,5 @@
 -- `locator::locator_quadratic` meets its contract: what the library's call answers is told as the struct, case by case.
 -- Assumes nothing.
-use mathlib.Core.Path.{ap}
-use mathlib.Core.List.{[]}
-use Prim.Native.Nat.{ℕ}
-use Rattle.locator.specs.Calls.{asPair}
 use Rattle.locator.proofs.Exports.{told-as}
 use borrow.Author.Needs.{needs}
 use Rattle.locator.proofs.locator_quadratic.Statement.{statement}
@@ -25,14 +21,12 @@ number-requires : tie.Need-number-requires
 number-requires c κs = search needs
 
 returns : tie.Need-returns
-returns c =
-    told-as (c .before .before .before .before .quadratic .ensures) (c .before .before .q .given .1)
-    (c .roots-of .ensures)
+returns c = let answered = c .before .before .before .before .quadratic in
+    told-as (answered .ensures) (c .before .before .q .given .1) (c .roots-of .ensures)
 
 returns-2 : tie.Need-returns-2
-returns-2 c =
-    told-as (c .before .before .before .before .quadratic .ensures) (c .before .before .k .given .1)
-    (ap (λ (n : ℕ). asPair (n, [])) (c .number .ensures))
+returns-2 c = let answered = c .before .before .before .before .quadratic in
+    told-as (answered .ensures) (c .before .before .k .given .1) (rw (c .number .ensures))
 
 pub locator-quadratic-spec : {M : Type 1} → statement M
 locator-quadratic-spec =

@@ -1,9 +1,6 @@
 -- `locator::locator_step` meets its contract: what the library's call answers is told as the struct, case by case.
 -- Assumes nothing.
-use mathlib.Core.Path.{refl, ap}
-use mathlib.Core.List.{[]}
-use Prim.Native.Nat.{ℕ}
-use Rattle.locator.specs.Calls.{asStepped}
+use mathlib.Core.Path.{refl}
 use Rattle.locator.proofs.Exports.{told-as}
 use borrow.Author.Needs.{needs}
 use Rattle.locator.proofs.locator_step.Statement.{statement}
@@ -40,9 +37,8 @@ same-length-3 : tie.Need-same-length-3
 same-length-3 c = search needs
 
 returns-3 : tie.Need-returns-3
-returns-3 c =
-    told-as (c .before .before .before .before .before .before .step .ensures) (c .before .before .k .given .1)
-    (ap (λ (n : ℕ). asStepped (n, [])) (c .number .ensures))
+returns-3 c = let answered = c .before .before .before .before .before .before .step in
+    told-as (answered .ensures) (c .before .before .k .given .1) (rw (c .number .ensures))
 
 pub locator-step-spec : {M : Type 1} → statement M
 locator-step-spec =
