@@ -1,6 +1,5 @@
 -- The loops of salvage: what holds at each turn.
 --   Seeking    `next_kept`: none is kept from `at` on before the place;  seek-from, seek-on, seek-found, seek-end
---   Putting    `put_bytes`: the first j bytes stand in the room;  put-from, put-on, put-end
 --   Keeping    `salvage`: the records before the place are in the room;  keep-from, keep-on, keep-end
 --   told-room, told-kept   the two answers of `salvage`
 -- Assumes nothing.
@@ -9,15 +8,14 @@ use mathlib.Core.Bool.{Bool, true, false}
 use mathlib.Core.List.{List, [], _∷_, _++_, append-nil, append-assoc}
 use mathlib.Core.Logic.{_⊎_, inl, inr}
 use Prim.Native.Nat.{ℕ, _+_, _-_, _≤_, _<_}
-use native.Mathlib.Nat.{add-zero, eq-or-lt-of-le}
-use native.Mathlib.Numerals.{add-one}
+use native.Mathlib.Nat.{eq-or-lt-of-le}
 use native.Mathlib.Omega.{arith}
 use borrow.Author.Tests.{lt-ltb, le-ltb}
-use lib.ListN.{length, getD, take, drop, set, length-append, length-drop, length-set, take-append-drop}
-use lib.Seq.{take-suc, take-length, length-take-le}
+use lib.ListN.{length, drop, length-append, length-drop}
+use lib.Seq.{length-take-le}
 use Rattle.refusals.proofs.Order.{refused, accepted, unwritten, written, holds, passes}
 use Rattle.refusals.specs.Order.Passed.{none}
-use Rattle.slices.specs.Lists.{pasted, copied}
+use Rattle.slices.specs.Lists.{copied}
 use Rattle.slices.proofs.Lists.{pasted-copied}
 use Rattle.job_records.specs.Layout.{part}
 use Rattle.job_records.specs.Reading.{toldRead, readAt}
@@ -27,7 +25,7 @@ use Rattle.job_records.specs.declared.Read.the-variants.{End, Record, Refused, 
 use Rattle.job_records.specs.declared.Job.{Job}
 use Rattle.job_records.proofs.Forward.{never, onward}
 use Rattle.job_text.specs.Lines.{Wrote}
-use Rattle.job_text.proofs.Writing.{wrote-byte, wrote-then, wrote-long}
+use Rattle.job_text.proofs.Writing.{wrote-nothing, wrote-then, wrote-long}
 use Rattle.job_salvage.specs.Pieces.{accepts, recordsOf, keptRecords, keptFile}
 use Rattle.job_salvage.specs.Calls.{keepsAt, NoneKept, NextIs, Salvages}
 use Rattle.job_salvage.specs.Calls.NextIs.{found, nothing}
@@ -76,38 +74,6 @@ seek-found {file} {at} {place} r j s h e is =
 
 pub seek-end : {file : List ℕ} {at place : ℕ} → Seeking file at place → length file ≤ place → NextIs file at (length file) (length file)
 seek-end s h = nothing (λ i a b. s .missed i a (omega arith))
-
--- ---- `put_bytes`
-
--- the first j bytes stand in the room
-pub record Putting (bytes : List ℕ) (at : ℕ) (old new : List ℕ) (end j : ℕ) : Type 0 where
-  pub within : j ≤ length bytes
-  pub fits : at + length bytes ≤ length old
-  pub long : length new ≡ length old
-  pub place : end ≡ at + j
-  pub done : Wrote (take j bytes) at old end new
-
-wrote-nothing : {at : ℕ} {s : List ℕ} → Wrote [] at s at s
-unfolding pasted
-wrote-nothing {at} {s} = record { ended = omega arith; bytes = rw add-zero (sym (take-append-drop at s)) }
-
-pub put-from : (bytes : List ℕ) (at : ℕ) (old : List ℕ) → at + length bytes ≤ length old → Putting bytes at old old at 0
-put-from bytes at old h = record { within = omega arith; fits = h; long = refl; place = omega arith; done = wrote-nothing }
-
-pub put-on : {bytes : List ℕ} {at : ℕ} {old new : List ℕ} {end j : ℕ} → Putting bytes at old new end j → j < length bytes
-    → Putting bytes at old (set new end (getD bytes j 0)) (end + 1) (j + 1)
-put-on {bytes} {at} {old} {new} {end} {j} p h = record {
-  within = omega arith;
-  fits = p .fits;
-  long = length-set new end (getD bytes j 0) ∙ p .long;
-  place = omega (arith, p .place);
-  done = rw (add-one j, take-suc bytes j 0) (wrote-then (omega (arith, p .fits)) (p .done) (wrote-byte (omega (arith, p .place, p .fits, p .long))));
-}
-
-pub put-end : {bytes : List ℕ} {at : ℕ} {old new : List ℕ} {end j : ℕ} → Putting bytes at old new end j → length bytes ≤ j → Wrote bytes at old end new
-put-end {bytes} {at} {old} {new} {end} {j} p h =
-    let e : j ≡ length bytes = omega (arith, p .within) in
-    subst (λ l. Wrote l at old end new) (ap (λ k. take k bytes) e ∙ take-length bytes) (p .done)
 
 -- ---- `salvage`
 

@@ -1,11 +1,9 @@
 // Salvage of a damaged job file (docs/RULES.md section 11): at each place a record is kept if the reader accepts it
 // there, and else one byte is dropped; behind a kept record it goes on.
-ghost use Prim.Native.Nat.{_+_, _≤_};
-ghost use lib.ListN.{length};
-ghost use Rattle.job_text.specs.Lines.{Wrote};
 ghost use Rattle.job_salvage.specs.Calls.{NextIs, Salvages};
 use job_records::Read;
 use job_records::read_record;
+use job_text::put_bytes;
 use refusals::Refusal;
 
 pub mod report; // the lines that the program prints
@@ -41,19 +39,6 @@ pub fn next_kept(file: &[u8], at: usize) -> NextKept
         start: file.len(),
         end: file.len(),
     }
-}
-
-// Writes bytes to the room from a place on; the place behind them.
-fn put_bytes(bytes: &[u8], at: usize, room: &mut [u8]) -> usize
-    requires { ⌜ at + length (now bytes) ≤ length (now room) ⌝ }
-    ensures { λ r. ⌜ Wrote (now (bytes .entry)) at (now (room .entry)) r (now (room .exit)) ⌝ }
-{
-    let mut end = at;
-    for j in 0..bytes.len() {
-        room[end] = bytes[j];
-        end += 1;
-    }
-    end
 }
 
 // The records of the file that are kept, unaltered and in order, to the front of the room.

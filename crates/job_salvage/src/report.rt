@@ -15,7 +15,7 @@ fn put_number(x: u32, b: u8, at: usize, out: &mut [u8]) -> usize
     requires { ⌜ at + 11 ≤ length (now out) ⌝ }
     ensures { λ r. ⌜ Wrote (decimal x ++ (b ∷ [])) at (now (out .entry)) r (now (out .exit)) ⌝ }
 {
-    let end = decimal(x, at, out);
+    let end = decimal(x as u64, at, out);
     out[end] = b;
     end + 1
 }

@@ -1,5 +1,6 @@
 -- Laws of the decimal digits.
 --   decimal-small, decimal-large   one digit below ten; else those of a tenth and one more
+--   by-tenths        what holds of one digit, and with a digit more, holds of the digits of every number
 --   decimal-short    a number below a power of ten has no more digits than the power says
 --   decimal-digits   each is a digit
 --   decimal-lead     a number above 0 does not begin with a 0;  0 has the one digit 0 by `decimal-small`
@@ -62,7 +63,7 @@ module _ (P : ℕ → List ℕ → Type 0) (small : (x : ℕ) → x < 10 → P x
       (λ l. rw (decimal-large x l) (large x l (by-bound n (x / 10) (omega arith))))
       (less-or x 10)
 
-  by-tenths : (x : ℕ) → P x (decimal x)
+  pub by-tenths : (x : ℕ) → P x (decimal x)
   by-tenths x = by-bound x x (omega arith)
 
 -- ---- how many

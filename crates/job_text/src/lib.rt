@@ -9,7 +9,7 @@ use table_rules::LIMIT;
 pub const LINE: usize = 29 + 6 * LIMIT;
 
 // Writes a byte to out at `at`; the place behind it.
-fn put_byte(b: u8, at: usize, out: &mut [u8]) -> usize
+pub fn put_byte(b: u8, at: usize, out: &mut [u8]) -> usize
     requires { ⌜ at + 1 ≤ length (now out) ⌝ }
     ensures { λ r. ⌜ Wrote (b ∷ []) at (now (out .entry)) r (now (out .exit)) ⌝ }
 {
@@ -18,7 +18,7 @@ fn put_byte(b: u8, at: usize, out: &mut [u8]) -> usize
 }
 
 // Writes x in decimal to out from `at` on; the place behind it.
-pub fn decimal(x: u32, at: usize, out: &mut [u8]) -> usize
+pub fn decimal(x: u64, at: usize, out: &mut [u8]) -> usize
     requires { ⌜ at + length (decimal x) ≤ length (now out) ⌝ }
     ensures { λ r. ⌜ Wrote (decimal x) at (now (out .entry)) r (now (out .exit)) ⌝ }
 {
@@ -29,13 +29,39 @@ pub fn decimal(x: u32, at: usize, out: &mut [u8]) -> usize
     put_byte(48 + ((x % 10) as u8), end, out)
 }
 
+// Writes bytes to out from `at` on; the place behind them.
+pub fn put_bytes(bytes: &[u8], at: usize, out: &mut [u8]) -> usize
+    requires { ⌜ at + length (now bytes) ≤ length (now out) ⌝ }
+    ensures { λ r. ⌜ Wrote (now (bytes .entry)) at (now (out .entry)) r (now (out .exit)) ⌝ }
+{
+    let mut end = at;
+    for j in 0..bytes.len() {
+        out[end] = bytes[j];
+        end += 1;
+    }
+    end
+}
+
 // Writes a space and x in decimal to out from `at` on; the place behind them.
-fn put_spaced(x: u16, at: usize, out: &mut [u8]) -> usize
-    requires { ⌜ at + 6 ≤ length (now out) ⌝ }
+pub fn put_spaced(x: u64, at: usize, out: &mut [u8]) -> usize
+    requires { ⌜ at + 1 + length (decimal x) ≤ length (now out) ⌝ }
     ensures { λ r. ⌜ Wrote (spaced (x ∷ [])) at (now (out .entry)) r (now (out .exit)) ⌝ }
 {
     let behind = put_byte(32, at, out);
-    decimal(x as u32, behind, out)
+    decimal(x, behind, out)
+}
+
+// Writes numbers, each behind a space, to out from `at` on; the place behind them.
+pub fn put_numbers(xs: &[u64], at: usize, out: &mut [u8]) -> usize
+    requires { ⌜ at + 21 * length (now xs) ≤ length (now out) ⌝ }
+    ensures { λ r. ⌜ Wrote (spaced (now (xs .entry))) at (now (out .entry)) r (now (out .exit))
+        × (r ≤ at + 21 * length (now (xs .entry))) ⌝ }
+{
+    let mut end = at;
+    for i in 0..xs.len() {
+        end = put_spaced(xs[i], end, out);
+    }
+    end
 }
 
 // Writes the first s of the roots, each behind a space, to out from `at` on; the place behind them.
@@ -46,7 +72,7 @@ fn put_roots(s: usize, roots: &[u16], at: usize, out: &mut [u8]) -> usize
 {
     let mut end = at;
     for i in 0..s {
-        end = put_spaced(roots[i], end, out);
+        end = put_spaced(roots[i] as u64, end, out);
     }
     end
 }
@@ -59,13 +85,13 @@ pub fn line(k: u32, outcome: u16, s: u16, steps: u16, roots: &[u16], out: &mut [
     ensures { λ n. ⌜ Wrote (lineOf k outcome steps (take s (now (roots .entry))))
         0 (now (out .entry)) n (now (out .exit)) ⌝ }
 {
-    let first = decimal(k, 0, out);
-    let second = put_spaced(outcome, first, out);
+    let first = decimal(k as u64, 0, out);
+    let second = put_spaced(outcome as u64, first, out);
     if outcome != 0 {
         return put_byte(10, second, out);
     }
-    let third = put_spaced(s, second, out);
-    let fourth = put_spaced(steps, third, out);
+    let third = put_spaced(s as u64, second, out);
+    let fourth = put_spaced(steps as u64, third, out);
     let end = put_roots(s as usize, roots, fourth, out);
     put_byte(10, end, out)
 }

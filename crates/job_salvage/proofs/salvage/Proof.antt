@@ -10,7 +10,7 @@ use borrow.Author.Needs.{needs}
 use Rattle.job_salvage.proofs.salvage.Statement.{statement}
 use Rattle.job_salvage.proofs.salvage.Tie as tie
 use Rattle.job_salvage.proofs.next_kept.Reads as next-kept-reads
-use Rattle.job_salvage.proofs.put_bytes.Reads as put-bytes-reads
+use Rattle.job_text.proofs.put_bytes.Reads as put-bytes-reads
 
 abbrev Inv-loop : tie.InvT-loop
 Inv-loop file room₀ at₀ records₀ bytes₀ room at records bytes = Keeping file room₀ room at records bytes

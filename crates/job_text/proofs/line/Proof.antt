@@ -10,7 +10,7 @@ use lib.ListN.{length, take}
 use lib.Seq.{length-take-le}
 use borrow.Author.Needs.{needs}
 use Rattle.job_text.specs.Lines.{spaced, Wrote}
-use Rattle.job_text.proofs.Writing.{ten-digits, spaced-end, line-refused, line-accepted}
+use Rattle.job_text.proofs.Writing.{five-digits, ten-digits, spaced-six, line-refused, line-accepted}
 use Rattle.job_text.proofs.line.Statement.{statement}
 use Rattle.job_text.proofs.line.Tie as tie
 
@@ -19,13 +19,13 @@ first : (c : tie.After-decimal) → c .decimal .result ≤ 10
 first c = omega (arith, c .decimal .ensures .ended, ten-digits (c .before .before .before .before .args .k) (search needs))
 
 second : (c : tie.After-put-spaced) → c .put-spaced .result ≤ 16
-second c = omega (arith, first (c .before .before .before .before), spaced-end (search needs) (c .put-spaced .ensures))
+second c = omega (arith, first (c .before .before .before .before), spaced-six (search needs) (c .put-spaced .ensures))
 
 third : (c : tie.After-put-spaced2) → c .put-spaced2 .result ≤ 22
-third c = omega (arith, second (c .before .before .before .before .before), spaced-end (search needs) (c .put-spaced2 .ensures))
+third c = omega (arith, second (c .before .before .before .before .before), spaced-six (search needs) (c .put-spaced2 .ensures))
 
 fourth : (c : tie.After-put-spaced3) → c .put-spaced3 .result ≤ 28
-fourth c = omega (arith, third (c .before .before .before .before), spaced-end (search needs) (c .put-spaced3 .ensures))
+fourth c = omega (arith, third (c .before .before .before .before), spaced-six (search needs) (c .put-spaced3 .ensures))
 
 -- out stays as long as it was
 kept-second : (c : tie.After-put-spaced) → length (c .put-spaced .last .1 .1 .0) ≡ length (now (c .before .before .before .before .before .before .before .before .args .out))
@@ -41,7 +41,7 @@ decimal-requires : tie.Need-decimal-requires
 decimal-requires c κs = omega (arith, ten-digits (c .before .before .before .args .k) (search needs))
 
 put-spaced-requires : tie.Need-put-spaced-requires
-put-spaced-requires c κs = let d = c .before .before .before in omega (arith, first d, d .decimal .kept .1 .1 .0)
+put-spaced-requires c κs = let d = c .before .before .before in omega (arith, first d, d .decimal .kept .1 .1 .0, five-digits (d .before .before .before .before .args .outcome) (search needs))
 
 put-byte-requires : tie.Need-put-byte-requires
 put-byte-requires c κs = let p = c .before .before .before .before in omega (arith, second p, kept-second p)
@@ -57,10 +57,10 @@ returns c =
     line-refused (a .k) (a .outcome) (a .steps) (take (a .s) (now (a .roots))) (d .decimal .ensures) (p .put-spaced .ensures) (c .before .before .before .before .if1 .taken) (c .before .before .put-byte .ensures)
 
 put-spaced-requires-2 : tie.Need-put-spaced-requires-2
-put-spaced-requires-2 c κs = let p = c .before .before .before .before in omega (arith, second p, kept-second p)
+put-spaced-requires-2 c κs = let p = c .before .before .before .before in omega (arith, second p, kept-second p, five-digits (p .before .before .before .before .before .before .before .before .args .s) (search needs))
 
 put-spaced-requires-3 : tie.Need-put-spaced-requires-3
-put-spaced-requires-3 c κs = let p = c .before .before .before in omega (arith, third p, kept-third p)
+put-spaced-requires-3 c κs = let p = c .before .before .before in omega (arith, third p, kept-third p, five-digits (p .before .before .before .before .before .before .before .before .before .before .before .before .before .args .steps) (search needs))
 
 put-roots-requires : tie.Need-put-roots-requires
 put-roots-requires c κs =

@@ -1,20 +1,23 @@
 -- `job_text::put_roots` meets its contract: at each turn the first i roots stand in the list.
 -- Assumes nothing.
-use Prim.Native.Nat.{_-_}
+use Prim.Native.Nat.{_-_, _<_}
 use native.Mathlib.Omega.{arith}
-use Rattle.job_text.proofs.Writing.{Rowing, roots-from, roots-on, roots-end}
+use denote.Ref.{now}
+use lib.ListN.{length, getD}
+use Rattle.job_text.specs.Lines.{decimal}
+use Rattle.job_text.proofs.Writing.{five-digits, Rowing, row-from, row-room, row-on, row-end}
 use borrow.Author.Needs.{needs}
 use Rattle.job_text.proofs.put_roots.Statement.{statement}
 use Rattle.job_text.proofs.put_roots.Tie as tie
 
 abbrev Inv-loop : tie.InvT-loop
-Inv-loop s roots at out₀ end₀ i₀ out end i = Rowing s roots at out₀ out end i
+Inv-loop s roots at out₀ end₀ i₀ out end i = Rowing 6 s roots at out₀ out end i
 
 abbrev μ-loop : tie.MeasureT-loop
 μ-loop s roots at out₀ end₀ i₀ out end i = s - i
 
 loop-holds : tie.Need-loop-holds Inv-loop μ-loop
-loop-holds c = roots-from _ _ _ _ (search needs) (search needs)
+loop-holds c = row-from _ _ _ _ _ (search needs) (search needs)
 
 mul-put-spaced : tie.Need-mul-put-spaced Inv-loop μ-loop
 mul-put-spaced c = search needs
@@ -22,8 +25,14 @@ mul-put-spaced c = search needs
 shared-slice-read-put-spaced : tie.Need-shared-slice-read-put-spaced Inv-loop μ-loop
 shared-slice-read-put-spaced c = search needs
 
+cast-put-spaced : tie.Need-cast-put-spaced Inv-loop μ-loop
+cast-put-spaced c = omega (arith, c .shared-slice-known2 .given (c .before .before .loop .i))
+
 put-spaced-requires : tie.Need-put-spaced-requires Inv-loop μ-loop
-put-spaced-requires c κs = search needs
+put-spaced-requires c κs =
+    let l = c .before .before .before .loop in
+    let x = getD (now (c .before .before .before .before .before .before .args .roots)) (l .i) 0 in
+    omega (arith, row-room (l .inv) (omega arith), five-digits x (omega (arith, c .before .shared-slice-known2 .given (l .i))))
 
 add-i : tie.Need-add-i Inv-loop μ-loop
 add-i c = search needs
@@ -35,13 +44,15 @@ loop-again : tie.Need-loop-again Inv-loop μ-loop
 loop-again c =
     let p = c .before .before .put-spaced in
     let l = c .before .before .before .before .before .before .loop in
-    roots-on (l .inv) (omega arith) (omega (arith, c .before .before .before .before .shared-slice-known2 .given (l .i))) (p .kept .1 .1 .0) (p .ensures)
+    let x = getD (now (c .before .before .before .before .before .before .before .before .before .args .roots)) (l .i) 0 in
+    let d : length (decimal x) < 6 = omega (arith, five-digits x (omega (arith, c .before .before .before .before .shared-slice-known2 .given (l .i)))) in
+    row-on (l .inv) (omega arith) d (p .kept .1 .1 .0) (p .ensures)
 
 same-length : tie.Need-same-length Inv-loop μ-loop
 same-length c = search needs
 
 returns : tie.Need-returns Inv-loop μ-loop
-returns c = roots-end (c .before .loop .inv) (omega arith)
+returns c = row-end (c .before .loop .inv) (omega arith)
 
 pub put-roots-spec : {M : Type 1} → statement M
 put-roots-spec =
@@ -52,6 +63,7 @@ put-roots-spec =
     loop-holds
     mul-put-spaced
     shared-slice-read-put-spaced
+    cast-put-spaced
     put-spaced-requires
     add-i
     loop-less

@@ -1,27 +1,27 @@
--- `job_salvage::put_bytes` meets its contract: at each turn the first j bytes stand in the room.
+-- `job_text::put_bytes` meets its contract: at each turn the first j bytes stand in the list.
 -- Assumes nothing.
 use Prim.Native.Nat.{_-_}
 use native.Mathlib.Omega.{arith}
 use lib.ListN.{length}
-use Rattle.job_salvage.proofs.Turns.{Putting, put-from, put-on, put-end}
+use Rattle.job_text.proofs.Writing.{Putting, put-from, put-on, put-end}
 use borrow.Author.Needs.{needs}
-use Rattle.job_salvage.proofs.put_bytes.Statement.{statement}
-use Rattle.job_salvage.proofs.put_bytes.Tie as tie
+use Rattle.job_text.proofs.put_bytes.Statement.{statement}
+use Rattle.job_text.proofs.put_bytes.Tie as tie
 
 abbrev Inv-loop : tie.InvT-loop
-Inv-loop bytes at room₀ end₀ j₀ j-end room end j = Putting bytes at room₀ room end j
+Inv-loop bytes at out₀ end₀ j₀ j-end out end j = Putting bytes at out₀ out end j
 
 abbrev μ-loop : tie.MeasureT-loop
-μ-loop bytes at room₀ end₀ j₀ j-end room end j = length bytes - j
+μ-loop bytes at out₀ end₀ j₀ j-end out end j = length bytes - j
 
 loop-holds : tie.Need-loop-holds Inv-loop μ-loop
 loop-holds c = put-from _ _ _ (search needs)
 
-shared-slice-read-room : tie.Need-shared-slice-read-room Inv-loop μ-loop
-shared-slice-read-room c = search needs
+shared-slice-read-out : tie.Need-shared-slice-read-out Inv-loop μ-loop
+shared-slice-read-out c = search needs
 
-slice-write-room : tie.Need-slice-write-room Inv-loop μ-loop
-slice-write-room c = search needs
+slice-write-out : tie.Need-slice-write-out Inv-loop μ-loop
+slice-write-out c = search needs
 
 add-end : tie.Need-add-end Inv-loop μ-loop
 add-end c = search needs
@@ -48,8 +48,8 @@ put-bytes-spec =
     Inv-loop
     μ-loop
     loop-holds
-    shared-slice-read-room
-    slice-write-room
+    shared-slice-read-out
+    slice-write-out
     add-end
     add-j
     loop-less

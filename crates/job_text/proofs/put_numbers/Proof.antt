@@ -1,0 +1,68 @@
+-- `job_text::put_numbers` meets its contract: at each turn the first i numbers stand in the list.
+-- Assumes nothing.
+use Prim.Native.Nat.{_-_, _<_}
+use native.Mathlib.Omega.{arith}
+use denote.Ref.{now}
+use lib.ListN.{length, getD}
+use Rattle.job_text.specs.Lines.{decimal}
+use Rattle.job_text.proofs.Writing.{twenty-digits, Rowing, row-from, row-room, row-on, row-all}
+use borrow.Author.Needs.{needs}
+use Rattle.job_text.proofs.put_numbers.Statement.{statement}
+use Rattle.job_text.proofs.put_numbers.Tie as tie
+
+abbrev Inv-loop : tie.InvT-loop
+Inv-loop xs at out₀ end₀ i₀ i-end out end i = Rowing 21 (length xs) xs at out₀ out end i
+
+abbrev μ-loop : tie.MeasureT-loop
+μ-loop xs at out₀ end₀ i₀ i-end out end i = length xs - i
+
+loop-holds : tie.Need-loop-holds Inv-loop μ-loop
+loop-holds c = row-from _ _ _ _ _ (omega arith) (search needs)
+
+mul-put-spaced : tie.Need-mul-put-spaced Inv-loop μ-loop
+mul-put-spaced c = search needs
+
+shared-slice-read-put-spaced : tie.Need-shared-slice-read-put-spaced Inv-loop μ-loop
+shared-slice-read-put-spaced c = search needs
+
+put-spaced-requires : tie.Need-put-spaced-requires Inv-loop μ-loop
+put-spaced-requires c κs =
+    let l = c .before .before .before .loop in
+    let x = getD (now (c .before .before .before .before .before .before .args .xs)) (l .i) 0 in
+    omega (arith, row-room (l .inv) (omega arith), twenty-digits x (omega (arith, c .before .shared-slice-known2 .given (l .i))))
+
+add-i : tie.Need-add-i Inv-loop μ-loop
+add-i c = search needs
+
+loop-less : tie.Need-loop-less Inv-loop μ-loop
+loop-less c = search needs
+
+loop-again : tie.Need-loop-again Inv-loop μ-loop
+loop-again c =
+    let p = c .before .before .put-spaced in
+    let l = c .before .before .before .before .before .before .loop in
+    let x = getD (now (c .before .before .before .before .before .before .before .before .before .args .xs)) (l .i) 0 in
+    let d : length (decimal x) < 21 = omega (arith, twenty-digits x (omega (arith, c .before .before .before .before .shared-slice-known2 .given (l .i)))) in
+    row-on (l .inv) (omega arith) d (p .kept .1 .1 .0) (p .ensures)
+
+same-length : tie.Need-same-length Inv-loop μ-loop
+same-length c = search needs
+
+returns : tie.Need-returns Inv-loop μ-loop
+returns c = row-all (c .before .loop .inv) (omega arith)
+
+pub put-numbers-spec : {M : Type 1} → statement M
+put-numbers-spec =
+    tie.close
+    (tie.spec
+    Inv-loop
+    μ-loop
+    loop-holds
+    mul-put-spaced
+    shared-slice-read-put-spaced
+    put-spaced-requires
+    add-i
+    loop-less
+    loop-again
+    same-length
+    returns)
