@@ -49,9 +49,12 @@ pub fn print(what: &[u8], text: &[u8]) -> bool {
     written
 }
 
-// Says `text` on standard error where there is input behind what was read. A read that fails is told, under the name
-// `what`.
-pub fn tell_rest(what: &[u8], text: &[u8]) {
+// Where n bytes came, which are the most that are read: says `text` on standard error if there is input behind them. A
+// read that fails is told, under the name `what`.
+pub fn tell_behind(n: usize, what: &[u8], text: &[u8]) {
+    if n < MOST {
+        return;
+    }
     let mut one = [0u8; 1];
     let got = libc::read(STDIN_FILENO, &mut one);
     if got < 0 {

@@ -7,7 +7,6 @@ ghost use Rattle.job_records.specs.Reading.{Stands};
 ghost use Rattle.job_lines.specs.Printing.{Ahead};
 use job_lines::Next;
 use job_records::Read;
-use job_streams::MOST;
 use job_text::LINE;
 
 // Places past the end of any file: reading is over, and a line could not be printed.
@@ -60,11 +59,10 @@ fn main() {
         return;
     }
     if run(&buffer[..n]) != FAILED {
-        if n == MOST {
-            job_streams::tell_rest(
-                b"roots: standard input",
-                b"roots: input behind 65,536 bytes is ignored\n",
-            );
-        }
+        job_streams::tell_behind(
+            n,
+            b"roots: standard input",
+            b"roots: input behind 65,536 bytes is ignored\n",
+        );
     }
 }

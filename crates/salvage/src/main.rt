@@ -5,7 +5,6 @@ ghost use Prim.Native.Nat.{_≤_};
 ghost use lib.ListN.{length};
 use job_salvage::Salvaged;
 use job_salvage::report::ROW;
-use job_streams::MOST;
 
 // Writes the bytes to a file that is empty, to its device; false where that fails, which is told.
 fn fill(file: i32, bytes: &[u8]) -> bool {
@@ -105,11 +104,10 @@ fn main() {
         return;
     }
     if run(&buffer[..n]) {
-        if n == MOST {
-            job_streams::tell_rest(
-                b"salvage: standard input",
-                b"salvage: input behind 65,536 bytes is ignored\n",
-            );
-        }
+        job_streams::tell_behind(
+            n,
+            b"salvage: standard input",
+            b"salvage: input behind 65,536 bytes is ignored\n",
+        );
     }
 }
