@@ -18,10 +18,13 @@ import blocks
 import corrector
 import elements
 import field
+import lists
 import polynomials
 import records
 import reference as R
+import sheet
 import tables
+import writer
 
 counts = {}
 failures = []
@@ -559,6 +562,137 @@ def check_records(rng, count):
     check("sizes about the limit", {65535, 65536, 65537} <= sizes)
 
 
+# Writing records.
+
+
+def check_written(m, cutoff, roots):
+    """The product is monic, 0 exactly at the roots, and that of logarithms; the record is read back, whatever is behind it, and the rest of the room stays."""
+    lent = bytes(range(100))
+    outcome, (length,), memory = writer.write(m, cutoff, roots, lent)
+    f = writer.product_of(m, roots)
+    every = R.zeros(m, f) if m == 11 else [x for x in range(field.size(m)) if horner(m, f, x) == 0]
+    check("writer: 0 exactly at the roots", every == roots and f[-1] == 1 and len(f) == len(roots) + 1, m, roots)
+    check("writer: the product by logarithms", f == R.from_roots(m, roots), m, roots)
+    check("writer: length and memory", (outcome, length, memory[length:]) == (0, 7 + 2 * len(roots), lent[length:]), m, roots)
+    check("writer: the record", memory[:length] == records.record(m, cutoff, f), m, roots)
+    stated = R.HOUSE if cutoff == 0 else cutoff
+    check("writer: the reader gives it back", R.read_record(memory, 0) == (0, (m, stated, 5, 2 * len(f), length), ()), m, roots)
+    _, (s, steps), (found, mults) = R.whole(m, R.coefficients_of(memory[5:length]), cutoff, stale(32), stale(32))
+    check("writer: the whole call lists the roots, each once", list(found[:s]) == roots and set(mults[:s]) <= {1}, m, roots)
+    line = text_line(m, cutoff, roots)
+    check("lists: the record of a line", lists.jobs(line) == (memory[:length], []), line)
+    check("lists: roots prints the roots again", lists.back(lists.walk(line)) == R.roots_lines(memory[:length]), line)
+
+
+def text_line(m, cutoff, roots):
+    """A line of a list."""
+    return " ".join(str(x) for x in (m, cutoff, *roots)).encode()
+
+
+def check_writer(rng):
+    """Every number of roots in each field, and the rooms about a record's length."""
+    for m in field.DEGREES:
+        maker = writer.Maker(m, rng)
+        for n in range(maker.most + 1):
+            check_written(m, maker.cutoff(), maker.roots(n))
+        roots = maker.roots(9)
+        for room in range(40):
+            expected = 0 if room >= 25 else 7
+            check("writer: room", writer.write(m, 1, roots, bytes(room))[0] == expected, m, room)
+    check("writer: figures", writer.write(4, 1, [1, 2, 3], b"") == (7, (), b""))
+    check("writer: figures", writer.write(4, 1, [1, 2, 3], bytes(14)) == (0, (13,), records.EXAMPLE[:13] + b"\0"))
+    check("writer: figures", writer.write(4, 0, [1, 6, 7], bytes(13)) == (0, (13,), records.EXAMPLE[20:]))
+    check("writer: figures", writer.write(11, 2, [], bytes(7)) == (0, (7,), bytes.fromhex("4C520B02010100")))
+    check("writer: figures", writer.product_of(4, range(16)) == [0, 1] + [0] * 14 + [1])
+
+
+def check_writer_orders(rng, count):
+    """The order of refusals, stated the other way: the first of the order's numbers that applies."""
+    for _ in range(count):
+        m = rng.choice((4, 8, 11, 4, 8, 11, 0, 5, 260))
+        n = rng.choice((0, 1, 2, 3, 31, 32, 33, 34))
+        top = rng.choice((16, 17, 256, 257, 2048, 2049, 65536))
+        roots = [rng.randrange(top) for _ in range(n)]
+        if rng.randrange(4):
+            roots = sorted(set(roots))
+        cutoff, room = rng.choice((0, 1, 3, 4, 65535)), rng.choice((0, 6, 7, 9, 70, 71, 80))
+        lent = rng.randbytes(room)
+        outcome = writer.write(m, cutoff, roots, lent)
+        applies = {1: m not in (4, 8, 11), 3: len(roots) > 32, 4: max(roots, default=0) >> min(m, 16) > 0, 25: roots != sorted(set(roots)), 6: cutoff > 3,
+                   7: room < 7 + 2 * len(roots)}
+        first = next((number for number in (1, 3, 4, 25, 6, 7) if applies[number]), 0)
+        check("writer: order of refusals", outcome[0] == first and (first == 0 or outcome[1:] == ((), lent)), m, cutoff, roots, room)
+
+
+NOT_DECIMAL = "jobs: line %d: not decimal numbers: m, a cutoff and roots"
+
+
+def check_lists():
+    """The example of RULES 12.3, and lines that are not as they should be."""
+    example, one = records.EXAMPLE[:13] + records.EXAMPLE[20:], records.EXAMPLE[:13]
+    check("lists: the example", lists.jobs(lists.EXAMPLE) == (example, ["jobs: line 2: refused under 1"]))
+    check("lists: no input", lists.jobs(b"") == (b"", []))
+    for data in (b"4 1 1 2 3", b"\t4\r1 1  2 3\r\n\n \n", b"04 001 1 2 0000000000000000000000003\n"):
+        check("lists: blanks, line ends and zeros", lists.jobs(data) == (one, []), data)
+    for bad in (b"4", b"65536", b"4 1 1 -2", b"+4 1", b"x", b"4 1\x00", b"4 1 \x80", b"4\x0b1", b"4 1" + b" 1" * 40 + b" x"):
+        check("lists: not decimal numbers", lists.jobs(b"\n" + bad + b"\n4 1 1 2 3") == (one, [NOT_DECIMAL % 2]), bad)
+    for asked, number in ((b"65540 1", 1), (b"4 65536", 6), (b"4 0 1 65538", 4), (b"4 1 2 1", 25), (b"4 9 2 1 70000", 4), (b"11 9" + b" 1" * 33, 3), (b"11 9" + b" 1" * 32, 25)):
+        check("lists: refused", lists.jobs(asked) == (b"", ["jobs: line 1: refused under %d" % number]), asked)
+    full = text_line(11, 1, range(33))
+    check("lists: the first 35 numbers count", lists.jobs(full + b" 5 70000")[1] == lists.jobs(full)[1] == ["jobs: line 1: refused under 3"])
+    cut = b"\n" * 65529 + b"4 1 1 2 3"
+    check("lists: the 65,536th byte ends the last line", lists.jobs(cut) == (writer.write(4, 1, [1, 2], bytes(11))[2], ["jobs: input behind 65,536 bytes is ignored"]))
+
+
+# The sheet.
+
+
+def highest_by_products(data, m):
+    """The record that RULES 13.2 names, by products of whole numbers, from the lines of `roots`."""
+    best = None
+    for line, (outcome, at, values) in zip(R.roots_lines(data), sheet.outcomes(data)):
+        if outcome != 0 or values[0] != m:
+            continue
+        number, _, s, steps = (int(word) for word in line.split()[:4])
+        limit = m * (s // ((data[at + 3] or 3) + 1))
+        if limit > 0 and (best is None or best[1] * limit < steps * best[2]):
+            best = number, steps, limit
+    return best
+
+
+def check_sheet_of(data):
+    """A sheet adds up to the outcomes given; its highest records are those by products; its sums those of the lines of `roots`."""
+    rows, apart = figures = sheet.sheet(data)
+    lines = [[int(word) for word in line.split()] for line in R.roots_lines(data)]
+    check("sheet: the outcomes given", sheet.given(figures) == len(lines))
+    check("sheet: those apart", all(count == sum(line[1] == number for line in lines) for number, count in apart.items()))
+    for number in sheet.REFUSED:
+        check("sheet: refused records", sum(row[number] for row in rows.values()) == sum(line[1] == number for line in lines))
+    for column, place in (("roots", 2), ("steps", 3)):
+        check("sheet: sums", sum(row[column] for row in rows.values()) == sum(line[place] for line in lines if line[1] == 0))
+    for m, row in rows.items():
+        check("sheet: highest by products", row["highest"] == highest_by_products(data, m), m, row)
+        check("sheet: steps are within their limit", row["highest"] is None or 0 < row["highest"][1] <= row["highest"][2], m, row)
+    return figures
+
+
+def check_sheet(rng, count):
+    """The example of RULES 13.4, empty input, and sums of joined files."""
+    printed = [sheet.HEAD, "4 2 0 0 0 0 0 6 4 1 4 4", "8 0 0 0 0 0 0 0 0 - - -", "11 0 0 0 0 0 0 0 0 - - -", "unknown 1 mark 0 short 0"]
+    check("sheet: the example", sheet.sheet_lines(records.EXAMPLE) == printed)
+    check("sheet: empty input", sheet.sheet_lines(b"") == [sheet.HEAD] + ["%d 0 0 0 0 0 0 0 0 - - -" % m for m in field.DEGREES] + ["unknown 0 mark 0 short 0"])
+    maker = sheet.Maker(rng)
+    for number in range(count):
+        first, second = maker.clean(0, 8), sheet.any_end(maker)
+        sheets = [check_sheet_of(data) for data in (first, second, first + second)]
+        check("sheet: joined files", sheet.joined(*sheets[:2]) == sheets[2], first, second)
+    for kind, data in sheet.ties(maker):
+        check_sheet_of(data)
+    two = records.record(4, 1, R.from_roots(4, [1, 2, 3]))
+    for data, record in ((two * 3, 1), (records.record(4, 1, [1]) + two * 2, 2), (records.record(4, 9, [1]) * 3 + two, 4)):
+        check("sheet: ties go to the earlier, refused ones counted", sheet.sheet(data)[0][4]["highest"] == (record, 4, 4))
+
+
 # The block corrector.
 
 
@@ -624,6 +758,8 @@ def check_formats(rng):
         check("table cases survive packing", back == direct)
     every = [(m, tuple(f), constant, tuple(lent)) for m, f, constant, lent in affine.make_cases(rng.randrange(1000), 1)]
     check("affine cases survive packing", list(affine.unpack(b"".join(affine.pack(*case) for case in every))) == every)
+    every = [(m, cutoff, tuple(roots), lent) for m, cutoff, roots, lent in writer.make_cases(rng.randrange(1000), 1)]
+    check("writer cases survive packing", list(writer.unpack(b"".join(writer.pack(*case) for case in every))) == every)
     every = list(blocks.make_cases(rng.randrange(1000), 1))
     check("block cases survive packing", list(blocks.unpack(b"".join(blocks.pack(*case) for case in every))) == every)
 
@@ -647,6 +783,10 @@ def main():
     check_whole(rng, options.count)
     check_tables(rng, options.count // 4)
     check_records(rng, 60)
+    check_writer(rng)
+    check_writer_orders(rng, 3 * options.count)
+    check_lists()
+    check_sheet(rng, options.count // 2)
     check_codewords(rng)
     check_corrector(rng, options.count // 8)
     check_block_refusals()
