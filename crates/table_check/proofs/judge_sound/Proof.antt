@@ -47,17 +47,15 @@ cast-if2 c = search needs
 returns-3 : tie.Need-returns-3
 returns-3 c =
     let w = c .before .before .before in
-    let k = w .before .before .before in
-    let f = k .before .before .before in
-    judge-steps _ (f .before .before .before .pre) (f .before .head-of .ensures) (f .first-above .ensures) (k .before .o .given .1) (w .before .before .level-at .ensures) (w .if1 .left)
+    let f = w .before .before .before .before .before .before in
+    judge-steps _ (f .before .before .before .pre) (f .before .head-of .ensures) (f .first-above .ensures) (w .before .before .before .before .o .given .1) (w .before .before .level-at .ensures) (w .if1 .left)
     (omega (arith, c .before .before .step-limit .ensures, c .if2 .taken))
 
 returns-4 : tie.Need-returns-4
 returns-4 c =
     let w = c .before .before .before in
-    let k = w .before .before .before in
-    let f = k .before .before .before in
-    judge-split _ (f .before .before .before .pre) (f .before .head-of .ensures) (f .first-above .ensures) (k .before .o .given .1) (w .before .before .level-at .ensures) (w .if1 .left)
+    let f = w .before .before .before .before .before .before in
+    judge-split _ (f .before .before .before .pre) (f .before .head-of .ensures) (f .first-above .ensures) (w .before .before .before .before .o .given .1) (w .before .before .level-at .ensures) (w .if1 .left)
     (omega (arith, c .before .before .step-limit .ensures, c .if2 .left))
 
 pub judge-sound-spec : {M : Type 1} → statement M
