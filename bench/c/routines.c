@@ -113,15 +113,19 @@ static __attribute__((noipa)) void c_remainder(const uint16_t *row, size_t n, ui
     memcpy(r, f, n * sizeof *r);
 }
 
-static __attribute__((noipa)) void c_power_mod(const uint16_t *row, size_t n, unsigned k, uint16_t *w, uint16_t *s)
+static __attribute__((noipa)) void c_power_mod(const uint16_t *row, size_t n, unsigned k, uint16_t *w)
 {
+    uint16_t s[2 * DEGREE];
     for (unsigned i = 0; i < k; i++)
         square_mod(row, n, w, s);
 }
 
-static __attribute__((noipa)) size_t c_gcd(uint16_t *row, uint16_t *a, size_t n, uint16_t *b, size_t k)
+static __attribute__((noipa)) size_t c_gcd(const uint16_t *p, size_t n, const uint16_t *f, size_t k, uint16_t *g)
 {
-    return gcd(row, a, n, b, k);
+    uint16_t row[DEGREE], b[DEGREE + 1];
+    memcpy(b, f, k * sizeof *b);
+    memcpy(g, p, n * sizeof *g);
+    return gcd(row, g, n, b, k);
 }
 
 /* Numbers drawn by xorshift, below 2048. */
@@ -158,27 +162,29 @@ static const char *const names[] = {"remainder of degree 62 by 32", "ten squarin
 static uint16_t p[DEGREE], f[LONG], g[DEGREE];
 static uint16_t ours[DEGREE + 1], theirs[DEGREE + 1];
 
-/* The input of a routine, where it works: in s what it uses up, in out what becomes its result. */
+/* The input of a routine that works on it: in s what the division uses up, in out what is squared. */
 static void lay(int kind, uint16_t *s, uint16_t *out)
 {
-    memcpy(s, kind == 0 ? f : g, (kind == 0 ? LONG : DEGREE) * sizeof *s);
-    memcpy(out, kind == 1 ? g : p, DEGREE * sizeof *out);
+    if (kind == 0)
+        memcpy(s, f, LONG * sizeof *s);
+    else if (kind == 1)
+        memcpy(out, g, DEGREE * sizeof *out);
 }
 
 /* A routine of the proved side, so many times on the same input; returns how many coefficients its result has. */
 static size_t ours_run(int kind, uint32_t times)
 {
-    uint16_t row[DEGREE], s[2 * DEGREE];
+    uint16_t row[DEGREE], s[LONG];
     size_t d = DEGREE;
-    polynomial_log_row(FIELD, p, DEGREE, row, DEGREE);
+    poly_log_row(FIELD, p, DEGREE, row, DEGREE);
     for (uint32_t i = 0; i < times; i++) {
         lay(kind, s, ours);
         if (kind == 0)
-            polynomial_remainder(FIELD, row, DEGREE, s, LONG, ours, DEGREE);
+            poly_remainder(FIELD, row, DEGREE, s, LONG, ours, DEGREE);
         else if (kind == 1)
-            polynomial_power_mod(FIELD, row, DEGREE, 10, ours, DEGREE, s, 2 * DEGREE);
+            poly_power_mod(FIELD, row, DEGREE, 10, ours, DEGREE);
         else
-            d = polynomial_gcd(FIELD, row, DEGREE, ours, DEGREE + 1, DEGREE, s, DEGREE, DEGREE);
+            d = poly_gcd(FIELD, p, DEGREE, g, DEGREE, ours, DEGREE + 1);
     }
     return d;
 }
@@ -186,7 +192,7 @@ static size_t ours_run(int kind, uint32_t times)
 /* The same of the C side. */
 static size_t theirs_run(int kind, uint32_t times)
 {
-    uint16_t row[DEGREE], s[2 * DEGREE];
+    uint16_t row[DEGREE], s[LONG];
     size_t d = DEGREE;
     log_row(p, DEGREE, row);
     for (uint32_t i = 0; i < times; i++) {
@@ -194,9 +200,9 @@ static size_t theirs_run(int kind, uint32_t times)
         if (kind == 0)
             c_remainder(row, DEGREE, s, LONG, theirs);
         else if (kind == 1)
-            c_power_mod(row, DEGREE, 10, theirs, s);
+            c_power_mod(row, DEGREE, 10, theirs);
         else
-            d = c_gcd(row, theirs, DEGREE, s, DEGREE);
+            d = c_gcd(p, DEGREE, g, DEGREE, theirs);
     }
     return d;
 }
@@ -241,7 +247,7 @@ static double lend(void)
     double t[ROUNDS];
     for (int round = 0; round < ROUNDS; round++) {
         double start = now();
-        polynomial_tables(11, lent_logs, SIZE, lent_antilogs, 4 * ORDER);
+        poly_tables(11, lent_logs, SIZE, lent_antilogs, 4 * ORDER);
         t[round] = now() - start;
     }
     return median(t);

@@ -6,15 +6,14 @@
 #define READ(x) const uint16_t *x, size_t x##_count
 #define WRITTEN(x) uint16_t *x, size_t x##_count
 
-void polynomial_tables(uint16_t m, WRITTEN(logs), WRITTEN(antilogs));
-void polynomial_log_row(uint16_t m, READ(logs), READ(antilogs), READ(p), WRITTEN(row));
-void polynomial_remainder(uint16_t m, READ(logs), READ(antilogs), READ(row), WRITTEN(f), WRITTEN(r));
-void polynomial_square_mod(uint16_t m, READ(logs), READ(antilogs), READ(row), WRITTEN(w), WRITTEN(s));
-void polynomial_power_mod(uint16_t m, READ(logs), READ(antilogs), READ(row), uint16_t k, WRITTEN(w), WRITTEN(s));
-void polynomial_z_power(uint16_t m, READ(logs), READ(antilogs), READ(p), uint16_t k, WRITTEN(row), WRITTEN(w), WRITTEN(s));
-void polynomial_trace_of(uint16_t m, READ(logs), READ(antilogs), READ(p), uint16_t b, WRITTEN(row), WRITTEN(w), WRITTEN(s), WRITTEN(sum));
-size_t polynomial_gcd(uint16_t m, READ(logs), READ(antilogs), WRITTEN(row), WRITTEN(a), size_t n, WRITTEN(b), size_t k);
-void polynomial_cofactor(uint16_t m, READ(logs), READ(antilogs), READ(p), READ(g), WRITTEN(row), WRITTEN(f), WRITTEN(h));
-uint16_t polynomial_evaluate(uint16_t m, READ(logs), READ(antilogs), READ(f), uint16_t x);
-size_t polynomial_top(READ(r));
-size_t polynomial_make_monic(uint16_t m, READ(logs), READ(antilogs), WRITTEN(r));
+void poly_tables(uint16_t m, WRITTEN(logs), WRITTEN(antilogs));
+void poly_log_row(uint16_t m, READ(logs), READ(antilogs), READ(p), WRITTEN(row));
+void poly_remainder(uint16_t m, READ(logs), READ(antilogs), READ(row), WRITTEN(f), WRITTEN(r));
+uint16_t poly_evaluate(uint16_t m, READ(logs), READ(antilogs), READ(f), uint16_t x);
+size_t poly_top(READ(r));
+size_t poly_make_monic(uint16_t m, READ(logs), READ(antilogs), WRITTEN(r));
+void poly_power_mod(uint16_t m, READ(logs), READ(antilogs), READ(row), uint16_t k, WRITTEN(w));
+void poly_z_power(uint16_t m, READ(logs), READ(antilogs), READ(p), uint16_t k, WRITTEN(w));
+void poly_trace_of(uint16_t m, READ(logs), READ(antilogs), READ(p), uint16_t b, WRITTEN(t));
+size_t poly_gcd(uint16_t m, READ(logs), READ(antilogs), READ(p), READ(f), WRITTEN(g));
+void poly_cofactor(uint16_t m, READ(logs), READ(antilogs), READ(p), READ(g), WRITTEN(h));

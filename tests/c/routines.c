@@ -20,7 +20,7 @@ static tables tables_of(uint16_t m)
     tables *t = &lent[m];
     if (t->logs.at == NULL) {
         *t = (tables){lend_room(1u << m), lend_room(4 * ((1u << m) - 1))};
-        polynomial_tables(m, LENT(t->logs), LENT(t->antilogs));
+        poly_tables(m, LENT(t->logs), LENT(t->antilogs));
         keep(t->logs);
         keep(t->antilogs);
     }
@@ -44,7 +44,7 @@ static list copied(list from, size_t size)
 static list row_of(given c, list p)
 {
     list row = lend_room(p.n);
-    polynomial_log_row(FIELD(c), LENT(p), LENT(row));
+    poly_log_row(FIELD(c), LENT(p), LENT(row));
     keep(row);
     return row;
 }
@@ -62,7 +62,7 @@ static void print_line(int kind, list l, size_t n)
 static void run_remainder(given c)
 {
     list row = row_of(c, c.p), f = copied(c.f, c.f.n), r = lend_room(c.p.n);
-    polynomial_remainder(FIELD(c), LENT(row), LENT(f), LENT(r));
+    poly_remainder(FIELD(c), LENT(row), LENT(f), LENT(r));
     print_line(REMAINDER, r, r.n);
     end_read(row);
     end(f);
@@ -74,23 +74,20 @@ static void run_square(given c)
 {
     if (c.f.n != c.p.n)
         return;
-    list row = row_of(c, c.p), w = copied(c.f, c.f.n), s = lend_room(2 * c.p.n);
-    polynomial_square_mod(FIELD(c), LENT(row), LENT(w), LENT(s));
+    list row = row_of(c, c.p), w = copied(c.f, c.f.n);
+    poly_power_mod(FIELD(c), LENT(row), 1, LENT(w));
     print_line(SQUARE, w, w.n);
     end_read(row);
     end(w);
-    end(s);
 }
 
 /* 3: z^(2^k) modulo p */
 static void run_z_power(given c)
 {
-    list row = lend_room(c.p.n), w = lend_room(c.p.n), s = lend_room(2 * c.p.n);
-    polynomial_z_power(FIELD(c), LENT(c.p), c.k, LENT(row), LENT(w), LENT(s));
+    list w = lend_room(c.p.n);
+    poly_z_power(FIELD(c), LENT(c.p), c.k, LENT(w));
     print_line(Z_POWER, w, w.n);
-    end(row);
     end(w);
-    end(s);
 }
 
 /* 4: Tr(a^k z) modulo p; a^k is the antilog of 2k */
@@ -99,26 +96,22 @@ static void run_trace(given c)
     size_t twice = 2 * (size_t)c.k;
     if (twice >= c.in.antilogs.n)
         return;
-    list row = lend_room(c.p.n), w = lend_room(c.p.n), s = lend_room(2 * c.p.n), sum = lend_room(c.p.n);
-    polynomial_trace_of(FIELD(c), LENT(c.p), c.in.antilogs.at[twice], LENT(row), LENT(w), LENT(s), LENT(sum));
-    print_line(TRACE, sum, sum.n);
-    end(row);
-    end(w);
-    end(s);
-    end(sum);
+    list t = lend_room(c.p.n);
+    poly_trace_of(FIELD(c), LENT(c.p), c.in.antilogs.at[twice], LENT(t));
+    print_line(TRACE, t, t.n);
+    end(t);
 }
 
-/* 5: the monic greatest common divisor of p and f */
+/* 5: the monic greatest common divisor of p and f; f has at most one coefficient more than p can have */
 static void run_gcd(given c)
 {
-    size_t n = c.p.n, k = c.f.n;
-    list row = lend_room(n), a = copied(c.p, n + 1), b = copied(c.f, n < k ? k : n);
-    size_t d = polynomial_gcd(FIELD(c), LENT(row), LENT(a), n, LENT(b), k);
-    expect(d <= n, "a divisor of a higher degree");
-    print_line(GCD, a, d);
-    end(row);
-    end(a);
-    end(b);
+    if (c.f.n > MOST_P + 1)
+        return;
+    list g = lend_room(c.p.n + 1);
+    size_t d = poly_gcd(FIELD(c), LENT(c.p), LENT(c.f), LENT(g));
+    expect(d <= c.p.n, "a divisor of a higher degree");
+    print_line(GCD, g, d);
+    end(g);
 }
 
 /* 6: the quotient of p by the monic polynomial with the low coefficients f; f is no longer */
@@ -126,11 +119,9 @@ static void run_quotient(given c)
 {
     if (c.p.n < c.f.n)
         return;
-    list row = lend_room(c.f.n), f = lend_room(c.p.n + 1), h = lend_room(c.p.n - c.f.n);
-    polynomial_cofactor(FIELD(c), LENT(c.p), LENT(c.f), LENT(row), LENT(f), LENT(h));
+    list h = lend_room(c.p.n - c.f.n);
+    poly_cofactor(FIELD(c), LENT(c.p), LENT(c.f), LENT(h));
     print_line(QUOTIENT, h, h.n);
-    end(row);
-    end(f);
     end(h);
 }
 
@@ -138,13 +129,13 @@ static void run_quotient(given c)
 static void run_value(given c)
 {
     if (c.p.n > 0)
-        printf("%d %u\n", VALUE, polynomial_evaluate(FIELD(c), LENT(c.f), c.p.at[0]));
+        printf("%d %u\n", VALUE, poly_evaluate(FIELD(c), LENT(c.f), c.p.at[0]));
 }
 
 /* 8: the degree of f */
 static void run_top(given c)
 {
-    size_t k = polynomial_top(LENT(c.f));
+    size_t k = poly_top(LENT(c.f));
     if (k == 0)
         printf("%d none\n", TOP);
     else
@@ -155,7 +146,7 @@ static void run_top(given c)
 static void run_monic(given c)
 {
     list r = copied(c.f, c.f.n);
-    size_t j = polynomial_make_monic(FIELD(c), LENT(r));
+    size_t j = poly_make_monic(FIELD(c), LENT(r));
     expect(j <= r.n, "more coefficients than there were");
     if (j == 0)
         printf("%d none\n", MONIC);

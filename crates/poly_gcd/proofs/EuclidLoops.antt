@@ -1,11 +1,12 @@
--- Euclid's loop on two slices, and the cofactor: what the code has done at each place.
+-- Euclid's loop on two slices: what the code has done at each place.
 --   reduce-row, reduce-asks             what the row and the division ask
 --   reduce-short, reduce-long           the remainder stands at the front
 --   monicLow-some, monicLow-none              what `monicLow` holds
 --   turn-asks, turn-below, turn-is      one division
 --   turn-on, turn-same, turn-last       what it leaves for the next, that the greatest common divisor is the same, and
 --                                       what it is where the remainder is 0
---   Looping, loop-from, loop-asks, loop-on, loop-ended, loop-copied   the loop
+--   Looping, loop-from, loop-asks, loop-on, loop-ended, loop-room, loop-fits, loop-copied   the loop
+--   common-asks, common-is              the loop on copies
 -- Assumes nothing.
 use mathlib.Core.Path.{_≡_, refl, sym, ap, ap₂, _∙_, subst}
 use mathlib.Core.Logic.{_≢_}
@@ -23,11 +24,12 @@ use Rattle.algebra.proofs.StaysBelow.{rem-below, norm-below, monic-below}
 use Rattle.field.specs.Tables.{logOf}
 use Rattle.field.specs.Field.{fieldAt, G}
 use Rattle.slices.specs.Lists.{copied}
-use Rattle.slices.proofs.Lists.{copied-front}
+use Rattle.slices.proofs.Lists.{copied-front, length-copied}
 use Rattle.poly.specs.Lent.{Lent, LogRow, Loggable, logRow, held}
 use Rattle.poly.specs.Division.{divided, Divisible}
 use Rattle.poly.specs.Monic.{monicLow, MadeMonic}
-use Rattle.poly_gcd.specs.Euclid.{Turnable, Reducing, LeftIn, EuclidTurned, GcdIs}
+use Rattle.poly_gcd.specs.Euclid.{Turnable, Reducing, LeftIn, EuclidTurned, GcdIs, Commonable}
+use Rattle.table_rules.specs.Limit.{limit}
 use Rattle.poly.proofs.Logs.{numbers-of, held-row, row-is-row}
 use Rattle.poly.proofs.Divisions.{rem-short, divided-front, length-divided}
 
@@ -102,15 +104,15 @@ unfolding monicLow
 monicLow-none zero y h = refl
 monicLow-none (suc k) y h = absurd (let b : ⊥ = omega arith in b)
 
-module _ {m : ℕ} {ls ts row a : List ℕ} {n : ℕ} {b : List ℕ} {k : ℕ} (t : Turnable m ls ts row a n b k) where
+module _ {m : ℕ} {ls ts a : List ℕ} {n : ℕ} {b : List ℕ} {k : ℕ} (t : Turnable m ls ts a n b k) where
   -- the divisor is as long as is said
   long-p : length (take n a) ≡ n
   long-p = length-take-le n a (omega (arith, t .room-a))
 
-  pub turn-asks : Reducing m ls ts (take n a) row b k
-  turn-asks = record {
+  pub turn-asks : {row : List ℕ} → limit ≤ length row → Reducing m ls ts (take n a) row b k
+  turn-asks r = record {
     tables = t .tables;
-    room-row = omega (arith, t .room-row, long-p);
+    room-row = omega (arith, t .few, long-p);
     room-b = omega (arith, t .room-b, long-p);
     within = t .within;
     small-p = t .small-a;
@@ -172,10 +174,10 @@ module _ {m : ℕ} {ls ts row a : List ℕ} {n : ℕ} {b : List ℕ} {k : ℕ} (
           ap (gcd (G m) (take (j - 1) b₁)) (d .lead)
           ∙ sym (step ∙ ap (λ (o : Option (List ℕ)). Option·elim o (take n a) (λ r. gcd (G m) r (monic (G m) (take n a)))) (monicLow-some j b₁ h))
 
-      pub turn-on : {row₁ : List ℕ} → length row₁ ≡ length row → Turnable m ls ts row₁ b₁ (j - 1) a₁ (n + 1)
-      turn-on {row₁} l = record {
+      pub turn-on : Turnable m ls ts b₁ (j - 1) a₁ (n + 1)
+      turn-on = record {
         tables = t .tables;
-        room-row = omega (arith, d .fewer, t .room-row);
+        few = omega (arith, d .fewer, t .few);
         room-a = omega (arith, d .fewer, d .long-b, t .room-b);
         room-b = omega (arith, d .fewer, d .long-a, t .room-a);
         within = omega (arith, d .long-a, t .room-a);
@@ -183,49 +185,89 @@ module _ {m : ℕ} {ls ts row a : List ℕ} {n : ℕ} {b : List ℕ} {k : ℕ} (
         small-b = subst (Below (2 ^ m)) (sym (d .lead)) (monic-below (numbers-of (t .tables)) (take n a) (t .small-a));
       }
 
--- ---- `gcd`
+-- ---- `euclid`
 
 -- the greatest common divisor is what it was
 pub record Looping (m : ℕ) (ls ts row₀ a₀ : List ℕ) (n₀ : ℕ) (b₀ : List ℕ) (k₀ : ℕ) (row a b : List ℕ) (n k : ℕ) : Type 0 where
-  pub given : Turnable m ls ts row a n b k
+  pub given : Turnable m ls ts a n b k
   pub fewer : n ≤ n₀
+  pub inside : n₀ ≤ length a₀
   pub long-row : length row ≡ length row₀
   pub long-a : length a ≡ length a₀
   pub long-b : length b ≡ length b₀
   pub same : gcd (G m) (take n a) (take k b) ≡ gcd (G m) (take n₀ a₀) (take k₀ b₀)
 
-pub loop-from : {m : ℕ} {ls ts row a : List ℕ} {n : ℕ} {b : List ℕ} {k : ℕ} → Turnable m ls ts row a n b k → Looping m ls ts row a n b k row a b n k
-loop-from t = record { given = t; fewer = omega arith; long-row = refl; long-a = refl; long-b = refl; same = refl }
+pub loop-from : {m : ℕ} {ls ts a : List ℕ} {n : ℕ} {b : List ℕ} {k : ℕ} (row : List ℕ) → Turnable m ls ts a n b k → Looping m ls ts row a n b k row a b n k
+loop-from row t =
+    record { given = t; fewer = omega arith; inside = omega (arith, t .room-a); long-row = refl; long-a = refl; long-b = refl; same = refl }
 
 module _ {m : ℕ} {ls ts row₀ a₀ : List ℕ} {n₀ : ℕ} {b₀ : List ℕ} {k₀ : ℕ} {row a b : List ℕ} {n k : ℕ} (s : Looping m ls ts row₀ a₀ n₀ b₀ k₀ row a b n k)
     {j : ℕ} {a₁ b₁ : List ℕ} (d : EuclidTurned m a n b k j a₁ b₁) where
-  pub loop-ended : j ≡ 0 → GcdIs m a₀ n₀ b₀ k₀ n a₁
-  loop-ended z = record { count = s .fewer; low = turn-last (s .given) d z ∙ s .same }
+  -- the divisor is as long as is said
+  long-first : length (take n₀ a₀) ≡ n₀
+  long-first = length-take-le n₀ a₀ (s .inside)
+
+  pub loop-ended : j ≡ 0 → GcdIs m (take n₀ a₀) (take k₀ b₀) n a₁
+  loop-ended z = record { count = omega (arith, s .fewer, long-first); low = turn-last (s .given) d z ∙ s .same }
 
   module _ (h : j ≢ 0) where
-    pub loop-asks : {row₁ : List ℕ} → length row₁ ≡ length row → Turnable m ls ts row₁ b₁ (j - 1) a₁ (n + 1)
-    loop-asks l = turn-on (s .given) d h l
-
-    -- over the same row
-    asked : Turnable m ls ts row b₁ (j - 1) a₁ (n + 1)
-    asked = loop-asks refl
+    pub loop-asks : Turnable m ls ts b₁ (j - 1) a₁ (n + 1)
+    loop-asks = turn-on (s .given) d h
 
     module _ {i : ℕ} {a₂ b₂ : List ℕ} (e : EuclidTurned m b₁ (j - 1) a₁ (n + 1) i b₂ a₂) where
-      pub loop-copied : {a₃ : List ℕ} → i ≡ 0 → a₃ ≡ copied (take (j - 1) b₂) a₂ → GcdIs m a₀ n₀ b₀ k₀ (j - 1) a₃
+      -- the divisor is within both slices
+      pub loop-room : j - 1 ≤ length b₂
+      loop-room = omega (arith, e .long-a, loop-asks .room-a)
+
+      pub loop-fits : j - 1 ≤ length a₂
+      loop-fits = omega (arith, e .long-b, loop-asks .room-b)
+
+      pub loop-copied : {a₃ : List ℕ} → i ≡ 0 → a₃ ≡ copied (take (j - 1) b₂) a₂ → GcdIs m (take n₀ a₀) (take k₀ b₀) (j - 1) a₃
       loop-copied {a₃} z f =
-          let room : j - 1 ≤ length b₂ = omega (arith, e .long-a, asked .room-a) in
           record {
-            count = omega (arith, d .fewer, s .fewer);
-            low = ap (take (j - 1)) f ∙ copied-front (take (j - 1) b₂) a₂ (length-take-le (j - 1) b₂ room) ∙ turn-last asked e z
+            count = omega (arith, d .fewer, s .fewer, long-first);
+            low = ap (take (j - 1)) f ∙ copied-front (take (j - 1) b₂) a₂ (length-take-le (j - 1) b₂ loop-room) ∙ turn-last loop-asks e z
                 ∙ turn-same (s .given) d h ∙ s .same;
           }
 
       pub loop-on : {row₂ : List ℕ} → i ≢ 0 → length row₂ ≡ length row → Looping m ls ts row₀ a₀ n₀ b₀ k₀ row₂ a₂ b₂ (i - 1) (j - 1 + 1)
       loop-on {row₂} y r = record {
-        given = turn-on asked e y r;
+        given = turn-on loop-asks e y;
         fewer = omega (arith, e .fewer, d .fewer, s .fewer);
+        inside = s .inside;
         long-row = r ∙ s .long-row;
         long-a = e .long-b ∙ d .long-a ∙ s .long-a;
         long-b = e .long-a ∙ d .long-b ∙ s .long-b;
-        same = turn-same asked e y ∙ turn-same (s .given) d h ∙ s .same;
+        same = turn-same loop-asks e y ∙ turn-same (s .given) d h ∙ s .same;
       }
+
+-- ---- `gcd`
+
+module _ {m : ℕ} {ls ts p t g : List ℕ} (c : Commonable m ls ts p t g) {b g₁ : List ℕ} (e : b ≡ copied t (replicate (suc limit) 0)) (f : g₁ ≡ copied p g) where
+  -- both stand in front
+  front-t : take (length t) b ≡ t
+  front-t = ap (take (length t)) e ∙ copied-front t (replicate (suc limit) 0) refl
+
+  front-p : take (length p) g₁ ≡ p
+  front-p = ap (take (length p)) f ∙ copied-front p g refl
+
+  -- in rooms that are as long as they were
+  long-t : length b ≡ suc limit
+  long-t = ap length e ∙ length-copied t (replicate (suc limit) 0) (omega (arith, c .few-t))
+
+  long-g : length g₁ ≡ length g
+  long-g = ap length f ∙ length-copied p g (omega (arith, c .room))
+
+  pub common-asks : Turnable m ls ts g₁ (length p) b (length t)
+  common-asks = record {
+    tables = c .tables;
+    few = c .few-p;
+    room-a = omega (arith, long-g, c .room);
+    room-b = omega (arith, long-t, c .few-p);
+    within = omega (arith, long-t, c .few-t);
+    small-a = subst (Below (2 ^ m)) (sym front-p) (c .small-p);
+    small-b = subst (Below (2 ^ m)) (sym front-t) (c .small-t);
+  }
+
+  pub common-is : {n : ℕ} {g₂ : List ℕ} → GcdIs m (take (length p) g₁) (take (length t) b) n g₂ → GcdIs m p t n g₂
+  common-is {n} {g₂} i = subst (λ u. GcdIs m p u n g₂) front-t (subst (λ u. GcdIs m u (take (length t) b) n g₂) front-p i)

@@ -17,18 +17,17 @@ use Rattle.algebra.proofs.NumberMonic.{Made, norm-made, norm-none}
 use Rattle.field.specs.Field.{G}
 use Rattle.poly.specs.Lent.{Lent}
 use Rattle.poly.specs.Monic.{MadeMonic}
-use Rattle.poly_gcd.specs.Euclid.{Turnable, GcdIs}
+use Rattle.poly_gcd.specs.Euclid.{Commonable, GcdIs}
 use Rattle.poly.proofs.Logs.{numbers-of}
 use Rattle.poly_gcd.proofs.EuclidLoops.{monicLow-some, monicLow-none}
 
-module _ {m : ℕ} {ls ts row a : List ℕ} {n : ℕ} {b : List ℕ} {k g : ℕ} {a′ : List ℕ} (t : Turnable m ls ts row a n b k) (d : GcdIs m a n b k g a′) where
-  pub gcd-means : IsGcdBelow (G m) (2 ^ m) (monic (G m) (take n a)) (take k b) (monic (G m) (take g a′))
+module _ {m : ℕ} {ls ts p t g g′ : List ℕ} {n : ℕ} (c : Commonable m ls ts p t g) (d : GcdIs m p t n g′) where
+  pub gcd-means : IsGcdBelow (G m) (2 ^ m) (monic (G m) p) t (monic (G m) (take n g′))
   gcd-means =
-      subst (λ u. IsGcdBelow (G m) (2 ^ m) (monic (G m) (take n a)) (take k b) (monic (G m) u)) (sym (d .low))
-      (gcd-right (numbers-of (t .tables)) (take n a) (take k b) (t .small-a) (t .small-b))
+      subst (λ u. IsGcdBelow (G m) (2 ^ m) (monic (G m) p) t (monic (G m) u)) (sym (d .low)) (gcd-right (numbers-of (c .tables)) p t (c .small-p) (c .small-t))
 
-  pub gcd-below : Below (2 ^ m) (take g a′)
-  gcd-below = subst (Below (2 ^ m)) (sym (d .low)) (S.gcd-below (numbers-of (t .tables)) (take n a) (take k b) (t .small-a) (t .small-b))
+  pub gcd-below : Below (2 ^ m) (take n g′)
+  gcd-below = subst (Below (2 ^ m)) (sym (d .low)) (S.gcd-below (numbers-of (c .tables)) p t (c .small-p) (c .small-t))
 
 module _ {m : ℕ} {ls ts r : List ℕ} {j : ℕ} {r′ : List ℕ} (l : Lent m ls ts) (b : Below (2 ^ m) r) (d : MadeMonic m r j r′) where
   pub monic-means : j ≢ 0 → Made (G m) (2 ^ m) r (take (j - 1) r′)

@@ -1,27 +1,30 @@
--- Euclid's loop on two slices, and the cofactor.
+-- The greatest common divisor by Euclid's loop on two slices, and the cofactor. A divisor's degree is at most the
+-- limit.
 --   Turnable      the monic polynomial with the n low coefficients at the front of a can divide the one with the k
 --                 coefficients at the front of b
 --   Reducing      the remainder of the first k coefficients of b by monic p can be left at the front of b
 --   LeftIn        so it is left
 --   EuclidTurned  one division is done: the monic divisor stands in a with its 1, and the remainder, made monic, at
 --                 the front of b
---   GcdIs         the first g coefficients of a are the monic greatest common divisor's
+--   GcdIs         the first n coefficients of g are those of the monic greatest common divisor of monic p and t
+--   Commonable    that of monic p and t can be written to g
 --   Cofactorable  monic p can be divided by monic g
 -- Assumes nothing.
 use mathlib.Core.Path.{_≡_}
 use mathlib.Core.List.{List}
-use Prim.Native.Nat.{ℕ, _+_, _-_, _^_, _≤_, _<_}
+use Prim.Native.Nat.{ℕ, suc, _+_, _-_, _^_, _≤_, _<_}
 use lib.ListN.{length, take}
 use Rattle.algebra.specs.Polynomial.{Below}
 use Rattle.algebra.specs.Routines.{monic, rem, norm, gcd}
 use Rattle.field.specs.Field.{G}
 use Rattle.poly.specs.Lent.{Lent}
 use Rattle.poly.specs.Monic.{monicLow}
+use Rattle.table_rules.specs.Limit.{limit}
 
--- with room for the divisor's leading 1, for a remainder as long as the divisor, and for a row
-pub record Turnable (m : ℕ) (ls ts row a : List ℕ) (n : ℕ) (b : List ℕ) (k : ℕ) : Type 0 where
+-- with room for the divisor's leading 1, and for a remainder as long as the divisor
+pub record Turnable (m : ℕ) (ls ts a : List ℕ) (n : ℕ) (b : List ℕ) (k : ℕ) : Type 0 where
   pub tables : Lent m ls ts
-  pub room-row : n ≤ length row
+  pub few : n ≤ limit
   pub room-a : n < length a
   pub room-b : n ≤ length b
   pub within : k ≤ length b
@@ -51,16 +54,24 @@ pub record EuclidTurned (m : ℕ) (a : List ℕ) (n : ℕ) (b : List ℕ) (k j :
   pub made : norm (G m) n (rem (G m) (take n a) (take k b)) ≡ monicLow j b′
 
 -- the outcome
-pub record GcdIs (m : ℕ) (a : List ℕ) (n : ℕ) (b : List ℕ) (k g : ℕ) (a′ : List ℕ) : Type 0 where
-  pub count : g ≤ n
-  pub low : take g a′ ≡ gcd (G m) (take n a) (take k b)
+pub record GcdIs (m : ℕ) (p t : List ℕ) (n : ℕ) (g : List ℕ) : Type 0 where
+  pub count : n ≤ length p
+  pub low : take n g ≡ gcd (G m) p t
 
--- with work as long as p and its 1
-pub record Cofactorable (m : ℕ) (ls ts p g row f h : List ℕ) : Type 0 where
+-- with room for a leading 1
+pub record Commonable (m : ℕ) (ls ts p t g : List ℕ) : Type 0 where
+  pub tables : Lent m ls ts
+  pub small-p : Below (2 ^ m) p
+  pub small-t : Below (2 ^ m) t
+  pub few-p : length p ≤ limit
+  pub few-t : length t ≤ suc limit
+  pub room : length p < length g
+
+-- with room for the quotient below its leading 1
+pub record Cofactorable (m : ℕ) (ls ts p g h : List ℕ) : Type 0 where
   pub tables : Lent m ls ts
   pub small-p : Below (2 ^ m) p
   pub small-g : Below (2 ^ m) g
+  pub few : length p ≤ limit
   pub shorter : length g ≤ length p
-  pub room-row : length g ≡ length row
-  pub room-f : length f ≡ length p + 1
-  pub room-h : length h ≡ length p - length g
+  pub room : length h ≡ length p - length g

@@ -2,6 +2,7 @@
 --   square-zero                                                    0 is its own square
 --   square-even, square-odd                                        the places of a square
 --   Spreading, spread-from, spread-on, spread-end                  the squares of the first i coefficients are written
+--   stands-long, front-fits                                        where the square and its remainder stand
 --   square-room, square-asks, square-is, square-again              what the routines ask, and what the front of the
 --                                                                  division is
 --   Powering, power-from, power-on, power-end                      i squarings are done
@@ -9,12 +10,13 @@
 --   Tracing, trace-from, trace-asks, trace-on, trace-end           i terms of the trace sum are added
 -- Assumes nothing.
 use mathlib.Core.Path.{_≡_, refl, sym, ap, _∙_, subst}
-use mathlib.Core.List.{List, [], _∷_}
+use mathlib.Core.List.{List, [], _∷_, _++_}
 use Prim.Native.Nat.{ℕ, zero, suc, _+_, _-_, _^_, _≤_, _<_}
 use native.Mathlib.Nat.{not-suc-le-zero, le-of-suc-le-suc}
 use native.Mathlib.Omega.{arith}
 use lib.Bits.{bitXor}
-use lib.ListN.{length, getD, take, set}
+use lib.ListN.{length, getD, take, set, length-append}
+use lib.Seq.{length-take-le, take-at, take-append-le}
 use Rattle.algebra.specs.Polynomial.{add, Below}
 use Rattle.algebra.specs.Routines.{rem, square, frobeniusMod, traceMod}
 use Rattle.algebra.proofs.Lengths.{length-rem, length-square, length-add-left}
@@ -24,9 +26,11 @@ use Rattle.field.proofs.Ring.{ring}
 use Rattle.slices.specs.Lists.{copied}
 use Rattle.poly.specs.Lent.{Lent, held}
 use Rattle.poly.specs.Division.{divided, Divisible, Reducible}
+use Rattle.table_rules.specs.Limit.{limit}
 use Rattle.poly_powers.specs.Powers.{Spreadable, Squarable}
 use Rattle.slices.proofs.Filling.{Filling, fill-from, fill-on, fill-next, fill-end}
 use Rattle.poly.proofs.Logs.{field-of, small-of, numbers-of, held-below, held-long}
+use Rattle.poly.proofs.Divisions.{length-divided}
 use Rattle.poly.proofs.Sums.{add-at, add-nil, add-assoc}
 use Rattle.poly.proofs.Remainders.{copied-whole, remainder-long}
 
@@ -84,49 +88,73 @@ module _ {m : ℕ} {ls ts w s₀ s : List ℕ} {i : ℕ} (p : Spreading m ls ts 
 
 -- ---- `square_mod`
 
-module _ {m : ℕ} {ls ts row w s : List ℕ} (g : Squarable m ls ts row w s) where
-  pub square-room : Spreadable m ls ts w s
-  square-room = record { tables = g .tables; small = g .small; room = omega (arith, g .room, g .long) }
+-- as many places as the square has
+abbrev places : List ℕ → ℕ
+places row = length row + length row
 
+module _ {m : ℕ} {ls ts row w : List ℕ} (g : Squarable m ls ts row w) where
   square-small : Below (2 ^ m) (square (G m) w)
   square-small = square-below (numbers-of (g .tables)) w (g .small)
 
-  pub square-asks : {s₁ : List ℕ} → s₁ ≡ square (G m) w → Divisible m ls ts row s₁
-  square-asks {s₁} e = record {
-    tables = g .tables;
-    logs = g .logs;
-    small = subst (Below (2 ^ m)) (sym e) square-small;
-    room = omega (arith, ap length e, length-square (G m) w, g .long);
-  }
+  pub square-room : (s : List ℕ) → limit + limit ≤ length s → Spreadable m ls ts w (take (places row) s)
+  square-room s r = record { tables = g .tables; small = g .small; room = omega (arith, length-take-le (places row) s (omega (arith, g .few)), g .long) }
 
-  pub square-is : {s₁ s₂ w₁ : List ℕ} → s₁ ≡ square (G m) w → s₂ ≡ divided m (held m row) s₁ → w₁ ≡ copied (take (length row) s₂) w
-      → w₁ ≡ rem (G m) (held m row) (square (G m) w)
-  square-is {s₁} {s₂} {w₁} e d f =
-      let r : Reducible m ls ts row (square (G m) w) w = record { tables = g .tables; logs = g .logs; small = square-small; room = g .long } in
-      remainder-long r (d ∙ ap (divided m (held m row)) e) f
+  module _ (z : List ℕ) {y : List ℕ} (e : y ≡ square (G m) w) where
+    y-long : length y ≡ places row
+    y-long = ap length e ∙ length-square (G m) w ∙ ap (λ n. n + n) (g .long)
+
+    -- the square, where it stands
+    stands : take (places row) (y ++ z) ≡ y
+    stands = take-at y z (places row) y-long
+
+    pub stands-long : length (take (places row) (y ++ z)) ≡ places row
+    stands-long = ap length stands ∙ y-long
+
+    pub square-asks : Divisible m ls ts row (take (places row) (y ++ z))
+    square-asks = record {
+      tables = g .tables;
+      logs = g .logs;
+      small = subst (Below (2 ^ m)) (sym (stands ∙ e)) square-small;
+      room = omega (arith, stands-long);
+    }
+
+    module _ {y₁ : List ℕ} (f : y₁ ≡ divided m (held m row) (take (places row) (y ++ z))) where
+      y₁-long : length y₁ ≡ places row
+      y₁-long =
+          ap length f ∙ length-divided (g .tables) (held m row) (take (places row) (y ++ z)) (omega (arith, held-long m row, square-asks .room))
+          ∙ stands-long
+
+      -- the remainder stands in front
+      pub front-fits : (z₁ : List ℕ) → length row ≤ length (y₁ ++ z₁)
+      front-fits z₁ = omega (arith, y₁-long, length-append y₁ z₁)
+
+      pub square-is : {w₁ : List ℕ} (z₁ : List ℕ) → w₁ ≡ copied (take (length row) (y₁ ++ z₁)) w → w₁ ≡ rem (G m) (held m row) (square (G m) w)
+      square-is z₁ h =
+          let r : Reducible m ls ts row (square (G m) w) w = record { tables = g .tables; logs = g .logs; small = square-small; room = g .long } in
+          remainder-long r (f ∙ ap (divided m (held m row)) (stands ∙ e)) (h ∙ ap (λ u. copied u w) (take-append-le (length row) y₁ z₁ (omega (arith, y₁-long))))
 
   -- the square can be squared again
-  pub square-again : {w₁ s₁ : List ℕ} → w₁ ≡ rem (G m) (held m row) (square (G m) w) → length s₁ ≡ length s → Squarable m ls ts row w₁ s₁
-  square-again {w₁} {s₁} e n = record {
+  pub square-again : {w₁ : List ℕ} → w₁ ≡ rem (G m) (held m row) (square (G m) w) → Squarable m ls ts row w₁
+  square-again e = record {
     tables = g .tables;
     logs = g .logs;
     small = subst (Below (2 ^ m)) (sym e) (rem-below (numbers-of (g .tables)) (held m row) (square (G m) w) (held-below (g .tables) row) square-small);
+    few = g .few;
     long = ap length e ∙ length-rem (G m) (held m row) (square (G m) w) ∙ held-long m row;
-    room = n ∙ g .room;
   }
 
 -- ---- `power_mod`
 
 -- i squarings are done
 pub record Powering (m : ℕ) (ls ts row : List ℕ) (k : ℕ) (w₀ s₀ w s : List ℕ) (i : ℕ) : Type 0 where
-  pub given : Squarable m ls ts row w s
+  pub given : Squarable m ls ts row w
   pub within : i ≤ k
   pub long-w : length w ≡ length w₀
   pub long-s : length s ≡ length s₀
   pub same : frobeniusMod (G m) (held m row) (k - i) w ≡ frobeniusMod (G m) (held m row) k w₀
 
-pub power-from : {m : ℕ} {ls ts row w s : List ℕ} (k : ℕ) → Squarable m ls ts row w s → Powering m ls ts row k w s w s 0
-power-from {m} {ls} {ts} {row} {w} {s} k g =
+pub power-from : {m : ℕ} {ls ts row w : List ℕ} (k : ℕ) (s : List ℕ) → Squarable m ls ts row w → Powering m ls ts row k w s w s 0
+power-from {m} {ls} {ts} {row} {w} k s g =
     let e : k - 0 ≡ k = omega arith in
     record { given = g; within = omega arith; long-w = refl; long-s = refl; same = ap (λ n. frobeniusMod (G m) (held m row) n w) e }
 
@@ -136,7 +164,7 @@ module _ {m : ℕ} {ls ts row : List ℕ} {k : ℕ} {w₀ s₀ w s : List ℕ} {
   unfolding frobeniusMod
   power-on {w₁} {s₁} h e n =
       let left : k - i ≡ suc (k - (i + 1)) = omega arith in
-      let again : Squarable m ls ts row w₁ s₁ = square-again (p .given) e n in
+      let again : Squarable m ls ts row w₁ = square-again (p .given) e in
       record {
         given = again;
         within = omega arith;
@@ -176,7 +204,7 @@ module _ {m : ℕ} {w r₀ r : List ℕ} {i : ℕ} (s : Summing m w r₀ r i) wh
 
 -- i terms are added
 pub record Tracing (m : ℕ) (ls ts row w₀ s₀ sum₀ w s sum : List ℕ) (i : ℕ) : Type 0 where
-  pub given : Squarable m ls ts row w s
+  pub given : Squarable m ls ts row w
   pub first : 0 < i
   pub within : i ≤ m
   pub long-w : length w ≡ length w₀
@@ -185,10 +213,10 @@ pub record Tracing (m : ℕ) (ls ts row w₀ s₀ sum₀ w s sum : List ℕ) (i 
   pub room : length sum₀ ≡ length row
   pub same : add (G m) sum (traceMod (G m) (held m row) (m - i) (rem (G m) (held m row) (square (G m) w))) ≡ traceMod (G m) (held m row) m w₀
 
-pub trace-from : {m : ℕ} {ls ts row w s sum₁ : List ℕ} (sum : List ℕ) → Squarable m ls ts row w s → length sum ≡ length row → sum₁ ≡ copied w sum
+pub trace-from : {m : ℕ} {ls ts row w sum₁ : List ℕ} (s sum : List ℕ) → Squarable m ls ts row w → length sum ≡ length row → sum₁ ≡ copied w sum
     → Tracing m ls ts row w s sum₁ w s sum₁ 1
 unfolding traceMod
-trace-from {m} {ls} {ts} {row} {w} {s} {sum₁} sum g h e =
+trace-from {m} {ls} {ts} {row} {w} {sum₁} s sum g h e =
     let positive = small-of (g .tables) .degree-pos in
     let whole : sum₁ ≡ w = e ∙ copied-whole w sum (omega (arith, g .long)) in
     let up : suc (m - 1) ≡ m = omega arith in
@@ -215,7 +243,7 @@ module _ {m : ℕ} {ls ts row w₀ s₀ sum₀ w s sum : List ℕ} {i : ℕ} (t 
   unfolding traceMod
   trace-on {w₁} {s₁} {sum₁} h e n a =
       let left : m - i ≡ suc (m - (i + 1)) = omega arith in
-      let again : Squarable m ls ts row w₁ s₁ = square-again (t .given) e n in
+      let again : Squarable m ls ts row w₁ = square-again (t .given) e in
       let tail : List ℕ = traceMod (G m) (held m row) (m - (i + 1)) (rem (G m) (held m row) (square (G m) w₁)) in
       record {
         given = again;

@@ -56,11 +56,11 @@ pub record Saving (m : ℕ) (ls ts row : List ℕ) (k : ℕ) (w₀ s₀ rows₀ 
   pub long-rows : length rows ≡ length rows₀
   pub saved : take at rows ++ powerRows m (held m row) (k - i) w ≡ powerRows m (held m row) k w₀
 
-pub saving-from : {m : ℕ} {ls ts row w s rows : List ℕ} {k : ℕ} → Savable m ls ts row k w s rows → Saving m ls ts row k w s rows w s rows 0 0
-saving-from {m} {row = row} {w} {k = k} g =
+pub saving-from : {m : ℕ} {ls ts row w rows : List ℕ} {k : ℕ} (s : List ℕ) → Savable m ls ts row k w rows → Saving m ls ts row k w s rows w s rows 0 0
+saving-from {m} {row = row} {w} {k = k} s g =
     let e : k - 0 ≡ k = omega arith in
     record {
-      powering = power-from k (g .squarable);
+      powering = power-from k s (g .squarable);
       place = omega arith;
       room = g .room-rows;
       long-rows = refl;

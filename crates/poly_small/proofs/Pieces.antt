@@ -31,7 +31,7 @@ use Rattle.poly.specs.Lent.{Lent}
 use Rattle.poly_gcd.specs.Euclid.{Cofactorable}
 use Rattle.poly.proofs.Logs.{numbers-of, field-of, small-of}
 use Rattle.poly_small.specs.Roots.{Front, RootsOut, Lowly, SmallSolvable}
-use Rattle.poly_small.specs.Parting.{GcdOf, Parts, CubicPartable, CubicParted, Pieces, SplitCubic}
+use Rattle.poly_small.specs.Parting.{GcdOf, Parts, CubicPartable, CubicParted, Pieces}
 use Rattle.poly_small.proofs.LowDegrees.{front-out, front-within}
 
 -- x^(2^m) = x
@@ -55,15 +55,14 @@ module _ {m : ℕ} {ls ts hs p g out : List ℕ} (i : Pieces m ls ts hs p g out)
       record { degree = i .given .tables .degree; halves = i .given .halves; small = small-g; low = omega (arith, i .less); room = omega (arith, i .less, i .given .room) }
 
   -- what the division asks
-  pub cofactor-asks : {row f h : List ℕ} → length row ≡ length g → length f ≡ 4 → length h ≡ 3 - length g → Cofactorable m ls ts p g row f h
-  cofactor-asks {row} {f} {h} r e k = record {
+  pub cofactor-asks : {h : List ℕ} → length h ≡ 3 - length g → Cofactorable m ls ts p g h
+  cofactor-asks k = record {
     tables = i .given .tables;
     small-p = i .given .small;
     small-g = small-g;
+    few = omega (arith, i .three);
     shorter = omega (arith, i .less, i .three);
-    room-row = sym r;
-    room-f = omega (arith, i .three);
-    room-h = k ∙ ap (λ n. n - length g) (sym (i .three));
+    room = k ∙ ap (λ n. n - length g) (sym (i .three));
   }
 
   -- the degree of what is left
@@ -134,6 +133,13 @@ module _ {m : ℕ} {ls ts hs p g out : List ℕ} (i : Pieces m ls ts hs p g out)
       }
 
 -- ---- a cubic that some level parts
+
+-- some level parts the cubic, and its roots have room
+pub record SplitCubic (m : ℕ) (ls ts hs p out : List ℕ) : Type 0 where
+  pub given : SmallSolvable m ls ts hs p out
+  pub three : length p ≡ 3
+  pub level : ℕ
+  pub parts : Parts m p level
 
 module _ {m : ℕ} {ls ts hs p out : List ℕ} (s : SplitCubic m ls ts hs p out) where
   -- what the search for a level asks

@@ -5,7 +5,6 @@
 --   CubicPartable   some level parts the cubic
 --   CubicParted     the first n elements of g are the gcd with Tr(2^i z) at some level i that parts it
 --   Pieces          g is a gcd of the cubic p, of degree 1 or 2, so that both parts can be solved
---   SplitCubic      some level parts the cubic, and its roots have room
 -- Assumes nothing.
 use mathlib.Core.Path.{_≡_}
 use mathlib.Core.List.{List}
@@ -58,10 +57,3 @@ pub record Pieces (m : ℕ) (ls ts hs p g out : List ℕ) : Type 0 where
   pub with : List ℕ
   pub small : Below (2 ^ m) with
   pub is : g ≡ gcd (G m) p with
-
--- at a level that need not be known
-pub record SplitCubic (m : ℕ) (ls ts hs p out : List ℕ) : Type 0 where
-  pub given : SmallSolvable m ls ts hs p out
-  pub three : length p ≡ 3
-  pub level : ℕ
-  pub parts : Parts m p level

@@ -5,7 +5,7 @@ ghost use lib.ListN.{length};
 ghost use Rattle.algebra.specs.Polynomial.{fieldPoly, traceOf};
 ghost use Rattle.field.specs.Field.{G};
 ghost use Rattle.poly_small.specs.Roots.{SmallSolvable, RootsOut};
-ghost use Rattle.poly_small.specs.Parting.{Cubic, GcdOf, CubicPartable, CubicParted, Pieces, SplitCubic};
+ghost use Rattle.poly_small.specs.Parting.{Cubic, GcdOf, CubicPartable, CubicParted, Pieces};
 use crate::low::low_roots;
 use poly_gcd::cofactor;
 use poly_gcd::gcd;
@@ -18,13 +18,10 @@ fn cubic_split_part(m: u16, logs: &[u16], antilogs: &[u16], p: &[u16], g: &mut [
     requires { ⌜ Cubic m (now logs) (now antilogs) (now p) (now g) ⌝ }
     ensures { λ n. ⌜ GcdOf m (now (p .entry)) (fieldPoly (G m) m) n (now (g .exit)) ⌝ }
 {
-    let mut row: [u16; 3] = [0; 3];
     let mut w: [u16; 3] = [0; 3];
-    let mut s: [u16; 6] = [0; 6];
-    z_power(m, logs, antilogs, p, m, &mut row, &mut w, &mut s);
+    z_power(m, logs, antilogs, p, m, &mut w);
     w[1] = w[1] ^ 1;
-    slices::copy(p, g);
-    gcd(m, logs, antilogs, &mut row, g, 3, &mut w, 3)
+    gcd(m, logs, antilogs, p, &w, g)
 }
 
 // Writes the gcd of the monic cubic with the low coefficients p and Tr(bz) to the front of g. Returns its degree.
@@ -32,13 +29,9 @@ fn part_at(m: u16, logs: &[u16], antilogs: &[u16], p: &[u16], b: u16, g: &mut [u
     requires { ⌜ Cubic m (now logs) (now antilogs) (now p) (now g) × (b < 2 ^ m) ⌝ }
     ensures { λ n. ⌜ GcdOf m (now (p .entry)) (traceOf (G m) m b) n (now (g .exit)) ⌝ }
 {
-    let mut row: [u16; 3] = [0; 3];
-    let mut w: [u16; 3] = [0; 3];
-    let mut s: [u16; 6] = [0; 6];
-    let mut sum: [u16; 3] = [0; 3];
-    trace_of(m, logs, antilogs, p, b, &mut row, &mut w, &mut s, &mut sum);
-    slices::copy(p, g);
-    gcd(m, logs, antilogs, &mut row, g, 3, &mut sum, 3)
+    let mut t: [u16; 3] = [0; 3];
+    trace_of(m, logs, antilogs, p, b, &mut t);
+    gcd(m, logs, antilogs, p, &t, g)
 }
 
 // Writes the gcd with Tr(2^i z) at the first level i that parts the monic cubic with the low coefficients p to the
@@ -77,32 +70,12 @@ fn roots_of_parts(
     requires { ⌜ Pieces m (now logs) (now antilogs) (now halves) (now p) (now g) (now out) ⌝ }
     ensures { λ k. ⌜ RootsOut m (now (p .entry)) k (now (out .exit)) ⌝ }
 {
-    let d = g.len();
-    let e = 3 - d;
-    let mut row: [u16; 3] = [0; 3];
-    let mut f: [u16; 4] = [0; 4];
+    let e = 3 - g.len();
     let mut h: [u16; 3] = [0; 3];
-    cofactor(m, logs, antilogs, p, g, &mut row[..d], &mut f, &mut h[..e]);
+    cofactor(m, logs, antilogs, p, g, &mut h[..e]);
     let k = low_roots(m, halves, g, out);
     let j = low_roots(m, halves, &h[..e], &mut out[k..]);
     k + j
-}
-
-// Writes the roots of a monic cubic that splits into distinct factors to the front of out. Returns how many there are.
-fn split_roots(
-    m: u16,
-    logs: &[u16],
-    antilogs: &[u16],
-    halves: &[u16],
-    p: &[u16],
-    out: &mut [u16],
-) -> usize
-    requires { ⌜ SplitCubic m (now logs) (now antilogs) (now halves) (now p) (now out) ⌝ }
-    ensures { λ k. ⌜ RootsOut m (now (p .entry)) k (now (out .exit)) ⌝ }
-{
-    let mut g: [u16; 4] = [0; 4];
-    let n = part_of(m, logs, antilogs, p, &mut g);
-    roots_of_parts(m, logs, antilogs, halves, p, &g[..n], out)
 }
 
 // Writes the roots of the monic cubic with the low coefficients p to the front of out, each once. Returns how many
@@ -118,10 +91,12 @@ pub fn cubic_roots(
     requires { ⌜ SmallSolvable m (now logs) (now antilogs) (now halves) (now p) (now out) × (2 < length (now p)) ⌝ }
     ensures { λ k. ⌜ RootsOut m (now (p .entry)) k (now (out .exit)) ⌝ }
 {
-    let mut g: [u16; 4] = [0; 4];
-    let n = cubic_split_part(m, logs, antilogs, p, &mut g);
+    let mut f: [u16; 4] = [0; 4];
+    let n = cubic_split_part(m, logs, antilogs, p, &mut f);
     if n < 3 {
-        return low_roots(m, halves, &g[..n], out);
+        return low_roots(m, halves, &f[..n], out);
     }
-    split_roots(m, logs, antilogs, halves, &g[..3], out)
+    let mut g: [u16; 4] = [0; 4];
+    let k = part_of(m, logs, antilogs, &f[..3], &mut g);
+    roots_of_parts(m, logs, antilogs, halves, &f[..3], &g[..k], out)
 }

@@ -2,8 +2,9 @@
 --   field-run-top    z^(2^m) + z may be reduced by p as the power alone, with zeros on top, and z added
 --   residue-asks, residue-long, residue-is
 --                    `residue`: what the power asks, and what is left
---   split-asks, split-some, split-residual, split-powered, split-turnable, split-is
---                    `split_part`: what each routine asks, and what is left
+--   SplitOff         k coefficients are those of the part that splits
+--   split-fits, split-asks, split-some, long-out, split-room, split-residual, split-powered, split-turnable, split-is
+--                    what each routine asks, and what is left
 -- Assumes nothing.
 use mathlib.Core.Path.{_≡_, refl, sym, ap, ap₂, _∙_, subst}
 use mathlib.Core.Bool.{Bool, true, false}
@@ -43,7 +44,7 @@ use Rattle.poly_powers.specs.Powers.{Startable, powerRows}
 use Rattle.poly_gcd.specs.Euclid.{Turnable, GcdIs}
 use Rattle.poly.proofs.Logs.{field-of, numbers-of}
 use Rattle.table_rules.specs.Limit.{limit}
-use Rattle.table_begin.specs.SplitPart.{Residual, Residue, CanSplitOff, SplitOff, Powered}
+use Rattle.table_begin.specs.SplitPart.{Residual, Residue, Powered, Beginnable}
 
 -- ---- z^(2^m) + z modulo p
 
@@ -96,19 +97,11 @@ add-z m (x ∷ y ∷ f) h = ap₂ (λ a b. a ∷ bitXor y 1 ∷ b) (sym (xor-zer
 
 module _ {m : ℕ} {ls ts p b rows : List ℕ} (g : Residual m ls ts p b rows) where
   -- what the power asks
-  pub residue-asks : {b₁ : List ℕ} → b₁ ≡ replicate (length b) 0
-      → Startable m ls ts p (take (length p) (replicate limit 0)) (take (length p) b₁) (take (length p + length p) (replicate (limit + limit) 0))
+  pub residue-asks : {b₁ : List ℕ} → b₁ ≡ replicate (length b) 0 → Startable m ls ts p (take (length p) b₁)
   residue-asks {b₁} e =
-      let few = g .few in
       let room = g .room in
       let long : length b₁ ≡ length b = ap length e ∙ length-replicate (length b) 0 in
-      record {
-        tables = g .tables;
-        small = g .small;
-        room-row = sym (length-take-le (length p) (replicate limit 0) (omega arith));
-        room-w = length-take-le (length p) b₁ (omega arith);
-        room-s = length-take-le (length p + length p) (replicate (limit + limit) 0) (omega arith);
-      }
+      record { tables = g .tables; small = g .small; few = g .few; room = length-take-le (length p) b₁ (omega arith) }
 
   -- b stays as long as it is
   pub residue-long : {b₁ w : List ℕ} (x : ℕ) → b₁ ≡ replicate (length b) 0 → w ≡ frobeniusMod (G m) p m (rem (G m) p (0 ∷ 1 ∷ []))
@@ -139,22 +132,36 @@ module _ {m : ℕ} {ls ts p b rows : List ℕ} (g : Residual m ls ts p b rows) w
         same = ap (gcd (G m) p) (is ∙ ap (λ u. add (G m) (u ++ replicate n 0) z) d) ∙ sym (field-run-top N m n p (g .small));
       }
 
--- ---- `split_part`
+-- ---- the part that splits
 
-module _ {m : ℕ} {cs ls ts out rows : List ℕ} (g : CanSplitOff m cs ls ts out rows) {out₁ : List ℕ} (e : out₁ ≡ copied cs out) where
+-- k coefficients at the front of out are the product of (z + r) over all distinct roots, fewer than those given
+pub record SplitOff (m : ℕ) (cs : List ℕ) (k : ℕ) (out : List ℕ) : Type 0 where
+  pub count : k ≡ length (rootsAt m cs)
+  pub fewer : k < length cs
+  pub low : take k out ≡ monicRoots (G m) (rootsAt m cs)
+
+module _ {m : ℕ} {cs ls ts table rows : List ℕ} (g : Beginnable m cs ls ts table rows) {out : List ℕ} (e : out ≡ copied cs (replicate (suc limit) 0)) where
+  -- there is room for all coefficients
+  room : length cs ≤ suc limit
+  room = omega (arith, g .polynomial .few)
+
   -- the coefficients stand in front
-  copy-front : take (length cs) out₁ ≡ cs
-  copy-front = ap (take (length cs)) e ∙ copied-front cs out refl
+  copy-front : take (length cs) out ≡ cs
+  copy-front = ap (take (length cs)) e ∙ copied-front cs (replicate (suc limit) 0) refl
 
   -- and the slice is as long as it was
-  copy-long : length out₁ ≡ length out
-  copy-long = ap length e ∙ length-copied cs out (g .room)
+  copy-long : length out ≡ suc limit
+  copy-long = ap length e ∙ length-copied cs (replicate (suc limit) 0) room
+
+  -- and within the room
+  pub split-fits : length cs ≤ length out
+  split-fits = omega (arith, copy-long, room)
 
   -- what making monic asks
-  pub split-asks : Lent m ls ts × Below (2 ^ m) (take (length cs) out₁)
+  pub split-asks : Lent m ls ts × Below (2 ^ m) (take (length cs) out)
   split-asks = (g .tables, subst (Below (2 ^ m)) (sym copy-front) (g .polynomial .small))
 
-  module _ {j : ℕ} {y : List ℕ} (d : MadeMonic m (take (length cs) out₁) j y) where
+  module _ {j : ℕ} {y : List ℕ} (d : MadeMonic m (take (length cs) out) j y) where
     -- they were made monic
     normed : norm (G m) (length cs) cs ≡ monicLow j y
     normed = subst (λ l. norm (G m) (length l) l ≡ monicLow j y) copy-front (d .made)
@@ -182,34 +189,34 @@ module _ {m : ℕ} {cs ls ts out rows : List ℕ} (g : CanSplitOff m cs ls ts ou
 
     -- the low coefficients of the monic polynomial, where they stand
     p : List ℕ
-    p = take (j - 1) (y ++ drop (length cs) out₁)
+    p = take (j - 1) (y ++ drop (length cs) out)
 
     -- which the theory makes of all coefficients
     lead : norm (G m) (length cs) cs ≡ some p
     unfolding monicLow p
     lead =
         let back : suc (j - 1) ≡ j = omega (arith, split-some) in
-        normed ∙ ap (λ i. monicLow i y) (sym back) ∙ ap some (sym (take-append-le (j - 1) y (drop (length cs) out₁) (omega (arith, within, long-y))))
+        normed ∙ ap (λ i. monicLow i y) (sym back) ∙ ap some (sym (take-append-le (j - 1) y (drop (length cs) out) (omega (arith, within, long-y))))
 
     -- the slice is as long as it was
-    long-out : length (y ++ drop (length cs) out₁) ≡ length out
-    long-out = length-front out₁ y (length cs) (long-y ∙ sym (ap length copy-front)) ∙ copy-long
+    pub long-out : length (y ++ drop (length cs) out) ≡ suc limit
+    long-out = length-front out y (length cs) (long-y ∙ sym (ap length copy-front)) ∙ copy-long
 
     -- its degree is one less than its coefficients
     long-p : length p ≡ j - 1
     unfolding p
-    long-p = length-take-le (j - 1) (y ++ drop (length cs) out₁) (omega (arith, long-out, within, g .room))
+    long-p = length-take-le (j - 1) (y ++ drop (length cs) out) (omega (arith, long-out, within, room))
 
     -- and they are elements
     small-p : Below (2 ^ m) p
     small-p = norm-below (numbers-of (g .tables)) (length cs) cs (g .polynomial .small) lead
 
     -- they stand within the slice
-    pub split-room : j - 1 ≤ length (y ++ drop (length cs) out₁)
-    split-room = omega (arith, long-out, within, g .room)
+    pub split-room : j - 1 ≤ length (y ++ drop (length cs) out)
+    split-room = omega (arith, long-out, within, room)
 
     -- what the power asks
-    pub split-residual : {b : List ℕ} → length b ≡ suc limit → Residual m ls ts (take (j - 1) (y ++ drop (length cs) out₁)) b rows
+    pub split-residual : {b : List ℕ} → length b ≡ suc limit → Residual m ls ts (take (j - 1) (y ++ drop (length cs) out)) b rows
     unfolding p
     split-residual h = record {
       tables = g .tables;
@@ -221,19 +228,19 @@ module _ {m : ℕ} {cs ls ts out rows : List ℕ} (g : CanSplitOff m cs ls ts ou
     }
 
     -- the powers are those modulo the polynomial made monic
-    pub split-powered : (rows₁ : List ℕ) → take (m * length (take (j - 1) (y ++ drop (length cs) out₁))) rows₁
-        ≡ powerRows m (take (j - 1) (y ++ drop (length cs) out₁)) m (rem (G m) (take (j - 1) (y ++ drop (length cs) out₁)) (0 ∷ 1 ∷ [])) → Powered m cs (j - 1) (take (m * (j - 1)) rows₁)
+    pub split-powered : (rows₁ : List ℕ) → take (m * length (take (j - 1) (y ++ drop (length cs) out))) rows₁
+        ≡ powerRows m (take (j - 1) (y ++ drop (length cs) out)) m (rem (G m) (take (j - 1) (y ++ drop (length cs) out)) (0 ∷ 1 ∷ [])) → Powered m cs (j - 1) (take (m * (j - 1)) rows₁)
     unfolding p
     split-powered rows₁ e = record { low = p; made = lead; long = long-p; rows-are = ap (λ k. take (m * k) rows₁) (sym long-p) ∙ e }
 
-    module _ {b : List ℕ} (r : Residue m (take (j - 1) (y ++ drop (length cs) out₁)) b) (h : length b ≡ suc limit) where
+    module _ {b : List ℕ} (r : Residue m (take (j - 1) (y ++ drop (length cs) out)) b) (h : length b ≡ suc limit) where
       -- what the greatest common divisor asks
-      pub split-turnable : {row : List ℕ} {n : ℕ} → length row ≡ limit → n ≤ suc limit → Turnable m ls ts row (y ++ drop (length cs) out₁) (j - 1) b n
+      pub split-turnable : {n : ℕ} → n ≤ suc limit → Turnable m ls ts (y ++ drop (length cs) out) (j - 1) b n
       unfolding p
-      split-turnable {row} {n} k l = record {
+      split-turnable {n} l = record {
         tables = g .tables;
-        room-row = omega (arith, within, split-some, g .polynomial .few);
-        room-a = omega (arith, long-out, within, split-some, g .room);
+        few = omega (arith, within, split-some, g .polynomial .few);
+        room-a = omega (arith, long-out, within, split-some, room);
         room-b = omega (arith, within, split-some, g .polynomial .few);
         within = omega arith;
         small-a = small-p;
@@ -241,17 +248,17 @@ module _ {m : ℕ} {cs ls ts out rows : List ℕ} (g : CanSplitOff m cs ls ts ou
       }
 
       -- what is left
-      pub split-is : {k : ℕ} {a : List ℕ} → length a ≡ length out → GcdIs m (y ++ drop (length cs) out₁) (j - 1) b (suc limit) k a → SplitOff m cs k a
+      pub split-is : {k : ℕ} {a : List ℕ} → length a ≡ length (y ++ drop (length cs) out) → GcdIs m (take (j - 1) (y ++ drop (length cs) out)) (take (suc limit) b) k a → SplitOff m cs k a
       unfolding p
       split-is {k} {a} l i =
           let N : OnNumbers (G m) (2 ^ m) = numbers-of (g .tables) in
           let roots : List ℕ = rootsAt m cs in
-          let fewer : k < length cs = omega (arith, i .count, within, split-some) in
+          let fewer : k < length cs = omega (arith, i .count, long-p, within, split-some) in
           let low : take k a ≡ monicRoots (G m) roots =
           i .low ∙ ap (gcd (G m) p) (take-all (suc limit) b (omega arith)) ∙ r .same
           ∙ split-part N m refl (N .one-below) (squared-size (fieldAt m) (field-of (g .tables))) cs (g .polynomial .small) lead in
           record {
-            count = sym (length-take-le k a (omega (arith, g .room))) ∙ ap length low ∙ length-monicRoots (G m) roots;
+            count = sym (length-take-le k a (omega (arith, room, long-out))) ∙ ap length low ∙ length-monicRoots (G m) roots;
             fewer = fewer;
             low = low;
           }

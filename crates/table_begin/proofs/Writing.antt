@@ -1,13 +1,13 @@
 -- A table is begun: what the parts ask, and what is left.
 --   rows-room                           the room for the rows of the powers
---   begin-asks, begin-splittable        what the table asks, and what the part that splits asks
+--   begin-asks                          what the table asks
 --   split-long, split-few, written-is   the part that splits, and what is left in the table
 --   begin-room                          the table of what was let in
 -- Assumes nothing.
 use mathlib.Core.Path.{_≡_, sym, ap, _∙_}
 use mathlib.Core.Bool.{true}
 use mathlib.Core.List.{List}
-use Prim.Native.Nat.{ℕ, suc, _*_, _^_, _≤_}
+use Prim.Native.Nat.{ℕ, _*_, _^_, _≤_}
 use native.Mathlib.Omega.{arith}
 use borrow.Author.Tests.{eqb-true, not-false}
 use lib.Dec.{eqb}
@@ -22,12 +22,13 @@ use Rattle.table_rules.specs.Layout.{byFactor}
 use Rattle.table_rules.specs.Table.{encode}
 use Rattle.table_rules.specs.Splitting.{begunTable, slotsBegun}
 use Rattle.table_rules.specs.Limit.{limit, slots, widest}
-use Rattle.table_begin.specs.SplitPart.{CanSplitOff, SplitOff, Beginnable}
+use Rattle.table_begin.specs.SplitPart.{Beginnable}
 use Rattle.table_rules.specs.Polynomials.{PolynomialIn}
 use Rattle.table_rules.proofs.Fields.{degree-within}
 use Rattle.table_rules.proofs.Polynomials.{passed-rest}
 use Rattle.poly.proofs.Lending.{lent-at}
 use Rattle.table_begin.specs.Calls.{beginTests}
+use Rattle.table_begin.proofs.SplitPart.{SplitOff}
 
 -- the rows of m powers fit where those of the widest field do
 pub rows-room : (m : ℕ) → known m ≡ true → {l : ℕ} → widest * limit ≤ l → m * limit ≤ l
@@ -38,11 +39,6 @@ pub begin-asks : {m n : ℕ} {cs ls ts table rows : List ℕ} → PolynomialIn m
     → Logs (fieldAt n) ls → Antilogs (fieldAt n) ts → Beginnable m cs ls ts table rows
 begin-asks {m} p t r e l a =
     record { polynomial = p; tables = lent-at e (p .field) l a; room = t; room-rows = rows-room m (p .field) r }
-
--- what the part that splits asks
-pub begin-splittable : {m : ℕ} {cs ls ts table out rows : List ℕ} → Beginnable m cs ls ts table rows → length out ≡ suc limit → CanSplitOff m cs ls ts out rows
-begin-splittable g h =
-    record { polynomial = g .polynomial; tables = g .tables; room = omega (arith, g .polynomial .few); room-rows = g .room-rows }
 
 -- the part that splits is as long as it says
 pub split-long : {m k : ℕ} {cs out : List ℕ} → SplitOff m cs k out → length (take k out) ≡ k

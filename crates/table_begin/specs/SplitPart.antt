@@ -1,20 +1,17 @@
 -- What the routines of begin take for granted, and what they leave.
 --   Residual     z^(2^m) + z can be reduced by the monic polynomial with the low coefficients p, into b
 --   Residue      b took its place: it has the same greatest common divisor with that polynomial
---   CanSplitOff  the part of a polynomial that splits can be written to out, and the powers of z modulo the polynomial
---                to rows
---   SplitOff     k coefficients at the front of out are the product of (z + r) over all distinct roots
 --   Powered      rows are z, z^2, z^4, .. , m of them, modulo the polynomial of degree d
 --   Beginnable   the table of a polynomial can be written, with the field's tables lent
 -- Assumes nothing.
 use mathlib.Core.Path.{_≡_}
 use mathlib.Core.Option.{some}
 use mathlib.Core.List.{List, [], _∷_}
-use Prim.Native.Nat.{ℕ, _*_, _^_, _≤_, _<_}
+use Prim.Native.Nat.{ℕ, _*_, _^_, _≤_}
 use lib.ListN.{length, take}
 use Rattle.algebra.specs.Polynomial.{Below, fieldPoly}
-use Rattle.algebra.specs.Routines.{rem, norm, gcd, monicRoots}
-use Rattle.field.specs.Field.{G, rootsAt}
+use Rattle.algebra.specs.Routines.{rem, norm, gcd}
+use Rattle.field.specs.Field.{G}
 use Rattle.poly.specs.Lent.{Lent}
 use Rattle.poly_powers.specs.Powers.{powerRows}
 use Rattle.table_rules.specs.Limit.{limit, slots}
@@ -33,19 +30,6 @@ pub record Residual (m : ℕ) (ls ts p b rows : List ℕ) : Type 0 where
 pub record Residue (m : ℕ) (p b : List ℕ) : Type 0 where
   pub small : Below (2 ^ m) b
   pub same : gcd (G m) p b ≡ gcd (G m) p (fieldPoly (G m) m)
-
--- a polynomial that was let in, and room for all of its coefficients
-pub record CanSplitOff (m : ℕ) (cs ls ts out rows : List ℕ) : Type 0 where
-  pub polynomial : PolynomialIn m cs
-  pub tables : Lent m ls ts
-  pub room : length cs ≤ length out
-  pub room-rows : m * limit ≤ length rows
-
--- fewer than the coefficients given
-pub record SplitOff (m : ℕ) (cs : List ℕ) (k : ℕ) (out : List ℕ) : Type 0 where
-  pub count : k ≡ length (rootsAt m cs)
-  pub fewer : k < length cs
-  pub low : take k out ≡ monicRoots (G m) (rootsAt m cs)
 
 -- the polynomial made monic has the low coefficients `low`
 pub record Powered (m : ℕ) (cs : List ℕ) (d : ℕ) (rows : List ℕ) : Type 0 where

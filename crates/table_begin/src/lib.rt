@@ -13,8 +13,7 @@ ghost use Rattle.table_rules.specs.Splitting.{slotsBegun};
 ghost use Rattle.table_rules.specs.Limit.{slots};
 ghost use Rattle.table_rules.specs.Polynomials.{PolynomialIn};
 ghost use Rattle.table_begin.specs.Calls.{Begins};
-ghost use Rattle.table_begin.specs.SplitPart.{Residual, Residue, CanSplitOff};
-ghost use Rattle.table_begin.specs.SplitPart.{SplitOff, Powered, Beginnable};
+ghost use Rattle.table_begin.specs.SplitPart.{Residual, Residue, Powered, Beginnable};
 use field_tables::constants::antilogs4;
 use field_tables::constants::antilogs8;
 use field_tables::constants::antilogs11;
@@ -24,14 +23,12 @@ use field_tables::constants::logs11;
 use find_admit::admit;
 use find_admit::in_force;
 use poly::monic::make_monic;
-use poly_gcd::gcd;
+use poly_gcd::euclid;
 use poly_powers::z_powers;
 use refusals::Admission;
 use refusals::Refusal;
 use table_rules::COEFFICIENTS;
-use table_rules::LIMIT;
 use table_rules::POWER_ROWS;
-use table_rules::SQUARE;
 use table_slots::SLOTS;
 use table_slots::lay;
 
@@ -49,58 +46,15 @@ fn residue(m: u16, logs: &[u16], antilogs: &[u16], p: &[u16], b: &mut [u16], row
         × (take (m * length (now (p .entry))) (now (rows .exit))
         ≡ powerRows m (now (p .entry)) m (rem (G m) (now (p .entry)) (0 ∷ 1 ∷ []))) ⌝ }
 {
-    let mut row = [0u16; LIMIT];
-    let mut s = [0u16; SQUARE];
     let n = p.len();
-    let d = n + n;
     slices::clear(b);
-    z_powers(
-        m,
-        logs,
-        antilogs,
-        p,
-        m,
-        &mut row[..n],
-        &mut b[..n],
-        &mut s[..d],
-        rows,
-    );
+    z_powers(m, logs, antilogs, p, m, &mut b[..n], rows);
     b[1] = b[1] ^ 1;
 }
 
-// The degree of a polynomial, and that of the part of it that splits.
-pub struct Degrees {
-    pub whole: usize,
-    pub part: usize,
-}
-
-// Writes the low coefficients of the product of (z + r) over all distinct roots of a polynomial that is not 0 to the
-// front of out, and the rows of z, z^2, z^4, ..
-// modulo the polynomial to rows.
-pub fn split_part(
-    m: u16,
-    coeffs: &[u16],
-    logs: &[u16],
-    antilogs: &[u16],
-    out: &mut [u16],
-    rows: &mut [u16],
-) -> Degrees
-    requires { ⌜ CanSplitOff m (now coeffs) (now logs) (now antilogs) (now out) (now rows) ⌝ }
-    ensures { λ r. ⌜ SplitOff m (now (coeffs .entry)) (r .part) (now (out .exit))
-        × Powered m (now (coeffs .entry)) (r .whole) (take (m * r .whole) (now (rows .exit))) ⌝ }
-{
-    let mut b = [0u16; COEFFICIENTS];
-    let mut row = [0u16; LIMIT];
-    let n = coeffs.len();
-    slices::copy(coeffs, out);
-    let d = make_monic(m, logs, antilogs, &mut out[..n]) - 1;
-    residue(m, logs, antilogs, &out[..d], &mut b, rows);
-    let k = gcd(m, logs, antilogs, &mut row, out, d, &mut b, COEFFICIENTS);
-    Degrees { whole: d, part: k }
-}
-
-// Writes the table of an accepted polynomial, over lent tables, and the rows of z, z^2, z^4, .. modulo the polynomial
-// to rows. Returns the polynomial's degree.
+// Writes the table of an accepted polynomial, over lent tables: its one factor is the product of (z + r) over all
+// distinct roots. The rows of z, z^2, z^4, .. modulo the polynomial are written to rows. Returns the polynomial's
+// degree.
 pub fn begin_lent(
     m: u16,
     c: u16,
@@ -115,10 +69,14 @@ pub fn begin_lent(
         × Powered m (now (coeffs .entry)) d (take (m * d) (now (rows .exit))) ⌝ }
 {
     let mut part = [0u16; COEFFICIENTS];
-    let found = split_part(m, coeffs, logs, antilogs, &mut part, rows);
-    let n = found.part;
-    lay(table, m, c, &part[..n]);
-    found.whole
+    let mut b = [0u16; COEFFICIENTS];
+    let n = coeffs.len();
+    slices::copy(coeffs, &mut part);
+    let d = make_monic(m, logs, antilogs, &mut part[..n]) - 1;
+    residue(m, logs, antilogs, &part[..d], &mut b, rows);
+    let k = euclid(m, logs, antilogs, &mut part, d, &mut b, COEFFICIENTS);
+    lay(table, m, c, &part[..k]);
+    d
 }
 
 // Writes the table of an accepted polynomial. The field's tables are lent here.

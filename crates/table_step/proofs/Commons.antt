@@ -3,12 +3,13 @@
 --   level-fits, level-power   the antilog of twice the level i is a^i
 --   traced, traced-long       the trace sum that the code makes is that of a^i z, as long as the factor
 --   traced-same               it has the greatest common divisor with the factor that Tr(a^i z) has
---   gcd-asks, common-is       what Euclid's loop takes and leaves
+--   IsCommon                  the first r coefficients of g are the first part's
+--   common-is                 the greatest common divisor with such a polynomial is that
 -- Assumes nothing.
-use mathlib.Core.Path.{_≡_, refl, sym, ap, ap₂, subst, _∙_}
+use mathlib.Core.Path.{_≡_, sym, ap, subst, _∙_}
 use mathlib.Core.Bool.{true}
 use mathlib.Core.List.{List, [], _∷_}
-use Prim.Native.Nat.{ℕ, suc, _-_, _*_, _^_, _≤_, _<_}
+use Prim.Native.Nat.{ℕ, suc, _-_, _*_, _^_, _<_}
 use native.Mathlib.Omega.{arith}
 use lib.Dec.{lit<}
 use lib.ListN.{length, getD, take}
@@ -23,13 +24,10 @@ use Rattle.algebra.proofs.StaysBelow.{power-below, rem-below, traceMod-below}
 use Rattle.algebra.proofs.NumberSteps.{trace-run}
 use Rattle.field.specs.Field.{fieldAt, G}
 use Rattle.field.proofs.Logarithms.{antilogs-power}
-use Rattle.slices.specs.Lists.{copied}
-use Rattle.slices.proofs.Lists.{copied-front, length-copied}
-use Rattle.poly_gcd.specs.Euclid.{Turnable, GcdIs}
+use Rattle.poly_gcd.specs.Euclid.{GcdIs}
 use Rattle.poly.proofs.Logs.{field-of, numbers-of}
 use Rattle.table_rules.specs.Splitting.{halvingAt}
-use Rattle.table_rules.specs.Limit.{limit}
-use Rattle.table_step.specs.Parting.{Splittable, Partable, IsCommon}
+use Rattle.table_step.specs.Parting.{Splittable, Partable}
 
 -- a known degree is less than the size of its field
 degree-less : (m : ℕ) → known m ≡ true → m < 2 ^ m
@@ -82,35 +80,16 @@ module _ {m : ℕ} {ls ts p : List ℕ} {i : ℕ} (s : Splittable m ls ts p i) w
   pub traced-same : gcd (G m) p trace ≡ halvingAt m .low i p
   traced-same = sym (trace-run (numbers-of (s .tables)) m (power (G m) 2 i) power-small p (s .small))
 
--- ---- `common`
+-- ---- the first part
 
-module _ {m : ℕ} {ls ts p : List ℕ} {i : ℕ} {t : List ℕ} (s : Partable m ls ts p i t) {b g : List ℕ} (g₀ z : List ℕ) (e : b ≡ copied t z) (c : g ≡ copied p g₀)
-    (l : length p < length g₀) (n : length z ≡ limit) where
-  -- the copy of the factor
-  front-g : take (length p) g ≡ p
-  front-g = ap (take (length p)) c ∙ copied-front p g₀ refl
+-- the first r coefficients of g are those of the factor's part that goes first
+pub record IsCommon (m i : ℕ) (p : List ℕ) (r : ℕ) (g : List ℕ) : Type 0 where
+  pub degree : r ≡ length (halvingAt m .low i p)
+  pub low : take r g ≡ halvingAt m .low i p
 
-  -- and of the polynomial
-  front-b : take (length t) b ≡ t
-  front-b = ap (take (length t)) e ∙ copied-front t z refl
-
-  long-b : length b ≡ limit
-  long-b = ap length e ∙ length-copied t z (omega (arith, s .few)) ∙ n
-
-  -- what Euclid's loop may take for granted
-  pub gcd-asks : {row : List ℕ} → length p ≤ length row → Turnable m ls ts row g (length p) b (length t)
-  gcd-asks r = record {
-    tables = s .splittable .tables;
-    room-row = r;
-    room-a = omega (arith, ap length c, length-copied p g₀ (omega arith));
-    room-b = omega (arith, long-b, s .splittable .few);
-    within = omega (arith, long-b, s .few);
-    small-a = subst (Below (2 ^ m)) (sym front-g) (s .splittable .small);
-    small-b = subst (Below (2 ^ m)) (sym front-b) (s .small);
-  }
-
-  -- what it leaves is the first part
-  pub common-is : {r : ℕ} {g′ : List ℕ} → GcdIs m g (length p) b (length t) r g′ → length p < length g′ → IsCommon m i p r g′
-  common-is {r} {g′} q h =
-      let low : take r g′ ≡ halvingAt m .low i p = q .low ∙ ap₂ (gcd (G m)) front-g front-b ∙ s .same in
-      record { degree = sym (length-take-le r g′ (omega (arith, q .count))) ∙ ap length low; low = low }
+module _ {m : ℕ} {ls ts p : List ℕ} {i : ℕ} {t : List ℕ} (s : Partable m ls ts p i t) where
+  -- what the greatest common divisor with t leaves is the first part
+  pub common-is : {r : ℕ} {g : List ℕ} → GcdIs m p t r g → length p < length g → IsCommon m i p r g
+  common-is {r} {g} q h =
+      let low : take r g ≡ halvingAt m .low i p = q .low ∙ s .same in
+      record { degree = sym (length-take-le r g (omega (arith, q .count))) ∙ ap length low; low = low }

@@ -22,7 +22,9 @@ use Rattle.table_rules.proofs.Fields.{known-field}
 use Rattle.table_rules.proofs.Keeping.{LosslessHalving, trace-halves}
 use Rattle.table_slots.specs.Slots.{Appended}
 use Rattle.table_slots.proofs.Appending.{some-slots}
-use Rattle.table_step.specs.Parting.{Splittable, Restable, IsCommon, Parted}
+use Rattle.poly_gcd.specs.Euclid.{Cofactorable}
+use Rattle.table_step.specs.Parting.{Splittable, Parted}
+use Rattle.table_step.proofs.Commons.{IsCommon}
 
 module _ {m : ℕ} {ls ts p : List ℕ} {i : ℕ} (s : Splittable m ls ts p i) {k : ℕ} {g : List ℕ} (c : IsCommon m i p k g) where
   -- the two parts have, together, the factor's degree
@@ -33,8 +35,8 @@ module _ {m : ℕ} {ls ts p : List ℕ} {i : ℕ} (s : Splittable m ls ts p i) {
   pub degree-within : k ≤ length p
   degree-within = omega (arith, c .degree, halves .sum)
 
-  -- what `rest_of` may take for granted
-  pub rest-asks : {h : List ℕ} → length h ≡ length p - k → Restable m ls ts p (take k g) h
+  -- what the division may take for granted
+  pub rest-asks : {h : List ℕ} → length h ≡ length p - k → Cofactorable m ls ts p (take k g) h
   rest-asks e = record {
     tables = s .tables;
     small-p = s .small;

@@ -2,16 +2,13 @@
 --   Splittable   the factor p at a level can be split: the field's tables are lent, and it is within the rules and
 --                below level m
 --   Partable     the same with a polynomial t that has the greatest common divisor with p that Tr(a^i z) has
---   Restable     g can be taken out of p, with the rest written to h
---   IsCommon     the first r coefficients of g are the first part's: the monic greatest common divisor of p and Tr(a^i
---                z)
 --   Parted       the parts of the factor p stand at the front of w, in r slots
 --   Steppable    the factor at o of a table is the one that a step splits, and the field's tables are lent
 --   StepReady    the same with such a polynomial t lent
 -- Assumes nothing.
 use mathlib.Core.Path.{_≡_}
 use mathlib.Core.List.{List}
-use Prim.Native.Nat.{ℕ, _-_, _^_, _≤_, _<_}
+use Prim.Native.Nat.{ℕ, _^_, _≤_, _<_}
 use lib.ListN.{length, take}
 use Rattle.algebra.specs.Polynomial.{Below}
 use Rattle.algebra.specs.Routines.{gcd}
@@ -37,20 +34,6 @@ pub record Partable (m : ℕ) (ls ts p : List ℕ) (i : ℕ) (t : List ℕ) : Ty
   pub small : Below (2 ^ m) t
   pub few : length t ≤ limit
   pub same : gcd (G m) p t ≡ halvingAt m .low i p
-
--- g is no longer than p, and h as long as what is left
-pub record Restable (m : ℕ) (ls ts p g h : List ℕ) : Type 0 where
-  pub tables : Lent m ls ts
-  pub small-p : Below (2 ^ m) p
-  pub small-g : Below (2 ^ m) g
-  pub few : length p ≤ limit
-  pub shorter : length g ≤ length p
-  pub room : length h ≡ length p - length g
-
--- the part that goes first
-pub record IsCommon (m i : ℕ) (p : List ℕ) (r : ℕ) (g : List ℕ) : Type 0 where
-  pub degree : r ≡ length (halvingAt m .low i p)
-  pub low : take r g ≡ halvingAt m .low i p
 
 -- one level further
 pub record Parted (m i : ℕ) (p : List ℕ) (r : ℕ) (w : List ℕ) : Type 0 where

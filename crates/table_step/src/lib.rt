@@ -2,18 +2,17 @@
 // greatest common divisor g of P and Tr(a^i z), and to h = P/g.
 ghost use mathlib.Core.Path.{_≡_};
 ghost use mathlib.Core.List.{[], _∷_};
-ghost use Prim.Native.Nat.{_≤_, _<_};
+ghost use Prim.Native.Nat.{_≤_};
 ghost use lib.ListN.{length};
 ghost use Rattle.algebra.specs.Field.{power};
-ghost use Rattle.algebra.specs.Routines.{rem, traceMod, cofactor};
+ghost use Rattle.algebra.specs.Routines.{rem, traceMod};
 ghost use Rattle.field.specs.Field.{G};
 ghost use Rattle.table_rules.specs.Layout.{byFactor};
 ghost use Rattle.table_rules.specs.Splitting.{slotsStepped};
 ghost use Rattle.table_rules.specs.Limit.{twoFactors};
 ghost use Rattle.table_step.specs.Calls.{Steps};
 ghost use Rattle.table_check.specs.Verdicts.{Chosen};
-ghost use Rattle.table_step.specs.Parting.{Splittable, Partable, Restable, IsCommon};
-ghost use Rattle.table_step.specs.Parting.{Parted, Steppable, StepReady};
+ghost use Rattle.table_step.specs.Parting.{Splittable, Partable, Parted, Steppable, StepReady};
 use field_tables::constants::antilogs4;
 use field_tables::constants::antilogs8;
 use field_tables::constants::antilogs11;
@@ -28,7 +27,6 @@ use table_check::Verdict;
 use table_check::judge;
 use table_rules::COEFFICIENTS;
 use table_rules::LIMIT;
-use table_rules::SQUARE;
 use table_slots::TWO_FACTORS;
 use table_slots::append;
 use table_slots::head_of;
@@ -49,62 +47,12 @@ fn trace_at(m: u16, logs: &[u16], antilogs: &[u16], p: &[u16], level: u16, t: &m
     ensures { λ _. ⌜ now (t .exit)
         ≡ traceMod (G m) (now (p .entry)) m (rem (G m) (now (p .entry)) (0 ∷ power (G m) 2 level ∷ [])) ⌝ }
 {
-    let n = p.len();
-    let e = n + n;
     let b = antilogs[2 * (level as usize)];
-    let mut row = [0u16; LIMIT];
-    let mut w = [0u16; LIMIT];
-    let mut s = [0u16; SQUARE];
-    trace_of(
-        m,
-        logs,
-        antilogs,
-        p,
-        b,
-        &mut row[..n],
-        &mut w[..n],
-        &mut s[..e],
-        t,
-    );
+    trace_of(m, logs, antilogs, p, b, t);
 }
 
-// Leaves the monic greatest common divisor of the factor p and t, which stands for Tr(a^i z), at the front of g.
-// Returns its degree.
-fn common(
-    m: u16,
-    logs: &[u16],
-    antilogs: &[u16],
-    p: &[u16],
-    level: u16,
-    t: &[u16],
-    g: &mut [u16],
-) -> usize
-    requires { ⌜ Partable m (now logs) (now antilogs) (now p) level (now t) × (length (now p) < length (now g)) ⌝ }
-    ensures { λ r. ⌜ IsCommon m level (now (p .entry)) r (now (g .exit)) ⌝ }
-{
-    let n = p.len();
-    let k = t.len();
-    let mut b = [0u16; LIMIT];
-    slices::copy(t, &mut b);
-    slices::copy(p, g);
-    let mut row = [0u16; LIMIT];
-    gcd(m, logs, antilogs, &mut row, g, n, &mut b, k)
-}
-
-// Writes what is left of the factor p where g, which divides it, is taken out to h.
-fn rest_of(m: u16, logs: &[u16], antilogs: &[u16], p: &[u16], g: &[u16], h: &mut [u16])
-    requires { ⌜ Restable m (now logs) (now antilogs) (now p) (now g) (now h) ⌝ }
-    ensures { λ _. ⌜ now (h .exit) ≡ cofactor (G m) (now (p .entry)) (now (g .entry)) ⌝ }
-{
-    let k = g.len();
-    let j = p.len() + 1;
-    let mut row = [0u16; LIMIT];
-    let mut f = [0u16; COEFFICIENTS];
-    cofactor(m, logs, antilogs, p, g, &mut row[..k], &mut f[..j], h);
-}
-
-// Writes the slots of the factor's two parts, at the next level, to the front of w; a constant part is omitted.
-// Returns the number of slots.
+// Writes the slots of the factor's two parts, at the next level, to the front of w: its monic greatest common divisor
+// with t, which stands for Tr(a^i z), and the rest. A constant part is omitted. Returns the number of slots.
 fn parts_of(
     m: u16,
     logs: &[u16],
@@ -118,10 +66,10 @@ fn parts_of(
     ensures { λ r. ⌜ Parted m level (now (p .entry)) r (now (w .exit)) ⌝ }
 {
     let mut g = [0u16; COEFFICIENTS];
-    let k = common(m, logs, antilogs, p, level, t, &mut g);
+    let k = gcd(m, logs, antilogs, p, t, &mut g);
     let mut h = [0u16; LIMIT];
     let e = p.len() - k;
-    rest_of(m, logs, antilogs, p, &g[..k], &mut h[..e]);
+    cofactor(m, logs, antilogs, p, &g[..k], &mut h[..e]);
     let at = append(w, 0, level + 1, &g[..k]);
     append(w, at, level + 1, &h[..e])
 }

@@ -15,10 +15,10 @@ slice-reshare-prefix-leave-remainder : tie.Need-slice-reshare-prefix-leave-remai
 slice-reshare-prefix-leave-remainder c = search needs
 
 slice-aggregate-leave-remainder : tie.Need-slice-aggregate-leave-remainder
-slice-aggregate-leave-remainder c = sym (length-take-le _ _ (omega (arith, c .before .before .before .before .before .before .pre .room-a)))
+slice-aggregate-leave-remainder c = sym (length-take-le _ _ (omega (arith, c .before .before .before .before .before .before .pre .0 .room-a)))
 
 leave-remainder-requires : tie.Need-leave-remainder-requires
-leave-remainder-requires c κs = turn-asks (c .before .before .before .before .before .before .before .before .pre)
+leave-remainder-requires c κs = let s = c .before .before .before .before .before .before .before .before .pre in turn-asks (s .0) (s .1)
 
 mul-a : tie.Need-mul-a
 mul-a c = search needs
@@ -30,10 +30,10 @@ slice-relend-prefix-make-monic : tie.Need-slice-relend-prefix-make-monic
 slice-relend-prefix-make-monic c = search needs
 
 slice-aggregate-make-monic : tie.Need-slice-aggregate-make-monic
-slice-aggregate-make-monic c = sym (length-take-le _ _ (omega (arith, c .before .before .before .before .before .before .before .before .before .before .before .before .before .before .pre .room-b, c .before .before .before .before .before .leave-remainder .ensures .long)))
+slice-aggregate-make-monic c = sym (length-take-le _ _ (omega (arith, c .before .before .before .before .before .before .before .before .before .before .before .before .before .before .pre .0 .room-b, c .before .before .before .before .before .leave-remainder .ensures .long)))
 
 make-monic-requires : tie.Need-make-monic-requires
-make-monic-requires c κs = turn-below (c .before .before .before .before .before .before .before .before .before .before .before .before .before .before .pre) (c .before .before .before .before .before .leave-remainder .ensures)
+make-monic-requires c κs = turn-below (c .before .before .before .before .before .before .before .before .before .before .before .before .before .before .pre .0) (c .before .before .before .before .before .leave-remainder .ensures)
 
 same-length : tie.Need-same-length
 same-length c = search needs
@@ -45,7 +45,7 @@ same-length-3 : tie.Need-same-length-3
 same-length-3 c = search needs
 
 returns : tie.Need-returns
-returns c = turn-is (c .before .before .before .before .before .before .before .before .before .before .before .before .before .before .before .before .before .pre) (c .before .before .before .before .before .before .before .before .leave-remainder .ensures) (c .before .before .make-monic .ensures)
+returns c = turn-is (c .before .before .before .before .before .before .before .before .before .before .before .before .before .before .before .before .before .pre .0) (c .before .before .before .before .before .before .before .before .leave-remainder .ensures) (c .before .before .make-monic .ensures)
 
 pub euclid-turn-spec : {M : Type 1} → statement M
 euclid-turn-spec =

@@ -1,6 +1,7 @@
 -- `poly_powers::power_rows` meets its contract. The loop's invariant: i squarings are done, and the rows of the powers
 -- before are written.
 -- Assumes nothing.
+use mathlib.Core.Path.{sym}
 use Prim.Native.Nat.{_-_}
 use native.Mathlib.Omega.{arith}
 use Rattle.poly_powers.proofs.TraceLoops.{Saving, saving-from, saving-room, saving-asks, saving-on, saving-end}
@@ -9,13 +10,13 @@ use Rattle.poly_powers.proofs.power_rows.Statement.{statement}
 use Rattle.poly_powers.proofs.power_rows.Tie as tie
 
 abbrev Inv-loop : tie.InvT-loop
-Inv-loop m logs antilogs row k w₀ s₀ rows₀ n at₀ i₀ w s rows at i = Saving m logs antilogs row k w₀ s₀ rows₀ w s rows at i
+Inv-loop m logs antilogs row k w₀ rows₀ s₀ n at₀ i₀ w rows s at i = Saving m logs antilogs row k w₀ s₀ rows₀ w s rows at i
 
 abbrev μ-loop : tie.MeasureT-loop
-μ-loop m logs antilogs row k w₀ s₀ rows₀ n at₀ i₀ w s rows at i = k - i
+μ-loop m logs antilogs row k w₀ rows₀ s₀ n at₀ i₀ w rows s at i = k - i
 
 loop-holds : tie.Need-loop-holds Inv-loop μ-loop
-loop-holds c = saving-from (c .before .before .before .before .before .before .pre)
+loop-holds c = saving-from _ (c .before .before .before .before .before .pre)
 
 add-e : tie.Need-add-e Inv-loop μ-loop
 add-e c = let h = saving-room (c .before .loop .inv) (omega arith) in omega arith
@@ -35,8 +36,11 @@ part-log-row-end c = let h = saving-room (c .before .before .loop .inv) (omega a
 log-row-requires : tie.Need-log-row-requires Inv-loop μ-loop
 log-row-requires c κs = saving-asks (c .before .before .before .loop .inv) (omega arith)
 
+slice-aggregate-square-mod : tie.Need-slice-aggregate-square-mod Inv-loop μ-loop
+slice-aggregate-square-mod c = sym (c .before .before .before .before .before .before .before .before .loop .inv .powering .long-s)
+
 square-mod-requires : tie.Need-square-mod-requires Inv-loop μ-loop
-square-mod-requires c κs = c .before .before .before .before .before .before .before .before .loop .inv .powering .given
+square-mod-requires c κs = (c .before .before .before .before .before .before .before .before .loop .inv .powering .given, omega (arith, c .before .before .before .before .before .before .before .before .loop .inv .powering .long-s))
 
 add-i : tie.Need-add-i Inv-loop μ-loop
 add-i c = search needs
@@ -45,16 +49,13 @@ loop-less : tie.Need-loop-less Inv-loop μ-loop
 loop-less c = search needs
 
 loop-again : tie.Need-loop-again Inv-loop μ-loop
-loop-again c = saving-on (c .before .before .before .before .before .before .before .before .before .before .before .before .before .loop .inv) (omega arith) (c .before .before .before .before .before .before .before .before .before .log-row .ensures) (c .before .before .before .before .square-mod .ensures) (search needs)
+loop-again c = saving-on (c .before .before .before .before .before .before .before .before .before .before .before .before .loop .inv) (omega arith) (c .before .before .before .before .before .before .before .before .log-row .ensures) (c .before .before .before .square-mod .ensures) (search needs)
 
 same-length : tie.Need-same-length Inv-loop μ-loop
 same-length c = c .before .loop .inv .powering .long-w
 
 same-length-2 : tie.Need-same-length-2 Inv-loop μ-loop
-same-length-2 c = c .before .loop .inv .powering .long-s
-
-same-length-3 : tie.Need-same-length-3 Inv-loop μ-loop
-same-length-3 c = c .before .loop .inv .long-rows
+same-length-2 c = c .before .loop .inv .long-rows
 
 returns : tie.Need-returns Inv-loop μ-loop
 returns c = saving-end (c .before .loop .inv) (omega arith)
@@ -72,11 +73,11 @@ power-rows-spec =
     part-log-row-start
     part-log-row-end
     log-row-requires
+    slice-aggregate-square-mod
     square-mod-requires
     add-i
     loop-less
     loop-again
     same-length
     same-length-2
-    same-length-3
     returns)

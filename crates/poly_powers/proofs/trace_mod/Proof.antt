@@ -1,33 +1,33 @@
 -- `poly_powers::trace_mod` meets its contract. The loop's invariant: i terms of the sum are added.
 -- Assumes nothing.
-use mathlib.Core.Path.{_∙_}
+use mathlib.Core.Path.{sym, _∙_}
 use Prim.Native.Nat.{_-_}
 use native.Mathlib.Omega.{arith}
 use Rattle.poly_powers.proofs.PowerLoops.{Tracing, trace-from, trace-asks, trace-on, trace-end}
 use borrow.Author.Needs.{needs}
 use Rattle.poly_powers.proofs.trace_mod.Statement.{statement}
 use Rattle.poly_powers.proofs.trace_mod.Tie as tie
-use Rattle.poly_powers.proofs.add_to.Reads as add-to-reads
-use Rattle.poly_powers.proofs.square_mod.Reads as square-mod-reads
-use Rattle.slices.proofs.copy.Reads as copy-reads
 
 abbrev Inv-loop : tie.InvT-loop
-Inv-loop m logs antilogs row w₀ s₀ sum₀ i₀ w s sum i = Tracing m logs antilogs row w₀ s₀ sum₀ w s sum i
+Inv-loop m logs antilogs row w₀ t₀ s₀ i₀ w t s i = Tracing m logs antilogs row w₀ s₀ t₀ w s t i
 
 abbrev μ-loop : tie.MeasureT-loop
-μ-loop m logs antilogs row w₀ s₀ sum₀ i₀ w s sum i = m - i
+μ-loop m logs antilogs row w₀ t₀ s₀ i₀ w t s i = m - i
 
 copy-requires : tie.Need-copy-requires Inv-loop μ-loop
-copy-requires c κs = omega (arith, c .before .before .before .before .before .before .before .before .pre .0 .long, c .before .before .before .before .before .before .before .before .pre .1)
+copy-requires c κs = omega (arith, c .before .before .before .before .before .before .before .pre .0 .long, c .before .before .before .before .before .before .before .pre .1)
 
 loop-holds : tie.Need-loop-holds Inv-loop μ-loop
-loop-holds c = trace-from _ (c .before .before .before .before .before .before .before .before .before .before .before .pre .0) (c .before .before .before .before .before .before .before .before .before .before .before .pre .1) (c .before .before .copy .ensures)
+loop-holds c = trace-from _ _ (c .before .before .before .before .before .before .before .before .before .before .pre .0) (c .before .before .before .before .before .before .before .before .before .before .pre .1) (c .before .before .copy .ensures)
+
+slice-aggregate-square-mod : tie.Need-slice-aggregate-square-mod Inv-loop μ-loop
+slice-aggregate-square-mod c = sym (c .before .before .before .loop .inv .long-s)
 
 square-mod-requires : tie.Need-square-mod-requires Inv-loop μ-loop
-square-mod-requires c κs = c .before .before .before .loop .inv .given
+square-mod-requires c κs = (c .before .before .before .loop .inv .given, omega (arith, c .before .before .before .loop .inv .long-s))
 
 add-to-requires : tie.Need-add-to-requires Inv-loop μ-loop
-add-to-requires c κs = trace-asks (c .before .before .before .before .before .before .before .before .before .before .loop .inv) (c .before .before .before .before .before .before .square-mod .ensures)
+add-to-requires c κs = trace-asks (c .before .before .before .before .before .before .before .before .before .loop .inv) (c .before .before .before .before .before .square-mod .ensures)
 
 add-i : tie.Need-add-i Inv-loop μ-loop
 add-i c = search needs
@@ -36,16 +36,13 @@ loop-less : tie.Need-loop-less Inv-loop μ-loop
 loop-less c = search needs
 
 loop-again : tie.Need-loop-again Inv-loop μ-loop
-loop-again c = trace-on (c .before .before .before .before .before .before .before .before .before .before .before .before .before .loop .inv) (omega arith) (c .before .before .before .before .before .before .before .before .before .square-mod .ensures) (search needs) (c .before .before .add-to .ensures)
+loop-again c = trace-on (c .before .before .before .before .before .before .before .before .before .before .before .before .loop .inv) (omega arith) (c .before .before .before .before .before .before .before .before .square-mod .ensures) (search needs) (c .before .before .add-to .ensures)
 
 same-length : tie.Need-same-length Inv-loop μ-loop
 same-length c = c .before .loop .inv .long-w
 
 same-length-2 : tie.Need-same-length-2 Inv-loop μ-loop
-same-length-2 c = c .before .loop .inv .long-s
-
-same-length-3 : tie.Need-same-length-3 Inv-loop μ-loop
-same-length-3 c = c .before .loop .inv .long-sum ∙ c .before .before .before .before .copy .kept .1 .0
+same-length-2 c = c .before .loop .inv .long-sum ∙ c .before .before .before .before .copy .kept .1 .0
 
 returns : tie.Need-returns Inv-loop μ-loop
 returns c = trace-end (c .before .loop .inv) (omega arith)
@@ -58,6 +55,7 @@ trace-mod-spec =
     μ-loop
     copy-requires
     loop-holds
+    slice-aggregate-square-mod
     square-mod-requires
     add-to-requires
     add-i
@@ -65,5 +63,4 @@ trace-mod-spec =
     loop-again
     same-length
     same-length-2
-    same-length-3
     returns)

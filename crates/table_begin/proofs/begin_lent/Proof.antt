@@ -1,25 +1,62 @@
--- `table_begin::begin_lent` meets its contract: the part that splits is taken, and the table laid.
+-- `table_begin::begin_lent` meets its contract: the polynomial is copied and made monic, z^(2^m) + z reduced by it, the
+-- greatest common divisor taken, and the table laid.
 -- Assumes nothing.
 use mathlib.Core.Path.{refl, sym}
-use Rattle.table_begin.proofs.Writing.{begin-splittable, split-long, split-few, written-is}
+use native.Mathlib.Omega.{arith}
+use lib.Seq.{length-take-le}
+use Rattle.table_begin.proofs.SplitPart.{split-fits, split-asks, split-some, long-out, split-room, split-residual, split-powered, split-turnable, split-is}
+use Rattle.table_begin.proofs.Writing.{split-long, split-few, written-is}
 use borrow.Author.Needs.{needs}
 use Rattle.table_begin.proofs.begin_lent.Statement.{statement}
 use Rattle.table_begin.proofs.begin_lent.Tie as tie
 
-slice-aggregate-split-part : tie.Need-slice-aggregate-split-part
-slice-aggregate-split-part c = search needs
+slice-aggregate-copy : tie.Need-slice-aggregate-copy
+slice-aggregate-copy c = search needs
 
-split-part-requires : tie.Need-split-part-requires
-split-part-requires c κs = begin-splittable (c .before .before .before .before .before .before .before .pre) refl
+copy-requires : tie.Need-copy-requires
+copy-requires c κs = search needs
+
+array-borrow-prefix-part : tie.Need-array-borrow-prefix-part
+array-borrow-prefix-part c = search needs
+
+slice-aggregate-make-monic : tie.Need-slice-aggregate-make-monic
+slice-aggregate-make-monic c = sym (length-take-le _ _ (split-fits (c .before .before .before .before .before .before .before .before .before .pre) (c .before .before .copy .ensures)))
+
+make-monic-requires : tie.Need-make-monic-requires
+make-monic-requires c κs = split-asks (c .before .before .before .before .before .before .before .before .before .pre) (c .before .before .copy .ensures)
+
+sub-d : tie.Need-sub-d
+sub-d c = split-some (c .before .before .before .before .before .before .before .before .before .before .before .pre) (c .before .before .before .before .copy .ensures) (c .before .make-monic .ensures)
 
 array-share-prefix-part : tie.Need-array-share-prefix-part
-array-share-prefix-part c = search needs
+array-share-prefix-part c = split-room (c .before .before .before .before .before .before .before .before .before .before .before .pre) (c .before .before .before .before .copy .ensures) (c .before .make-monic .ensures)
+
+slice-aggregate-residue : tie.Need-slice-aggregate-residue
+slice-aggregate-residue c = sym (length-take-le _ _ (split-room (c .before .before .before .before .before .before .before .before .before .before .before .before .pre) (c .before .before .before .before .before .copy .ensures) (c .before .before .make-monic .ensures)))
+
+slice-aggregate-residue-2 : tie.Need-slice-aggregate-residue-2
+slice-aggregate-residue-2 c = search needs
+
+residue-requires : tie.Need-residue-requires
+residue-requires c κs = split-residual (c .before .before .before .before .before .before .before .before .before .before .before .before .before .before .pre) (c .before .before .before .before .before .before .before .copy .ensures) (c .before .before .before .before .make-monic .ensures) refl
+
+slice-aggregate-euclid : tie.Need-slice-aggregate-euclid
+slice-aggregate-euclid c = sym (long-out (c .before .before .before .before .before .before .before .before .before .before .before .before .before .before .before .before .before .before .before .pre) (c .before .before .before .before .before .before .before .before .before .before .before .before .copy .ensures) (c .before .before .before .before .before .before .before .before .before .make-monic .ensures))
+
+slice-aggregate-euclid-2 : tie.Need-slice-aggregate-euclid-2
+slice-aggregate-euclid-2 c = search needs
+
+euclid-requires : tie.Need-euclid-requires
+euclid-requires c κs = split-turnable (c .before .before .before .before .before .before .before .before .before .before .before .before .before .before .before .before .before .before .before .before .pre) (c .before .before .before .before .before .before .before .before .before .before .before .before .before .copy .ensures) (c .before .before .before .before .before .before .before .before .before .before .make-monic .ensures) (c .before .before .before .before .before .residue .ensures .0) (search needs) (omega arith)
+
+array-share-prefix-part-2 : tie.Need-array-share-prefix-part-2
+array-share-prefix-part-2 c = let s = split-is (c .before .before .before .before .before .before .before .before .before .before .before .before .before .before .before .before .before .before .before .before .before .before .before .before .pre) (c .before .before .before .before .before .before .before .before .before .before .before .before .before .before .before .before .before .copy .ensures) (c .before .before .before .before .before .before .before .before .before .before .before .before .before .before .make-monic .ensures) (c .before .before .before .before .before .before .before .before .before .residue .ensures .0) (search needs) (search needs) (c .before .before .before .euclid .ensures) in omega (arith, s .fewer, c .before .before .before .before .before .before .before .before .before .before .before .before .before .before .before .before .before .before .before .before .before .before .before .before .pre .polynomial .few, long-out (c .before .before .before .before .before .before .before .before .before .before .before .before .before .before .before .before .before .before .before .before .before .before .before .before .pre) (c .before .before .before .before .before .before .before .before .before .before .before .before .before .before .before .before .before .copy .ensures) (c .before .before .before .before .before .before .before .before .before .before .before .before .before .before .make-monic .ensures))
 
 slice-aggregate-lay : tie.Need-slice-aggregate-lay
-slice-aggregate-lay c = sym (split-long (c .before .before .before .before .before .split-part .ensures .0))
+slice-aggregate-lay c = sym (split-long (split-is (c .before .before .before .before .before .before .before .before .before .before .before .before .before .before .before .before .before .before .before .before .before .before .before .before .before .pre) (c .before .before .before .before .before .before .before .before .before .before .before .before .before .before .before .before .before .before .copy .ensures) (c .before .before .before .before .before .before .before .before .before .before .before .before .before .before .before .make-monic .ensures) (c .before .before .before .before .before .before .before .before .before .before .residue .ensures .0) (search needs) (search needs) (c .before .before .before .before .euclid .ensures)))
 
 lay-requires : tie.Need-lay-requires
-lay-requires c κs = (c .before .before .before .before .before .before .before .before .before .before .before .before .before .pre .room, split-few (c .before .before .before .before .before .before .before .before .before .before .before .before .before .pre) (c .before .before .before .before .before .split-part .ensures .0))
+lay-requires c κs = (c .before .before .before .before .before .before .before .before .before .before .before .before .before .before .before .before .before .before .before .before .before .before .before .before .before .pre .room, split-few (c .before .before .before .before .before .before .before .before .before .before .before .before .before .before .before .before .before .before .before .before .before .before .before .before .before .pre) (split-is (c .before .before .before .before .before .before .before .before .before .before .before .before .before .before .before .before .before .before .before .before .before .before .before .before .before .pre) (c .before .before .before .before .before .before .before .before .before .before .before .before .before .before .before .before .before .before .copy .ensures) (c .before .before .before .before .before .before .before .before .before .before .before .before .before .before .before .make-monic .ensures) (c .before .before .before .before .before .before .before .before .before .before .residue .ensures .0) (search needs) (search needs) (c .before .before .before .before .euclid .ensures)))
 
 same-length : tie.Need-same-length
 same-length c = search needs
@@ -28,15 +65,26 @@ same-length-2 : tie.Need-same-length-2
 same-length-2 c = search needs
 
 returns : tie.Need-returns
-returns c = (written-is _ _ (c .before .before .before .before .before .before .before .before .split-part .ensures .0) (c .before .before .lay .ensures), c .before .before .before .before .before .before .before .before .split-part .ensures .1)
+returns c = (written-is _ _ (split-is (c .before .before .before .before .before .before .before .before .before .before .before .before .before .before .before .before .before .before .before .before .before .before .before .before .before .before .before .before .pre) (c .before .before .before .before .before .before .before .before .before .before .before .before .before .before .before .before .before .before .before .before .before .copy .ensures) (c .before .before .before .before .before .before .before .before .before .before .before .before .before .before .before .before .before .before .make-monic .ensures) (c .before .before .before .before .before .before .before .before .before .before .before .before .before .residue .ensures .0) (search needs) (search needs) (c .before .before .before .before .before .before .before .euclid .ensures)) (c .before .before .lay .ensures), split-powered (c .before .before .before .before .before .before .before .before .before .before .before .before .before .before .before .before .before .before .before .before .before .before .before .before .before .before .before .before .pre) (c .before .before .before .before .before .before .before .before .before .before .before .before .before .before .before .before .before .before .before .before .before .copy .ensures) (c .before .before .before .before .before .before .before .before .before .before .before .before .before .before .before .before .before .before .make-monic .ensures) _ (c .before .before .before .before .before .before .before .before .before .before .before .before .before .residue .ensures .1))
 
 pub begin-lent-spec : {M : Type 1} → statement M
 begin-lent-spec =
     tie.close
     (tie.spec
-    slice-aggregate-split-part
-    split-part-requires
+    slice-aggregate-copy
+    copy-requires
+    array-borrow-prefix-part
+    slice-aggregate-make-monic
+    make-monic-requires
+    sub-d
     array-share-prefix-part
+    slice-aggregate-residue
+    slice-aggregate-residue-2
+    residue-requires
+    slice-aggregate-euclid
+    slice-aggregate-euclid-2
+    euclid-requires
+    array-share-prefix-part-2
     slice-aggregate-lay
     lay-requires
     same-length

@@ -8,32 +8,17 @@ use borrow.Author.Needs.{needs}
 use Rattle.table_begin.proofs.residue.Statement.{statement}
 use Rattle.table_begin.proofs.residue.Tie as tie
 
-add-d : tie.Need-add-d
-add-d c = search needs
-
 clear-requires : tie.Need-clear-requires
 clear-requires c κs = search needs
-
-array-borrow-prefix-row : tie.Need-array-borrow-prefix-row
-array-borrow-prefix-row c = search needs
-
-slice-aggregate-z-powers : tie.Need-slice-aggregate-z-powers
-slice-aggregate-z-powers c = sym (length-take-le _ _ (omega (arith, c .before .before .before .before .before .before .before .before .before .before .pre .few)))
 
 slice-relend-prefix-z-powers : tie.Need-slice-relend-prefix-z-powers
 slice-relend-prefix-z-powers c = search needs
 
-slice-aggregate-z-powers-2 : tie.Need-slice-aggregate-z-powers-2
-slice-aggregate-z-powers-2 c = sym (length-take-le _ _ (omega (arith, c .before .before .before .before .before .before .before .before .before .before .before .pre .room)))
-
-array-borrow-prefix-s : tie.Need-array-borrow-prefix-s
-array-borrow-prefix-s c = search needs
-
-slice-aggregate-z-powers-3 : tie.Need-slice-aggregate-z-powers-3
-slice-aggregate-z-powers-3 c = sym (length-take-le _ _ (omega (arith, c .before .before .before .before .before .before .before .before .before .before .before .before .pre .few)))
+slice-aggregate-z-powers : tie.Need-slice-aggregate-z-powers
+slice-aggregate-z-powers c = sym (length-take-le _ _ (omega (arith, c .before .before .before .before .before .before .before .before .before .before .pre .room)))
 
 z-powers-requires : tie.Need-z-powers-requires
-z-powers-requires c κs = (residue-asks (c .before .before .before .before .before .before .before .before .before .before .before .before .before .pre) (c .before .before .before .before .before .before .clear .ensures), c .before .before .before .before .before .before .before .before .before .before .before .before .before .pre .room-rows)
+z-powers-requires c κs = (residue-asks (c .before .before .before .before .before .before .before .before .before .before .before .pre) (c .before .before .before .before .clear .ensures), c .before .before .before .before .before .before .before .before .before .before .before .pre .room-rows)
 
 slice-read-b : tie.Need-slice-read-b
 slice-read-b c = search needs
@@ -42,26 +27,21 @@ slice-write-b : tie.Need-slice-write-b
 slice-write-b c = search needs
 
 same-length : tie.Need-same-length
-same-length c = residue-long (c .before .before .before .before .before .before .before .before .before .before .before .before .before .before .before .before .before .before .before .before .before .pre) _ (c .before .before .before .before .before .before .before .before .before .before .before .before .before .before .clear .ensures) (c .before .before .before .before .before .before .before .z-powers .ensures .power)
+same-length c = residue-long (c .before .before .before .before .before .before .before .before .before .before .before .before .before .before .before .before .before .pre) _ (c .before .before .before .before .before .before .before .before .before .before .clear .ensures) (c .before .before .before .before .before .z-powers .ensures .power)
 
 same-length-2 : tie.Need-same-length-2
 same-length-2 c = search needs
 
 returns : tie.Need-returns
-returns c = (residue-is (c .before .before .before .before .before .before .before .before .before .before .before .before .before .before .before .before .before .before .before .before .before .pre) (c .before .before .before .before .before .before .before .before .before .before .before .before .before .before .clear .ensures) (c .before .before .before .before .before .before .before .z-powers .ensures .power), c .before .before .before .before .before .before .before .z-powers .ensures .rows-are)
+returns c = (residue-is (c .before .before .before .before .before .before .before .before .before .before .before .before .before .before .before .before .before .pre) (c .before .before .before .before .before .before .before .before .before .before .clear .ensures) (c .before .before .before .before .before .z-powers .ensures .power), c .before .before .before .before .before .z-powers .ensures .rows-are)
 
 pub residue-spec : {M : Type 1} → statement M
 residue-spec =
     tie.close
     (tie.spec
-    add-d
     clear-requires
-    array-borrow-prefix-row
-    slice-aggregate-z-powers
     slice-relend-prefix-z-powers
-    slice-aggregate-z-powers-2
-    array-borrow-prefix-s
-    slice-aggregate-z-powers-3
+    slice-aggregate-z-powers
     z-powers-requires
     slice-read-b
     slice-write-b

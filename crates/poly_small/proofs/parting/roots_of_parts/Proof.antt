@@ -14,35 +14,26 @@ use Rattle.poly_small.proofs.parting.roots_of_parts.Tie as tie
 sub-e : tie.Need-sub-e
 sub-e c = search needs
 
-array-borrow-prefix-row : tie.Need-array-borrow-prefix-row
-array-borrow-prefix-row c = search needs
+array-borrow-prefix-h : tie.Need-array-borrow-prefix-h
+array-borrow-prefix-h c = search needs
 
 slice-aggregate-cofactor : tie.Need-slice-aggregate-cofactor
 slice-aggregate-cofactor c = sym (length-take-le _ _ (omega (arith, c .before .before .before .before .before .before .before .pre .less)))
 
-slice-aggregate-cofactor-2 : tie.Need-slice-aggregate-cofactor-2
-slice-aggregate-cofactor-2 c = search needs
-
-array-borrow-prefix-h : tie.Need-array-borrow-prefix-h
-array-borrow-prefix-h c = search needs
-
-slice-aggregate-cofactor-3 : tie.Need-slice-aggregate-cofactor-3
-slice-aggregate-cofactor-3 c = sym (length-take-le _ _ (omega (arith, c .before .before .before .before .before .before .before .before .before .pre .less)))
-
 cofactor-requires : tie.Need-cofactor-requires
-cofactor-requires c κs = cofactor-asks (c .before .before .before .before .before .before .before .before .before .pre) (length-take-le _ _ (omega (arith, c .before .before .before .before .before .before .before .before .before .pre .less))) refl (length-take-le _ _ (omega (arith, c .before .before .before .before .before .before .before .before .before .pre .less)))
+cofactor-requires c κs = cofactor-asks (c .before .before .before .before .before .before .before .pre) (length-take-le _ _ (omega (arith, c .before .before .before .before .before .before .before .pre .less)))
 
 low-roots-requires : tie.Need-low-roots-requires
-low-roots-requires c κs = piece-low (c .before .before .before .before .before .before .before .before .before .before .before .before .before .before .pre)
+low-roots-requires c κs = piece-low (c .before .before .before .before .before .before .before .before .before .before .pre)
 
 array-share-prefix-h : tie.Need-array-share-prefix-h
-array-share-prefix-h c = rest-fits (c .before .before .before .before .before .before .before .before .before .before .before .before .before .before .before .before .before .pre) _ (c .before .before .before .before .before .before .before .cofactor .ensures)
+array-share-prefix-h c = rest-fits (c .before .before .before .before .before .before .before .before .before .before .before .before .before .pre) _ (c .before .before .before .before .before .cofactor .ensures)
 
 slice-aggregate-low-roots : tie.Need-slice-aggregate-low-roots
-slice-aggregate-low-roots c = sym (ap length (rest-front (c .before .before .before .before .before .before .before .before .before .before .before .before .before .before .before .before .before .before .pre) _ (c .before .before .before .before .before .before .before .before .cofactor .ensures)) ∙ rest-long (c .before .before .before .before .before .before .before .before .before .before .before .before .before .before .before .before .before .before .pre) refl)
+slice-aggregate-low-roots c = sym (ap length (rest-front (c .before .before .before .before .before .before .before .before .before .before .before .before .before .before .pre) _ (c .before .before .before .before .before .before .cofactor .ensures)) ∙ rest-long (c .before .before .before .before .before .before .before .before .before .before .before .before .before .before .pre) refl)
 
 mul-low-roots : tie.Need-mul-low-roots
-mul-low-roots c = omega (arith, piece-room (c .before .before .before .before .before .before .before .before .before .before .before .before .before .before .before .before .before .before .pre) (c .before .before .before .low-roots .ensures), c .before .before .before .before .before .before .before .before .before .before .before .before .before .before .before .before .before .before .pre .less)
+mul-low-roots c = omega (arith, piece-room (c .before .before .before .before .before .before .before .before .before .before .before .before .before .before .pre) (c .before .before .before .low-roots .ensures), c .before .before .before .before .before .before .before .before .before .before .before .before .before .before .pre .less)
 
 sub-low-roots : tie.Need-sub-low-roots
 sub-low-roots c = front-within (c .before .before .before .low-roots .ensures)
@@ -54,27 +45,24 @@ part-low-roots-end : tie.Need-part-low-roots-end
 part-low-roots-end c = search needs
 
 low-roots-requires-2 : tie.Need-low-roots-requires-2
-low-roots-requires-2 c κs = rest-low (c .before .before .before .before .before .before .before .before .before .before .before .before .before .before .before .before .before .before .before .pre) (rest-front (c .before .before .before .before .before .before .before .before .before .before .before .before .before .before .before .before .before .before .before .pre) _ (c .before .before .before .before .before .before .before .before .before .cofactor .ensures)) (rest-room (c .before .before .before .before .before .before .before .before .before .before .before .before .before .before .before .before .before .before .before .pre) (c .before .before .before .before .low-roots .ensures) (search needs))
+low-roots-requires-2 c κs = rest-low (c .before .before .before .before .before .before .before .before .before .before .before .before .before .before .before .pre) (rest-front (c .before .before .before .before .before .before .before .before .before .before .before .before .before .before .before .pre) _ (c .before .before .before .before .before .before .before .cofactor .ensures)) (rest-room (c .before .before .before .before .before .before .before .before .before .before .before .before .before .before .before .pre) (c .before .before .before .before .low-roots .ensures) (search needs))
 
 add-result : tie.Need-add-result
-add-result c = omega (arith, piece-room (c .before .before .before .before .before .before .before .before .before .before .before .before .before .before .before .before .before .before .before .before .before .before .pre) (c .before .before .before .before .before .before .before .low-roots .ensures), c .before .before .before .before .before .before .before .before .before .before .before .before .before .before .before .before .before .before .before .before .before .before .pre .less, rest-count (c .before .before .before .before .before .before .before .before .before .before .before .before .before .before .before .before .before .before .before .before .before .before .pre) (rest-front (c .before .before .before .before .before .before .before .before .before .before .before .before .before .before .before .before .before .before .before .before .before .before .pre) _ (c .before .before .before .before .before .before .before .before .before .before .before .before .cofactor .ensures)) (c .before .before .low-roots2 .ensures))
+add-result c = omega (arith, piece-room (c .before .before .before .before .before .before .before .before .before .before .before .before .before .before .before .before .before .before .pre) (c .before .before .before .before .before .before .before .low-roots .ensures), c .before .before .before .before .before .before .before .before .before .before .before .before .before .before .before .before .before .before .pre .less, rest-count (c .before .before .before .before .before .before .before .before .before .before .before .before .before .before .before .before .before .before .pre) (rest-front (c .before .before .before .before .before .before .before .before .before .before .before .before .before .before .before .before .before .before .pre) _ (c .before .before .before .before .before .before .before .before .before .before .cofactor .ensures)) (c .before .before .low-roots2 .ensures))
 
 same-length : tie.Need-same-length
 same-length c = search needs
 
 returns : tie.Need-returns
-returns c = pieces-out (c .before .before .before .before .before .before .before .before .before .before .before .before .before .before .before .before .before .before .before .before .before .before .pre) _ (rest-front (c .before .before .before .before .before .before .before .before .before .before .before .before .before .before .before .before .before .before .before .before .before .before .pre) _ (c .before .before .before .before .before .before .before .before .before .before .before .before .cofactor .ensures)) (c .before .before .before .before .before .before .before .low-roots .ensures) (c .before .before .low-roots2 .ensures)
+returns c = pieces-out (c .before .before .before .before .before .before .before .before .before .before .before .before .before .before .before .before .before .before .pre) _ (rest-front (c .before .before .before .before .before .before .before .before .before .before .before .before .before .before .before .before .before .before .pre) _ (c .before .before .before .before .before .before .before .before .before .before .cofactor .ensures)) (c .before .before .before .before .before .before .before .low-roots .ensures) (c .before .before .low-roots2 .ensures)
 
 pub roots-of-parts-spec : {M : Type 1} → statement M
 roots-of-parts-spec =
     tie.close
     (tie.spec
     sub-e
-    array-borrow-prefix-row
-    slice-aggregate-cofactor
-    slice-aggregate-cofactor-2
     array-borrow-prefix-h
-    slice-aggregate-cofactor-3
+    slice-aggregate-cofactor
     cofactor-requires
     low-roots-requires
     array-share-prefix-h

@@ -1,11 +1,11 @@
--- `poly_face::polynomial_tables` meets its contract: a known field is told by its degree, and what holds of its tables
+-- `poly_face::poly_tables` meets its contract: a known field is told by its degree, and what holds of its tables
 -- holds of the rooms.
 -- Assumes nothing.
 use borrow.Author.Needs.{needs}
 use Rattle.field.proofs.Known.{last-row}
 use Rattle.poly_face.proofs.Copies.{room-for, lent-in}
-use Rattle.poly_face.proofs.polynomial_tables.Statement.{statement}
-use Rattle.poly_face.proofs.polynomial_tables.Tie as tie
+use Rattle.poly_face.proofs.poly_tables.Statement.{statement}
+use Rattle.poly_face.proofs.poly_tables.Tie as tie
 
 logs4-requires : tie.Need-logs4-requires
 logs4-requires c κs = search needs
@@ -79,8 +79,8 @@ same-length-6 c = search needs
 returns-3 : tie.Need-returns-3
 returns-3 c = let b = c .before .before .before .before .before in lent-in (last-row _ (b .before .before .before .before .before .before .before .before .before .pre .degree) (b .before .before .before .before .before .before .match .rest .0 .1) (b .before .before .before .before .before .before .match .rest .1)) (b .before .before .before .before .before .logs11 .ensures) (b .before .before .before .antilogs11 .ensures) (b .before .before .before .before .before .before .before .before .before .pre) (c .before .before .before .before .lend3 .ensures)
 
-pub polynomial-tables-spec : {M : Type 1} → statement M
-polynomial-tables-spec =
+pub poly-tables-spec : {M : Type 1} → statement M
+poly-tables-spec =
     tie.close
     (tie.spec
     logs4-requires
