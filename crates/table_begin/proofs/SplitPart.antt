@@ -1,9 +1,10 @@
 -- From a polynomial to the part of it that splits.
 --   field-run-top    z^(2^m) + z may be reduced by p as the power alone, with zeros on top, and z added
---   residue-asks, residue-long, residue-is
+--   residue-asks, residue-is
 --                    `residue`: what the power asks, and what is left
 --   SplitOff         k coefficients are those of the part that splits
---   split-fits, split-asks, split-some, long-out, split-room, split-residual, split-powered, split-turnable, split-is
+--   split-fits, split-asks, split-some, long-out, split-room, split-degree, room-long, split-residual, split-powered,
+--   front-fits, front-long, split-turnable, split-is
 --                    what each routine asks, and what is left
 -- Assumes nothing.
 use mathlib.Core.Path.{_≡_, refl, sym, ap, ap₂, _∙_, subst}
@@ -15,8 +16,8 @@ use native.Mathlib.Nat.{le-trans, mul-le-mul-left}
 use native.Mathlib.Decide.{decLt}
 use native.Mathlib.Omega.{arith}
 use lib.Bits.{bitXor, xor-zero-r}
-use lib.ListN.{length, getD, take, drop, set, replicate, length-append, length-set, length-replicate}
-use lib.Seq.{length-take-le, length-front, take-append-le, take-all}
+use lib.ListN.{length, getD, take, drop, set, replicate, length-append, length-replicate}
+use lib.Seq.{length-take-le, length-front, take-append-le, take-all, take-at}
 use Rattle.algebra.specs.Field.{Ops, Laws, OnNumbers}
 use Rattle.algebra.specs.Polynomial.{Below, coef, add, linear, frobenius, fieldPoly}
 use Rattle.algebra.specs.Routines.{monic, rem, gcd, norm, frobeniusMod, monicRoots}
@@ -34,7 +35,7 @@ use Rattle.algebra.proofs.RootList.{split-part}
 use Rattle.algebra.specs.Polynomial.{Divides}
 use Rattle.slices.specs.Lists.{copied}
 use Rattle.slices.specs.Bounded.{allZero}
-use Rattle.slices.proofs.Lists.{copied-front, length-copied, drop-zeros}
+use Rattle.slices.proofs.Lists.{copied-front, length-copied, take-zeros, drop-zeros}
 use Rattle.slices.proofs.Bounded.{allBelow-exactly}
 use Rattle.field.specs.Field.{fieldAt, G, rootsAt}
 use Rattle.field.proofs.Instance.{squared-size}
@@ -97,34 +98,22 @@ add-z m (x ∷ y ∷ f) h = ap₂ (λ a b. a ∷ bitXor y 1 ∷ b) (sym (xor-zer
 
 module _ {m : ℕ} {ls ts p b rows : List ℕ} (g : Residual m ls ts p b rows) where
   -- what the power asks
-  pub residue-asks : {b₁ : List ℕ} → b₁ ≡ replicate (length b) 0 → Startable m ls ts p (take (length p) b₁)
-  residue-asks {b₁} e =
-      let room = g .room in
-      let long : length b₁ ≡ length b = ap length e ∙ length-replicate (length b) 0 in
-      record { tables = g .tables; small = g .small; few = g .few; room = length-take-le (length p) b₁ (omega arith) }
-
-  -- b stays as long as it is
-  pub residue-long : {b₁ w : List ℕ} (x : ℕ) → b₁ ≡ replicate (length b) 0 → w ≡ frobeniusMod (G m) p m (rem (G m) p (0 ∷ 1 ∷ []))
-      → length (set (w ++ drop (length p) b₁) 1 x) ≡ length b
-  residue-long {b₁} {w} x e d =
-      let room = g .room in
-      let long : length b₁ ≡ length b = ap length e ∙ length-replicate (length b) 0 in
-      let low : length w ≡ length p = ap length d ∙ length-frobeniusMod (G m) p m (rem (G m) p (0 ∷ 1 ∷ [])) (length-rem (G m) p (0 ∷ 1 ∷ [])) in
-      length-set (w ++ drop (length p) b₁) 1 x ∙ length-front b₁ w (length p) (low ∙ sym (length-take-le (length p) b₁ (omega arith))) ∙ long
+  pub residue-asks : Startable m ls ts p (take (length p) b)
+  residue-asks = record { tables = g .tables; small = g .small; few = g .few; room = length-take-le (length p) b (g .room) }
 
   -- what is left
-  pub residue-is : {b₁ w : List ℕ} → b₁ ≡ replicate (length b) 0 → w ≡ frobeniusMod (G m) p m (rem (G m) p (0 ∷ 1 ∷ []))
-      → Residue m p (set (w ++ drop (length p) b₁) 1 (bitXor (getD (w ++ drop (length p) b₁) 1 0) 1))
-  residue-is {b₁} {w} e d =
+  pub residue-is : {w : List ℕ} → w ≡ frobeniusMod (G m) p m (rem (G m) p (0 ∷ 1 ∷ []))
+      → Residue m p (set (w ++ drop (length p) b) 1 (bitXor (getD (w ++ drop (length p) b) 1 0) 1))
+  residue-is {w} d =
       let N : OnNumbers (G m) (2 ^ m) = numbers-of (g .tables) in
       let z : List ℕ = 0 ∷ 1 ∷ [] in
       let n : ℕ = length b - length p in
       let zs : Below (2 ^ m) z = (N .zero-below, (N .one-below, tt)) in
-      let rest : drop (length p) b₁ ≡ replicate n 0 = ap (drop (length p)) e ∙ drop-zeros (length p) (length b) in
+      let rest : drop (length p) b ≡ replicate n 0 = ap (drop (length p)) (g .zeros) ∙ drop-zeros (length p) (length b) in
       let long : length w ≡ length p = ap length d ∙ length-frobeniusMod (G m) p m (rem (G m) p z) (length-rem (G m) p z) in
       let f : List ℕ = w ++ replicate n 0 in
       let two : 2 ≤ length f = omega (arith, length-append w (replicate n 0), length-replicate {A = ℕ} n 0, g .two, g .room) in
-      let is : set (w ++ drop (length p) b₁) 1 (bitXor (getD (w ++ drop (length p) b₁) 1 0) 1) ≡ add (G m) f z =
+      let is : set (w ++ drop (length p) b) 1 (bitXor (getD (w ++ drop (length p) b) 1 0) 1) ≡ add (G m) f z =
       ap (λ u. set (w ++ u) 1 (bitXor (getD (w ++ u) 1 0) 1)) rest ∙ add-z m f two in
       let below : Below (2 ^ m) w = subst (Below (2 ^ m)) (sym d) (frobeniusMod-below N p m (rem (G m) p z) (g .small) (rem-below N p z (g .small) zs)) in
       record {
@@ -215,50 +204,72 @@ module _ {m : ℕ} {cs ls ts table rows : List ℕ} (g : Beginnable m cs ls ts t
     pub split-room : j - 1 ≤ length (y ++ drop (length cs) out)
     split-room = omega (arith, long-out, within, room)
 
-    -- what the power asks
-    pub split-residual : {b : List ℕ} → length b ≡ suc limit → Residual m ls ts (take (j - 1) (y ++ drop (length cs) out)) b rows
-    unfolding p
-    split-residual h = record {
-      tables = g .tables;
-      small = small-p;
-      few = omega (arith, long-p, within, split-some, g .polynomial .few);
-      room = omega (arith, long-p, within, split-some, g .polynomial .few);
-      two = omega arith;
-      room-rows = le-trans (mul-le-mul-left m (let k : length p ≤ limit = omega (arith, long-p, within, split-some, g .polynomial .few) in k)) (g .room-rows);
-    }
+    -- its degree is at most the limit
+    pub split-degree : j - 1 ≤ limit
+    split-degree = omega (arith, within, split-some, g .polynomial .few)
+
+    -- what the power asks, in room for n coefficients
+    module _ {n : ℕ} (two : 2 ≤ n) (least : j - 1 ≤ n) (most : n ≤ limit) where
+      -- it is there
+      pub room-long : length (take n (replicate {A = ℕ} limit 0)) ≡ n
+      room-long = length-take-le n (replicate limit 0) most
+
+      pub split-residual : Residual m ls ts (take (j - 1) (y ++ drop (length cs) out)) (take n (replicate limit 0)) rows
+      unfolding p
+      split-residual =
+          let few : length p ≤ limit = omega (arith, long-p, split-degree) in
+          record {
+            tables = g .tables;
+            small = small-p;
+            few = few;
+            room = omega (arith, long-p, room-long);
+            two = omega (arith, room-long);
+            zeros = take-zeros n limit most ∙ ap (λ k. replicate k 0) (sym room-long);
+            room-rows = le-trans (mul-le-mul-left m few) (g .room-rows);
+          }
+
+      module _ {b : List ℕ} (r : Residue m (take (j - 1) (y ++ drop (length cs) out)) b) (z : List ℕ) (h : length b ≡ length (take n (replicate {A = ℕ} limit 0))) where
+        -- what is left stands in front
+        front : take n (b ++ z) ≡ b
+        front = take-at b z n (h ∙ room-long)
+
+        pub front-fits : n ≤ length (b ++ z)
+        front-fits = omega (arith, h, room-long, length-append b z)
+
+        pub front-long : length (take n (b ++ z)) ≡ n
+        front-long = ap length front ∙ h ∙ room-long
+
+        -- what the greatest common divisor asks
+        pub split-turnable : Turnable m ls ts (y ++ drop (length cs) out) (j - 1) (take n (b ++ z)) n
+        unfolding p
+        split-turnable = record {
+          tables = g .tables;
+          few = split-degree;
+          room-a = omega (arith, long-out, within, split-some, room);
+          room-b = omega (arith, front-long);
+          within = omega (arith, front-long);
+          small-a = small-p;
+          small-b = take-below (2 ^ m) n (take n (b ++ z)) (subst (Below (2 ^ m)) (sym front) (r .small));
+        }
+
+        -- and leaves
+        pub split-is : {k : ℕ} {a : List ℕ} → length a ≡ length (y ++ drop (length cs) out) → GcdIs m (take (j - 1) (y ++ drop (length cs) out)) (take n (take n (b ++ z))) k a → SplitOff m cs k a
+        unfolding p
+        split-is {k} {a} l i =
+            let N : OnNumbers (G m) (2 ^ m) = numbers-of (g .tables) in
+            let roots : List ℕ = rootsAt m cs in
+            let fewer : k < length cs = omega (arith, i .count, long-p, within, split-some) in
+            let low : take k a ≡ monicRoots (G m) roots =
+            i .low ∙ ap (gcd (G m) p) (take-all n (take n (b ++ z)) (omega (arith, front-long)) ∙ front) ∙ r .same
+            ∙ split-part N m refl (N .one-below) (squared-size (fieldAt m) (field-of (g .tables))) cs (g .polynomial .small) lead in
+            record {
+              count = sym (length-take-le k a (omega (arith, room, long-out))) ∙ ap length low ∙ length-monicRoots (G m) roots;
+              fewer = fewer;
+              low = low;
+            }
 
     -- the powers are those modulo the polynomial made monic
     pub split-powered : (rows₁ : List ℕ) → take (m * length (take (j - 1) (y ++ drop (length cs) out))) rows₁
         ≡ powerRows m (take (j - 1) (y ++ drop (length cs) out)) m (rem (G m) (take (j - 1) (y ++ drop (length cs) out)) (0 ∷ 1 ∷ [])) → Powered m cs (j - 1) (take (m * (j - 1)) rows₁)
     unfolding p
     split-powered rows₁ e = record { low = p; made = lead; long = long-p; rows-are = ap (λ k. take (m * k) rows₁) (sym long-p) ∙ e }
-
-    module _ {b : List ℕ} (r : Residue m (take (j - 1) (y ++ drop (length cs) out)) b) (h : length b ≡ suc limit) where
-      -- what the greatest common divisor asks
-      pub split-turnable : {n : ℕ} → n ≤ suc limit → Turnable m ls ts (y ++ drop (length cs) out) (j - 1) b n
-      unfolding p
-      split-turnable {n} l = record {
-        tables = g .tables;
-        few = omega (arith, within, split-some, g .polynomial .few);
-        room-a = omega (arith, long-out, within, split-some, room);
-        room-b = omega (arith, within, split-some, g .polynomial .few);
-        within = omega arith;
-        small-a = small-p;
-        small-b = take-below (2 ^ m) n b (r .small);
-      }
-
-      -- what is left
-      pub split-is : {k : ℕ} {a : List ℕ} → length a ≡ length (y ++ drop (length cs) out) → GcdIs m (take (j - 1) (y ++ drop (length cs) out)) (take (suc limit) b) k a → SplitOff m cs k a
-      unfolding p
-      split-is {k} {a} l i =
-          let N : OnNumbers (G m) (2 ^ m) = numbers-of (g .tables) in
-          let roots : List ℕ = rootsAt m cs in
-          let fewer : k < length cs = omega (arith, i .count, long-p, within, split-some) in
-          let low : take k a ≡ monicRoots (G m) roots =
-          i .low ∙ ap (gcd (G m) p) (take-all (suc limit) b (omega arith)) ∙ r .same
-          ∙ split-part N m refl (N .one-below) (squared-size (fieldAt m) (field-of (g .tables))) cs (g .polynomial .small) lead in
-          record {
-            count = sym (length-take-le k a (omega (arith, room, long-out))) ∙ ap length low ∙ length-monicRoots (G m) roots;
-            fewer = fewer;
-            low = low;
-          }

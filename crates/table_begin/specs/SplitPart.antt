@@ -8,7 +8,7 @@ use mathlib.Core.Path.{_≡_}
 use mathlib.Core.Option.{some}
 use mathlib.Core.List.{List, [], _∷_}
 use Prim.Native.Nat.{ℕ, _*_, _^_, _≤_}
-use lib.ListN.{length, take}
+use lib.ListN.{length, replicate}
 use Rattle.algebra.specs.Polynomial.{Below, fieldPoly}
 use Rattle.algebra.specs.Routines.{rem, norm, gcd}
 use Rattle.field.specs.Field.{G}
@@ -17,13 +17,14 @@ use Rattle.poly_powers.specs.Powers.{powerRows}
 use Rattle.table_rules.specs.Limit.{limit, slots}
 use Rattle.table_rules.specs.Polynomials.{PolynomialIn}
 
--- with room for a remainder, for z, and for the rows of m powers
+-- with room for a remainder and for z, where zeros stand, and for the rows of m powers
 pub record Residual (m : ℕ) (ls ts p b rows : List ℕ) : Type 0 where
   pub tables : Lent m ls ts
   pub small : Below (2 ^ m) p
   pub few : length p ≤ limit
   pub room : length p ≤ length b
   pub two : 2 ≤ length b
+  pub zeros : b ≡ replicate (length b) 0
   pub room-rows : m * length p ≤ length rows
 
 -- as far as a common divisor with p tells

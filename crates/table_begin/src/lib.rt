@@ -3,14 +3,14 @@
 // by m squarings modulo f, so that no element is tried. The powers on the way are kept for the trace sums.
 ghost use mathlib.Core.Path.{_≡_};
 ghost use mathlib.Core.List.{[], _∷_};
-ghost use Prim.Native.Nat.{_*_};
+ghost use Prim.Native.Nat.{_*_, _≤_};
 ghost use lib.ListN.{length, take};
 ghost use Rattle.algebra.specs.Routines.{rem};
 ghost use Rattle.field.specs.Field.{G};
 ghost use Rattle.poly_powers.specs.Powers.{powerRows};
 ghost use Rattle.table_rules.specs.Layout.{byFactor};
 ghost use Rattle.table_rules.specs.Splitting.{slotsBegun};
-ghost use Rattle.table_rules.specs.Limit.{slots};
+ghost use Rattle.table_rules.specs.Limit.{limit, slots};
 ghost use Rattle.table_rules.specs.Polynomials.{PolynomialIn};
 ghost use Rattle.table_begin.specs.Calls.{Begins};
 ghost use Rattle.table_begin.specs.SplitPart.{Residual, Residue, Powered, Beginnable};
@@ -28,6 +28,7 @@ use poly_powers::z_powers;
 use refusals::Admission;
 use refusals::Refusal;
 use table_rules::COEFFICIENTS;
+use table_rules::LIMIT;
 use table_rules::POWER_ROWS;
 use table_slots::SLOTS;
 use table_slots::lay;
@@ -38,8 +39,16 @@ pub enum Begun {
     NotBegun(Refusal),
 }
 
-// Writes z^(2^m) + z, reduced by the monic polynomial with the low coefficients p, to b: m squarings, then z is added.
-// The rows of the powers are written to rows.
+// How many coefficients z^(2^m) + z has, reduced by a polynomial of degree d: the z that is added is not.
+fn residue_length(d: usize) -> usize
+    requires { ⌜ d ≤ limit ⌝ }
+    ensures { λ e. ⌜ (2 ≤ e) × (d ≤ e) × (e ≤ limit) ⌝ }
+{
+    if d < 2 { 2 } else { d }
+}
+
+// Writes z^(2^m) + z, reduced by the monic polynomial with the low coefficients p, to b, where zeros stand: m
+// squarings, then z is added. The rows of the powers are written to rows.
 fn residue(m: u16, logs: &[u16], antilogs: &[u16], p: &[u16], b: &mut [u16], rows: &mut [u16])
     requires { ⌜ Residual m (now logs) (now antilogs) (now p) (now b) (now rows) ⌝ }
     ensures { λ _. ⌜ Residue m (now (p .entry)) (now (b .exit))
@@ -47,7 +56,6 @@ fn residue(m: u16, logs: &[u16], antilogs: &[u16], p: &[u16], b: &mut [u16], row
         ≡ powerRows m (now (p .entry)) m (rem (G m) (now (p .entry)) (0 ∷ 1 ∷ []))) ⌝ }
 {
     let n = p.len();
-    slices::clear(b);
     z_powers(m, logs, antilogs, p, m, &mut b[..n], rows);
     b[1] = b[1] ^ 1;
 }
@@ -69,12 +77,13 @@ pub fn begin_lent(
         × Powered m (now (coeffs .entry)) d (take (m * d) (now (rows .exit))) ⌝ }
 {
     let mut part = [0u16; COEFFICIENTS];
-    let mut b = [0u16; COEFFICIENTS];
+    let mut b = [0u16; LIMIT];
     let n = coeffs.len();
     slices::copy(coeffs, &mut part);
     let d = make_monic(m, logs, antilogs, &mut part[..n]) - 1;
-    residue(m, logs, antilogs, &part[..d], &mut b, rows);
-    let k = euclid(m, logs, antilogs, &mut part, d, &mut b, COEFFICIENTS);
+    let e = residue_length(d);
+    residue(m, logs, antilogs, &part[..d], &mut b[..e], rows);
+    let k = euclid(m, logs, antilogs, &mut part, d, &mut b[..e], e);
     lay(table, m, c, &part[..k]);
     d
 }
