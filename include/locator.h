@@ -1,8 +1,9 @@
-/* locator.h: the roots of locator polynomials over GF(2^m), m = 4, 8 or 11, a corrector of blocks over m = 11, and salvage of job files. Link with
-   liblocator.a (tools/library builds it, for x86-64 Linux).
+/* locator.h: the roots of locator polynomials over GF(2^m), m = 4, 8 or 11, a corrector of blocks over m = 11, salvage of job files, and a writer of their
+   records. Link with liblocator.a (tools/library builds it, for x86-64 Linux).
 
    Every call is proved to do what stands over it, for every input (crates/locator/src/lib.rt has the contracts). docs/RULES.md has the rules in
-   full: fields and element calls are its sections 1 and 2, polynomials 3 (affine ones 3.6), work tables 4, the block corrector 7, refusals and their order 8.
+   full: fields and element calls are its sections 1 and 2, polynomials 3 (affine ones 3.6), work tables 4, the block corrector 7, refusals and their order 8,
+   salvage 11, writing records 12.
 
    FIELDS. m is 4, 8 or 11, with the polynomials x^4+x+1, x^8+x^4+x^3+x^2+1 and x^11+x^2+1. An element is a number below 2^m whose bits are
    coefficients, bit 0 the constant; a is the element 2.
@@ -15,9 +16,10 @@
        1  there is no field of degree m          6  the cutoff is above 3
        2  there are no coefficients              7  a list has under 32 slots (of an affine polynomial's
                                                     roots under 2^m), the table has not 100, or the room
-                                                    for a salvaged file is shorter than the file
-       3  there are more than 33 coefficients    8  the table is not sound
-       4  an element or a coefficient            9  the table cannot be stepped: the first factor above the cutoff
+                                                    for a salvaged file or a record is shorter than that
+       3  there are more than 33 coefficients,   8  the table is not sound
+          or more than 32 roots of a record
+       4  an element, a coefficient or a root    9  the table cannot be stepped: the first factor above the cutoff
           is 2^m or more                            has level m, or the steps are at their limit
        5  every coefficient is 0                10  the table is not done
                                                 13  an inverse or a position of 0
@@ -26,11 +28,13 @@
                                                 22  the word has not 256 bytes, or its last bit is set
                                                 23  the strength is not 1 to 8
                                                 24  no codeword is within the strength
+                                                25  the roots of a record are not strictly ascending
    Where two apply, the one that stands first in the call's order is given. A refusal writes nothing, and its other fields are 0.
 
    MEMORY. All memory is the caller's, before and after: no call keeps a pointer. A list is a pointer, aligned for uint16_t, and the number of its
-   elements; a word or a file is a pointer, which need not be aligned, and the number of its bytes. A count of 0 is an empty list, and its pointer is not looked at: it may be null. With any other count the pointer must point to so many
-   elements. Memory that a call may write must not overlap other memory lent to the same call. A list that is const is only read.
+   elements; a word, a file or the room for a record is a pointer, which need not be aligned, and the number of its bytes. A count of 0 is an empty list, and its
+   pointer is not looked at: it may be null. With any other count the pointer must point to so many elements. Memory that a call may write must not overlap
+   other memory lent to the same call. A list that is const is only read.
 
    WHERE IT MAY RUN. No call allocates, waits, calls out or keeps state; each ends. So any of them may run in an interrupt or in several threads at
    once, each over memory of its own. The archive asks for nothing but memcpy and memset. LOCATOR_STACK bytes of stack are enough for any call. */
@@ -45,12 +49,13 @@ extern "C" {
 #endif
 
 /* The slots of a work table; the fewest slots of a list of roots or multiplicities; the most coefficients; slots that are enough for the roots
-   of an affine polynomial in any field; the bytes of a block corrector's word. */
+   of an affine polynomial in any field; the bytes of a block corrector's word; the most bytes of a record that is written. */
 #define LOCATOR_SLOTS 100
 #define LOCATOR_ROOTS 32
 #define LOCATOR_COEFFICIENTS 33
 #define LOCATOR_ELEMENTS 2048
 #define LOCATOR_WORD 256
+#define LOCATOR_RECORD 71
 
 /* The conventions of a position, by how a locator is built from the bad bits, X = 2^place for each:
    Goppa codes: the product of (z + X), whose roots are the X themselves;
@@ -164,6 +169,18 @@ typedef struct { uint16_t outcome; size_t length; } locator_salvaged;
    kept changes nothing. The program `salvage` prints what was dropped as well.
    Outcomes 0, 7; 7 where room is less than n, whatever the file holds. */
 locator_salvaged locator_salvage(const uint8_t *file, size_t n, uint8_t *kept, size_t room);
+
+/* What writing gives: how many bytes the record has, 0 where refused. */
+typedef struct { uint16_t outcome, length; } locator_written;
+
+/* Writes the job record of n roots, 0 to 32, strictly ascending: the mark 4C 52, m, the cutoff as it is given (0 stays 0), n + 1, and the n + 1 coefficients,
+   two bytes each, low byte first, the constant first, of the monic polynomial with exactly these roots, each simple: the product of (z + r), which is 1 where
+   there are none. It fills the front of record, length bytes in all, 7 + 2 n, so that LOCATOR_RECORD bytes are room for any; what is behind it is not
+   written, and the list of roots is only read. The same field, cutoff and roots give the same bytes. The reader accepts the record, whatever stands behind
+   it, and the whole call on its coefficients lists the same roots, each with multiplicity 1. The program `jobs` writes the records of lines of text.
+   Outcomes 0, 1, 3, 4, 25, 6, 7, in the order 1, 3, 4, 25, 6, 7: 3 where n is above 32; 4 where a root is 2^m or more; 25 where a root is not above the one
+   before it; 6 where the cutoff is above 3; 7 where room is less than 7 + 2 n. examples/c/record.c has an example. */
+locator_written locator_write(uint16_t m, uint16_t cutoff, const uint16_t *roots, size_t n, uint8_t *record, size_t room);
 
 #ifdef __cplusplus
 }

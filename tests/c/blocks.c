@@ -1,36 +1,9 @@
 /* blocks: drives the block corrector of the C face on the cases of tests/second/blocks.py from standard input, and prints
-   their lines. A word is lent at every alignment, between guards; a refusal must leave it as it was. */
+   their lines. A word is lent at every alignment, between margins; a refusal must leave it as it was. */
 #define DRIVER "blocks"
 #include "lent.h"
+#include "lent_bytes.h"
 #include "locator.h"
-
-enum { MARGIN = 64, MARKED = 0xA5 };
-
-/* n bytes of a word between margins, in memory of their own; behind them what they were */
-typedef struct { uint8_t *all, *at, *was; size_t n; } block;
-
-/* n bytes from the input, `shift` bytes off the start of the memory */
-static block lend_block(size_t n, size_t shift)
-{
-    uint8_t *all = malloc(shift + 2 * n + 2 * MARGIN);
-    expect(all != NULL, "no memory");
-    memset(all, MARKED, shift + 2 * n + 2 * MARGIN);
-    block b = {all, all + shift + MARGIN, all + shift + n + 2 * MARGIN, n};
-    for (size_t i = 0; i < n; i++) {
-        int byte = getchar();
-        expect(byte != EOF, "the cases end early");
-        b.at[i] = b.was[i] = (uint8_t)byte;
-    }
-    return b;
-}
-
-/* the margins are as they were; the memory is given back */
-static void end_block(block b)
-{
-    for (size_t i = 0; i < MARGIN; i++)
-        expect(b.at[b.n + i] == MARKED && *(b.at - 1 - i) == MARKED, "a write outside lent memory");
-    free(b.all);
-}
 
 /* how many bits of the word are not what they were */
 static unsigned changed(block b)
@@ -52,10 +25,7 @@ static void run(uint16_t strength, size_t bytes, size_t shift)
     printf("%u %zu | %u", strength, bytes, c.outcome);
     if (c.outcome == 0)
         printf(" %u", c.flips);
-    printf(" |%s", bytes == 0 ? "" : " ");
-    for (size_t i = 0; i < bytes; i++)
-        printf("%02x", b.at[i]);
-    putchar('\n');
+    print_block(b);
     end_block(b);
 }
 

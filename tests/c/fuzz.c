@@ -1,16 +1,16 @@
-/* A libFuzzer target over the C face: arbitrary field degrees, elements, coefficients, affine polynomials, cutoffs, tables, words and lengths. Each list that is lent stands against
+/* A libFuzzer target over the C face: arbitrary field degrees, elements, coefficients, affine polynomials, cutoffs, tables, words, lists of roots and lengths. Each list that is lent stands against
    a page that cannot be touched, before it or behind it, with guards on its other side. What the calls give is compared with short functions of its own:
    the refusals and their order, soundness, products, values; a refusal writes nothing; begin, steps and finish give the roots of the whole call and of the search;
-   an affine polynomial has the roots that its values say; planted errors come back, and what the corrector accepts is a codeword; salvage keeps what a plain walk keeps.
-   tests/fuzz builds and runs it. */
+   an affine polynomial has the roots that its values say; planted errors come back, and what the corrector accepts is a codeword; salvage keeps what a plain walk keeps;
+   a record that is written is that of its roots, and is read back. tests/fuzz builds and runs it. */
 #define _GNU_SOURCE
 #include "locator.h"
 
 enum { PAGE = 65536, MOST = 512, LONGEST = 4096, GUARD = 64, GUARDED = 0xA5A5 };
-enum { PRODUCT, INVERSE, POSITION, QUADRATIC, SOLVE, SEARCH, BEGIN, STEP, FINISH, CORRECT, AFFINE, SALVAGE, CALLS };
+enum { PRODUCT, INVERSE, POSITION, QUADRATIC, SOLVE, SEARCH, BEGIN, STEP, FINISH, CORRECT, AFFINE, SALVAGE, WRITE, CALLS };
 
 static const char *const name[CALLS] = {"product", "inverse", "position", "quadratic", "solve", "search", "begin", "step", "finish", "correct", "affine",
-                                        "salvage"};
+                                        "salvage", "write"};
 #include "fuzz.h"
 
 /* ---- lent memory */
@@ -338,6 +338,10 @@ static void tables(void)
 
 #include "fuzz_salvage.h"
 
+/* ---- writing records */
+
+#include "fuzz_writer.h"
+
 int LLVMFuzzerInitialize(int *count, char ***words)
 {
     (void)count, (void)words;
@@ -356,6 +360,8 @@ int LLVMFuzzerTestOneInput(const uint8_t *data, size_t size)
         affine();
     else if (kind % 8 == 3)
         salvage();
+    else if (kind % 16 == 5)
+        write_one();
     else if (kind % 2 == 0)
         polynomials();
     else

@@ -1,20 +1,20 @@
 /* Runs every call of the C face on a painted stack, in every field, on a polynomial of the highest degree that splits, and prints the most that was used.
    The block corrector has eight wrong bits at strength 8, and then nine, which it turns away. The affine polynomials have one root, half of the elements
-   as roots, every element, and none. Fails where it is more than LOCATOR_STACK. */
+   as roots, every element, and none. The record that is written has as many roots as a record can have. Fails where it is more than LOCATOR_STACK. */
 #define _GNU_SOURCE
 #include "locator.h"
 #include <stdio.h>
 #include <string.h>
 #include <ucontext.h>
 
-enum { CALLS = 12, WIDEST = 11, PAINT = 0xA5 };
+enum { CALLS = 13, WIDEST = 11, PAINT = 0xA5 };
 
 static const char *const name[CALLS] = {"product", "inverse", "position", "quadratic", "solve", "search", "begin", "step", "finish", "correct", "affine",
-                                        "salvage"};
+                                        "salvage", "write"};
 static unsigned char stack[1 << 20];
 static ucontext_t home, there;
 static uint16_t field, f[LOCATOR_COEFFICIENTS], roots[LOCATOR_ROOTS], mults[LOCATOR_ROOTS], table[LOCATOR_SLOTS], elements[LOCATOR_ELEMENTS];
-static uint8_t word[LOCATOR_WORD], file[256], kept[256];
+static uint8_t word[LOCATOR_WORD], file[256], kept[256], record[LOCATOR_RECORD];
 static int call;
 static unsigned failed;
 
@@ -50,6 +50,17 @@ static void salvage(void)
     failed |= s.outcome != 0 || s.length != sizeof constant;
 }
 
+/* The last 16 or 32 elements of the field; then a room one byte short. */
+static void write_record(void)
+{
+    uint16_t size = (uint16_t)(1u << field), n = size < LOCATOR_ROOTS ? size : LOCATOR_ROOTS, last[LOCATOR_ROOTS];
+    for (uint16_t k = 0; k < n; k++)
+        last[k] = (uint16_t)(size - n + k);
+    locator_written w = locator_write(field, 1, last, n, record, LOCATOR_RECORD);
+    failed |= w.outcome != 0 || w.length != 7 + 2 * n;
+    failed |= locator_write(field, 1, last, n, record, 6 + 2u * n).outcome != 7;
+}
+
 static void go(void)
 {
     switch (call) {
@@ -65,6 +76,7 @@ static void go(void)
     case 9: correct(); break;
     case 10: affine(); break;
     case 11: salvage(); break;
+    case 12: write_record(); break;
     }
 }
 

@@ -36,6 +36,8 @@ use Rattle.corrector.specs.Correcting.Corrects.{no-block, no-strength, none-nea
 use Rattle.corrector.proofs.Coincide.{correct-coincide}
 use Rattle.job_salvage.specs.Calls.{salvageTests}
 use Rattle.job_salvage.proofs.Coincide.{salvage-coincide, next-coincide}
+use Rattle.job_writer.specs.Calls.{writeTests}
+use Rattle.job_writer.proofs.Coincide.{write-coincide}
 use Rattle.job_records.specs.Reading.{Outcome, startTests, recordTests, HandsBack}
 use Rattle.job_records.proofs.Coincide.{read-coincide}
 use Rattle.job_records.proofs.Exactly.{ends-exactly, stops-exactly, refuses-exactly, accepts-exactly}
@@ -137,6 +139,9 @@ eight = (omega arith, (omega arith, (omega arith, (omega arith, (omega arith, (o
 seven : Numbered ((1, true) ∷ (2, true) ∷ (3, true) ∷ (4, true) ∷ (5, true) ∷ (6, true) ∷ (7, true) ∷ [])
 seven = (omega arith, (omega arith, (omega arith, (omega arith, (omega arith, (omega arith, (omega arith, tt)))))))
 
+six : Numbered ((1, true) ∷ (3, true) ∷ (4, true) ∷ (25, true) ∷ (6, true) ∷ (7, true) ∷ [])
+six = (omega arith, (omega arith, (omega arith, (omega arith, (omega arith, (omega arith, tt))))))
+
 pub demand-1 : Demand1
 demand-1 = record {
   product = λ m a b r h. decided (pairTests m a b) _ (omega arith, (omega arith, tt)) h;
@@ -151,6 +156,7 @@ demand-1 = record {
   affine = λ m cs constant list r after h. answered (affineTests m cs constant (length list)) _ _ list (omega arith, (omega arith, (omega arith, (omega arith, tt)))) h;
   correct = λ t word o after h. settles h;
   salvage = λ file room r after h. answered (salvageTests file room) _ _ room (omega arith, tt) h;
+  write = λ m c roots room r after h. answered (writeTests m c roots (length room)) _ _ room six h;
   ends = λ file at r h. of-told h (ends-exactly file at);
   stops = λ file at k r h. of-told h (stops-exactly file at k);
   refuses = λ file at k r h. of-told h (refuses-exactly file at k);
@@ -167,6 +173,7 @@ demand-1 = record {
   affine-one = affine-coincide;
   correct-one = λ t word r s x y h k. correct-coincide r s x y h k;
   salvage-one = salvage-coincide;
+  write-one = write-coincide;
   next-one = λ file at start end start′ end′ h k. next-coincide h k;
   read-one = read-coincide;
   turn-one = λ read bytes k old r s x y w h g. turned-once (h (w .file) (w .at) (w .read) (w .lent)) (g (w .file) (w .at) (w .read) (w .lent));

@@ -1,4 +1,5 @@
--- The three demands, that the two ways agree, and what is promised of the block corrector and of salvage.
+-- The three demands, that the two ways agree, and what is promised of the block corrector, of salvage
+-- and of the writer of records.
 pub mod Agreement
 pub mod Demand1
 pub mod Demand2
@@ -7,3 +8,4 @@ pub mod Demand3
 pub mod Cutoffs
 pub mod Corrector
 pub mod Salvage
+pub mod Writer

@@ -52,6 +52,9 @@ use Rattle.corrector.specs.declared.Corrected.{Corrected}
 use Rattle.job_salvage.specs.Pieces.{keptRecords, keptFile}
 use Rattle.job_salvage.specs.Calls.{NextIs, salvageTests, toldSalvaged, Salvages}
 use Rattle.job_salvage.specs.declared.Salvaged.{Salvaged}
+use Rattle.job_writer.specs.Records.{recordOf, lengthFor}
+use Rattle.job_writer.specs.Calls.{writeTests, toldWritten, Writes}
+use Rattle.job_writer.specs.declared.Written.{Written}
 
 pub record Decides (tests : List (ℕ × Bool)) (values : List ℕ) (outcome : ℕ × List ℕ) : Type 0 where
   pub refused : (k : ℕ) → (outcome ≡ (suc k, [])) ↔ Given (suc k) tests
@@ -113,6 +116,10 @@ pub record Demand1 : Type 0 where
   pub salvage : (file room : List ℕ) (r : Salvaged) (after : List ℕ) → Salvages file room r after
       → Decides (salvageTests file room) (length (keptFile file) ∷ length (keptRecords file) ∷ []) (toldSalvaged r)
       × Spares (salvageTests file room) (copied (keptFile file) room) room after
+  -- write: 1, 3, 4, 25, 6, 7
+  pub write : (m c : ℕ) (roots room : List ℕ) (r : Written) (after : List ℕ) → Writes m c roots room r after
+      → Decides (writeTests m c roots (length room)) (lengthFor (length roots) ∷ []) (toldWritten r)
+      × Spares (writeTests m c roots (length room)) (copied (recordOf m c roots) room) room after
   -- the reader at a place of a file: it ends where no byte remains, stops under 12 or 11, and refuses a complete
   -- record under 1 to 6 with the place behind it
   pub ends : (file : List ℕ) (at : ℕ) (r : Read) → ReadsAt file at r
@@ -148,6 +155,8 @@ pub record Demand1 : Type 0 where
       → Corrects t word (toldCorrected r) x → Corrects t word (toldCorrected s) y → (r ≡ s) × (x ≡ y)
   pub salvage-one : (file room : List ℕ) (r s : Salvaged) (x y : List ℕ)
       → Salvages file room r x → Salvages file room s y → (r ≡ s) × (x ≡ y)
+  pub write-one : (m c : ℕ) (roots room : List ℕ) (r s : Written) (x y : List ℕ)
+      → Writes m c roots room r x → Writes m c roots room s y → (r ≡ s) × (x ≡ y)
   pub next-one : (file : List ℕ) (at start end start′ end′ : ℕ)
       → NextIs file at start end → NextIs file at start′ end′ → (start ≡ start′) × (end ≡ end′)
   pub read-one : (file : List ℕ) (at : ℕ) (r s : Read) → ReadsAt file at r → ReadsAt file at s → r ≡ s

@@ -5,3 +5,4 @@ pub mod Demand3
 pub mod Cutoffs
 pub mod Corrector
 pub mod Salvage
+pub mod Writer

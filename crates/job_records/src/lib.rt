@@ -16,10 +16,10 @@ use table_rules::COEFFICIENTS;
 pub mod held; // a reader that holds the file
 
 // What every record begins with.
-const MARK: [u8; 2] = [0x4C, 0x52];
+pub const MARK: [u8; 2] = [0x4C, 0x52];
 
 // How many bytes stand before the coefficients: the mark, m, cutoff and n.
-const HEAD: usize = 5;
+pub const HEAD: usize = 5;
 
 // The cutoff as a record states it.
 pub enum Cutoff {

@@ -15,7 +15,8 @@ use Rattle.table_step.proofs.Coincide.{step-coincide}
 use Rattle.table_finish.proofs.Coincide.{finish-coincide}
 use Rattle.corrector.proofs.Coincide.{correct-coincide}
 use Rattle.job_salvage.proofs.Coincide.{salvage-coincide}
-use Rattle.locator.specs.Calls.{As, ProductAs, InverseAs, PositionAs, QuadraticAs, SolvesAs, SearchesAs, SpansAs, BeginsAs, StepsAs, FinishesAs, CorrectsAs, SalvagesAs}
+use Rattle.job_writer.proofs.Coincide.{write-coincide}
+use Rattle.locator.specs.Calls.{As, ProductAs, InverseAs, PositionAs, QuadraticAs, SolvesAs, SearchesAs, SpansAs, BeginsAs, StepsAs, FinishesAs, CorrectsAs, SalvagesAs, WritesAs}
 use Rattle.locator.specs.declared.LocatorValue.{LocatorValue}
 use Rattle.locator.specs.declared.LocatorPair.{LocatorPair}
 use Rattle.locator.specs.declared.LocatorFound.{LocatorFound}
@@ -23,6 +24,7 @@ use Rattle.locator.specs.declared.LocatorSpace.{LocatorSpace}
 use Rattle.locator.specs.declared.LocatorStepped.{LocatorStepped}
 use Rattle.locator.specs.declared.LocatorCorrected.{LocatorCorrected}
 use Rattle.locator.specs.declared.LocatorSalvaged.{LocatorSalvaged}
+use Rattle.locator.specs.declared.LocatorWritten.{LocatorWritten}
 
 -- one answer, one struct
 one-struct : {A R : Type 0} {tell : A → R} {admits : A → Type 0} → ((a b : A) → admits a → admits b → a ≡ b)
@@ -87,3 +89,7 @@ correct-one t word r s x y h k = one-memory (λ a b x y. correct-coincide a b x 
 pub salvage-one : (file room : List ℕ) (r s : LocatorSalvaged) (x y : List ℕ)
     → SalvagesAs file room r x → SalvagesAs file room s y → (r ≡ s) × (x ≡ y)
 salvage-one file room r s x y h k = one-memory (salvage-coincide file room) h k
+
+pub write-one : (m c : ℕ) (roots room : List ℕ) (r s : LocatorWritten) (x y : List ℕ)
+    → WritesAs m c roots room r x → WritesAs m c roots room s y → (r ≡ s) × (x ≡ y)
+write-one m c roots room r s x y h k = one-memory (write-coincide m c roots room) h k

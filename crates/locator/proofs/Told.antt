@@ -40,7 +40,10 @@ use Rattle.table_finish.specs.declared.Finished.the-variants.{Listed, NotFinish
 use Rattle.corrector.specs.Correcting.{toldCorrected}
 use Rattle.corrector.specs.declared.Corrected.{Corrected}
 use Rattle.corrector.specs.declared.Corrected.the-variants.{Flips, NotCorrected}
-use Rattle.locator.specs.Calls.{asValue, asPair, asFound, asSpace, asStepped, asCorrected}
+use Rattle.job_writer.specs.Calls.{toldWritten}
+use Rattle.job_writer.specs.declared.Written.{Written}
+use Rattle.job_writer.specs.declared.Written.the-variants.{Bytes, NotWritten}
+use Rattle.locator.specs.Calls.{asValue, asPair, asFound, asSpace, asStepped, asCorrected, asWritten}
 use Rattle.locator.specs.declared.LocatorPair.{LocatorPair}
 use Rattle.locator.specs.declared.LocatorSpace.{LocatorSpace}
 
@@ -68,7 +71,7 @@ pub pair-by-struct : (p q : Roots) → asPair (toldQuadratic p) ≡ asPair (told
 pair-by-struct = told-by (λ (q : Roots). asPair (toldQuadratic q)) (λ p. p .outcome) Turned pairBack
     (elim [ Solutions q ↦ accepted-back Turned (pairBack (asPair (0, doubles (timesIn q) ∷ rootsIn q))) ∙ pair-back q | Turned k ↦ refused-back Turned _ k ])
 
--- ---- the whole call, the search, finish
+-- ---- the whole call, the search, finish, the writer
 
 pub solved-by-struct : (a b : Solved) → asFound (toldSolved a) ≡ asFound (toldSolved b) → a ≡ b
 solved-by-struct = told-by (λ (a : Solved). asFound (toldSolved a)) (λ f. f .outcome) NotSolved (λ f. Found (f .count) (f .steps))
@@ -81,6 +84,10 @@ searched-by-struct = told-by (λ (a : Searched). asFound (toldSearched a)) (λ f
 pub finished-by-struct : (a b : Finished) → asFound (toldFinished a) ≡ asFound (toldFinished b) → a ≡ b
 finished-by-struct = told-by (λ (a : Finished). asFound (toldFinished a)) (λ f. f .outcome) NotFinished (λ f. Listed (f .count))
     (elim [ Listed s ↦ accepted-back NotFinished (Listed s) | NotFinished k ↦ refused-back NotFinished (Listed 0) k ])
+
+pub written-by-struct : (a b : Written) → asWritten (toldWritten a) ≡ asWritten (toldWritten b) → a ≡ b
+written-by-struct = told-by (λ (a : Written). asWritten (toldWritten a)) (λ w. w .outcome) NotWritten (λ w. Bytes (w .length))
+    (elim [ Bytes n ↦ accepted-back NotWritten (Bytes n) | NotWritten k ↦ refused-back NotWritten (Bytes 0) k ])
 
 -- ---- the affine call: the count tells "none" from a space, which has at least one root
 

@@ -9,6 +9,7 @@
 --   asStepped     outcome, and 1 where the table is done
 --   asCorrected   outcome, and how many bits were flipped
 --   asSalvaged    outcome, and how many bytes are kept; how many records is not told
+--   asWritten     outcome, and how many bytes the record has
 --   As            r is the struct of an answer that a contract admits
 --   ProductAs ..  THE CONTRACT of each export, by that of the call
 -- Assumes nothing.
@@ -23,6 +24,7 @@ use Rattle.locator.specs.declared.LocatorSpace.{LocatorSpace}
 use Rattle.locator.specs.declared.LocatorStepped.{LocatorStepped}
 use Rattle.locator.specs.declared.LocatorCorrected.{LocatorCorrected}
 use Rattle.locator.specs.declared.LocatorSalvaged.{LocatorSalvaged}
+use Rattle.locator.specs.declared.LocatorWritten.{LocatorWritten}
 use Rattle.field_elements.specs.Calls.{toldAnswer, toldQuadratic, TellsProduct}
 use Rattle.field_elements.specs.Calls.{TellsInverse, TellsPosition, TellsQuadratic}
 use Rattle.find_solve.specs.Calls.{toldSolved, Solves}
@@ -33,6 +35,7 @@ use Rattle.table_step.specs.Calls.{toldStepped, Steps}
 use Rattle.table_finish.specs.Calls.{toldFinished, Finishes}
 use Rattle.corrector.specs.Correcting.{toldCorrected, Corrects}
 use Rattle.job_salvage.specs.Calls.{toldSalvaged, Salvages}
+use Rattle.job_writer.specs.Calls.{toldWritten, Writes}
 
 -- the value at place i of an outcome, or 0
 abbrev pub valueIn : ℕ × List ℕ → ℕ → ℕ
@@ -66,6 +69,10 @@ asCorrected o = record { outcome = o .0; flips = valueIn o 0 }
 -- outcome and bytes
 abbrev pub asSalvaged : ℕ × List ℕ → LocatorSalvaged
 asSalvaged o = record { outcome = o .0; length = valueIn o 0 }
+
+-- outcome and length
+abbrev pub asWritten : ℕ × List ℕ → LocatorWritten
+asWritten o = record { outcome = o .0; length = valueIn o 0 }
 
 -- THE CONTRACTS of the exports: r is the struct of an answer that the contract of the call admits
 pub record As {A R : Type 0} (tell : A → R) (admits : A → Type 0) (r : R) : Type 0 where
@@ -111,3 +118,6 @@ CorrectsAs t word r after = As (λ x. asCorrected (toldCorrected x)) (λ x. Corr
 
 abbrev pub SalvagesAs : List ℕ → List ℕ → LocatorSalvaged → List ℕ → Type 0
 SalvagesAs file room r after = As (λ x. asSalvaged (toldSalvaged x)) (λ x. Salvages file room x after) r
+
+abbrev pub WritesAs : ℕ → ℕ → List ℕ → List ℕ → LocatorWritten → List ℕ → Type 0
+WritesAs m c roots room r after = As (λ x. asWritten (toldWritten x)) (λ x. Writes m c roots room x after) r

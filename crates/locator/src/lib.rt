@@ -1,9 +1,9 @@
 // The C face (docs/RULES.md section 9): the element calls, the whole call, the plain search, the affine call, begin,
-// step and finish, the block corrector and salvage, as include/locator.h declares them. A slice is a pointer, then a
-// count. Each call answers every input; it neither allocates nor calls out, and keeps no state.
+// step and finish, the block corrector, salvage and the writer, as include/locator.h declares them. A slice is a
+// pointer, then a count. Each call answers every input; it neither allocates nor calls out, and keeps no state.
 ghost use Rattle.locator.specs.Calls.{ProductAs, InverseAs, PositionAs, QuadraticAs};
 ghost use Rattle.locator.specs.Calls.{SolvesAs, SearchesAs, SpansAs, BeginsAs, StepsAs, FinishesAs, CorrectsAs};
-ghost use Rattle.locator.specs.Calls.{SalvagesAs};
+ghost use Rattle.locator.specs.Calls.{SalvagesAs, WritesAs};
 use answers::found;
 use answers::refused;
 use answers::roots_of;
@@ -15,6 +15,7 @@ use find_affine::Spanned;
 use find_search::Searched;
 use find_solve::Solved;
 use job_salvage::Salvaged;
+use job_writer::Written;
 use refusals::number;
 use table_begin::Begun;
 use table_finish::Finished;
@@ -74,6 +75,13 @@ pub struct LocatorCorrected {
 pub struct LocatorSalvaged {
     pub outcome: u16,
     pub length: usize,
+}
+
+// What the writer wrote: how many bytes.
+#[repr(C)]
+pub struct LocatorWritten {
+    pub outcome: u16,
+    pub length: u16,
 }
 
 // The product of a and b in the field of degree m.
@@ -249,6 +257,28 @@ pub extern "C" fn locator_salvage(file: &[u8], kept: &mut [u8]) -> LocatorSalvag
             length: bytes,
         },
         Salvaged::NotSalvaged(k) => LocatorSalvaged {
+            outcome: number(k),
+            length: 0,
+        },
+    }
+}
+
+// The record of the polynomial that has given roots.
+#[no_mangle]
+pub extern "C" fn locator_write(
+    m: u16,
+    cutoff: u16,
+    roots: &[Element],
+    room: &mut [u8],
+) -> LocatorWritten
+    ensures { λ r. ⌜ WritesAs m cutoff (now (roots .entry)) (now (room .entry)) r (now (room .exit)) ⌝ }
+{
+    match job_writer::write(m, cutoff, roots, room) {
+        Written::Bytes(n) => LocatorWritten {
+            outcome: 0,
+            length: n,
+        },
+        Written::NotWritten(k) => LocatorWritten {
             outcome: number(k),
             length: 0,
         },

@@ -14,13 +14,13 @@ use Rattle.refusals.specs.Numbers.{numberOf}
 use Rattle.refusals.specs.declared.Refusal.{Refusal}
 use Rattle.refusals.specs.declared.Refusal.the-variants.{Field, Empty, Long, Element, AllZero, Cutoff, Room}
 use Rattle.refusals.specs.declared.Refusal.the-variants.{Unsound, Stuck, NotDone, Mark, Short, OfZero}
-use Rattle.refusals.specs.declared.Refusal.the-variants.{Count, Convention, Block, Strength, Far}
+use Rattle.refusals.specs.declared.Refusal.the-variants.{Count, Convention, Block, Strength, Far, Order}
 
 -- all refusals, each once
 abbrev refusals : List Refusal
 refusals =
     Field ∷ Empty ∷ Long ∷ Element ∷ AllZero ∷ Cutoff ∷ Room ∷ Unsound ∷ Stuck ∷ NotDone ∷ Mark ∷ Short ∷ OfZero
-    ∷ Count ∷ Convention ∷ Block ∷ Strength ∷ Far ∷ []
+    ∷ Count ∷ Convention ∷ Block ∷ Strength ∷ Far ∷ Order ∷ []
 
 -- the first of these whose number is k
 unfoldable numbered : List Refusal → ℕ → Refusal
@@ -57,6 +57,7 @@ refused-back refuse accept Convention = refl
 refused-back refuse accept Block = refl
 refused-back refuse accept Strength = refl
 refused-back refuse accept Far = refl
+refused-back refuse accept Order = refl
 
 pub accepted-back : {A : Type 0} (refuse : Refusal → A) (accept : A) → by-number refuse accept 0 ≡ accept
 unfolding by-number

@@ -5,9 +5,10 @@ use Prim.Native.Nat.{ℕ}
 use Rattle.refusals.specs.declared.Refusal.{Refusal}
 use Rattle.refusals.specs.declared.Refusal.the-variants.{Field, Empty, Long, Element, AllZero, Cutoff, Room}
 use Rattle.refusals.specs.declared.Refusal.the-variants.{Unsound, Stuck, NotDone, Mark, Short, OfZero}
-use Rattle.refusals.specs.declared.Refusal.the-variants.{Count, Convention, Block, Strength, Far}
+use Rattle.refusals.specs.declared.Refusal.the-variants.{Count, Convention, Block, Strength, Far, Order}
 
--- those of the root finder from 1 to 13, then 20 of affine polynomials, 21 of a convention and 22 to 24 of the block corrector
+-- those of the root finder from 1 to 13, then 20 of affine polynomials, 21 of a convention, 22 to 24 of the block
+-- corrector and 25 of the writer of records
 abbrev pub numberOf : Refusal → ℕ
 numberOf Field = 1
 numberOf Empty = 2
@@ -27,3 +28,4 @@ numberOf Convention = 21
 numberOf Block = 22
 numberOf Strength = 23
 numberOf Far = 24
+numberOf Order = 25

@@ -23,6 +23,7 @@ pub enum Refusal {
     Block,
     Strength,
     Far,
+    Order,
 }
 
 // The number of a refusal.
@@ -48,6 +49,7 @@ pub fn number(r: Refusal) -> u16
         Refusal::Block => 22,
         Refusal::Strength => 23,
         Refusal::Far => 24,
+        Refusal::Order => 25,
     }
 }
 

@@ -48,6 +48,12 @@ pub struct Salvaged {
     pub length: usize,
 }
 
+#[repr(C)]
+pub struct Written {
+    pub outcome: u16,
+    pub length: u16,
+}
+
 extern "C" {
     fn locator_product(m: u16, a: u16, b: u16) -> Value;
     fn locator_inverse(m: u16, a: u16) -> Value;
@@ -92,6 +98,14 @@ extern "C" {
     fn locator_finish(table: *const u16, slots: usize, roots: *mut u16, room: usize) -> Found;
     fn locator_correct(strength: u16, word: *mut u8, bytes: usize) -> Corrected;
     fn locator_salvage(file: *const u8, n: usize, kept: *mut u8, room: usize) -> Salvaged;
+    fn locator_write(
+        m: u16,
+        cutoff: u16,
+        roots: *const u16,
+        n: usize,
+        record: *mut u8,
+        room: usize,
+    ) -> Written;
 }
 
 pub fn product(m: u16, a: u16, b: u16) -> Value {
@@ -185,4 +199,17 @@ pub fn correct(strength: u16, word: &mut [u8]) -> Corrected {
 
 pub fn salvage(file: &[u8], kept: &mut [u8]) -> Salvaged {
     unsafe { locator_salvage(file.as_ptr(), file.len(), kept.as_mut_ptr(), kept.len()) }
+}
+
+pub fn write(m: u16, cutoff: u16, roots: &[u16], record: &mut [u8]) -> Written {
+    unsafe {
+        locator_write(
+            m,
+            cutoff,
+            roots.as_ptr(),
+            roots.len(),
+            record.as_mut_ptr(),
+            record.len(),
+        )
+    }
 }

@@ -1,5 +1,5 @@
 //! Safe calls of the proved root finder: the roots of polynomials over GF(2^m), m = 4, 8 or 11, of affine ones of any
-//! degree, the block corrector, and salvage of job files.
+//! degree, the block corrector, salvage of job files, and a writer of their records.
 //! include/locator.h says what each call does; here a refusal is an error, a list is a slice, and what is given back is
 //! typed. No call allocates, calls out or keeps state. The module `encode` makes codewords for the corrector; it is
 //! tested and not proved.
@@ -16,6 +16,8 @@ pub const ROOTS: usize = 32;
 pub const ELEMENTS: usize = 2048;
 /// The bytes of a block corrector's word.
 pub const WORD: usize = 256;
+/// The most bytes of a record that [`write`] makes.
+pub const RECORD: usize = 71;
 
 /// Why an input is turned away, under its number (docs/RULES.md section 8). Numbers that no call of this crate can give
 /// are not here: 11 and 12 are of job records, and 21 is of a convention that there is not, which a [`Convention`] cannot
@@ -27,15 +29,16 @@ pub enum Refusal {
     Field = 1,
     /// There are no coefficients.
     Empty = 2,
-    /// There are more than 33 coefficients.
+    /// There are more than 33 coefficients, or more than 32 roots of a record.
     Long = 3,
-    /// An element or a coefficient is 2^m or more.
+    /// An element, a coefficient or a root is 2^m or more.
     Element = 4,
     /// Every coefficient is 0.
     AllZero = 5,
     /// The cutoff is above 3.
     Cutoff = 6,
-    /// The root list has under 32 slots (of an affine polynomial under 2^m), or the table has not 100.
+    /// The root list has under 32 slots (of an affine polynomial under 2^m), the table has not 100, or the room for a
+    /// salvaged file or a record is shorter than that.
     Room = 7,
     /// The table is not sound.
     Unsound = 8,
@@ -53,6 +56,8 @@ pub enum Refusal {
     Strength = 23,
     /// No codeword is within the strength.
     Far = 24,
+    /// The roots of a record are not strictly ascending.
+    Order = 25,
 }
 
 impl Refusal {
@@ -66,7 +71,7 @@ impl Refusal {
         use Refusal::*;
         [
             Field, Empty, Long, Element, AllZero, Cutoff, Room, Unsound, Stuck, NotDone, OfZero,
-            Count, Block, Strength, Far,
+            Count, Block, Strength, Far, Order,
         ]
         .into_iter()
         .find(|r| r.number() == number)
@@ -286,4 +291,17 @@ pub fn salvage<'a>(file: &[u8], kept: &'a mut [u8]) -> Result<&'a [u8], Refusal>
     let salvaged = face::salvage(file, kept);
     accepted(salvaged.outcome)?;
     Ok(&kept[..salvaged.length])
+}
+
+/// The job record of a field, a cutoff and 0 to 32 strictly ascending roots, at the front of `room` ([`RECORD`] bytes are
+/// enough for any): its polynomial is the monic one with exactly these roots, each simple. What is behind it is not written.
+pub fn write<'a>(
+    m: u16,
+    cutoff: u16,
+    roots: &[u16],
+    room: &'a mut [u8],
+) -> Result<&'a [u8], Refusal> {
+    let written = face::write(m, cutoff, roots, room);
+    accepted(written.outcome)?;
+    Ok(&room[..written.length.into()])
 }

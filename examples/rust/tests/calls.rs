@@ -188,12 +188,69 @@ fn salvage_keeps_what_can_be_kept() {
     assert_eq!(salvage(&[], &mut []), Ok(&[][..]));
 }
 
+/// The coefficients of a record.
+fn coefficients(record: &[u8]) -> Vec<u16> {
+    record[5..]
+        .chunks(2)
+        .map(|c| u16::from(c[0]) | u16::from(c[1]) << 8)
+        .collect()
+}
+
+#[test]
+fn a_written_record_gives_its_roots_back() {
+    for (m, most, step) in [(4, 16, 1), (8, 32, 7), (11, 32, 64)] {
+        for n in 0..=most {
+            let roots: Vec<u16> = (0..n).map(|k| k * step).collect();
+            let factors: Vec<(u16, u16)> = roots.iter().map(|&r| (r, 1)).collect();
+            let mut room = [99; RECORD + 5];
+            let record = write(m, n % 4, &roots, &mut room).unwrap().to_vec();
+            let head = [0x4C, 0x52, m as u8, (n % 4) as u8, n as u8 + 1];
+            assert_eq!(record[..5], head);
+            assert_eq!(coefficients(&record), multiplied(m, &factors));
+            assert!(room[record.len()..].iter().all(|&b| b == 99));
+            let mut kept = [0; RECORD];
+            assert_eq!(salvage(&record, &mut kept), Ok(&record[..]));
+            let (mut list, mut mults) = ([0; ROOTS], [0; ROOTS]);
+            let found = solve(m, &coefficients(&record), n % 4, &mut list, &mut mults).unwrap();
+            assert_eq!(found.roots.distinct, roots);
+            assert!(found.roots.multiplicities.iter().all(|&e| e == 1));
+        }
+    }
+}
+
+#[test]
+fn the_refusals_of_a_record_stand_in_their_order_and_write_nothing() {
+    let many: Vec<u16> = (0..33).rev().collect();
+    let calls: [(u16, u16, &[u16], usize, Refusal); 9] = [
+        (260, 9, &many, 0, Refusal::Field),
+        (8, 9, &many, 0, Refusal::Long),
+        (11, 9, &[2048, 1], 0, Refusal::Element),
+        (4, 0, &[1, 16], 71, Refusal::Element),
+        (4, 9, &[2, 1], 0, Refusal::Order),
+        (4, 0, &[1, 1], 71, Refusal::Order),
+        (4, 4, &[1, 2], 0, Refusal::Cutoff),
+        (4, 3, &[1, 2], 10, Refusal::Room),
+        (4, 3, &[], 6, Refusal::Room),
+    ];
+    let mut room = [99; RECORD];
+    for (m, cutoff, roots, bytes, refusal) in calls {
+        assert_eq!(write(m, cutoff, roots, &mut room[..bytes]), Err(refusal));
+        assert_eq!(room, [99; RECORD]);
+    }
+    let good = [0x4C, 0x52, 4, 1, 4, 6, 0, 7, 0, 0, 0, 1, 0];
+    assert_eq!(write(4, 1, &[1, 2, 3], &mut room[..13]), Ok(&good[..]));
+    assert_eq!(room[13..], [99; RECORD - 13]);
+}
+
 #[test]
 fn numbers_and_refusals_are_one_to_one() {
     let known: Vec<u16> = (0..100)
         .filter(|&k| Refusal::from_number(k).is_some())
         .collect();
-    assert_eq!(known, [1, 2, 3, 4, 5, 6, 7, 8, 9, 10, 13, 20, 22, 23, 24]);
+    assert_eq!(
+        known,
+        [1, 2, 3, 4, 5, 6, 7, 8, 9, 10, 13, 20, 22, 23, 24, 25]
+    );
     assert!(known
         .iter()
         .all(|&k| Refusal::from_number(k).unwrap().number() == k));

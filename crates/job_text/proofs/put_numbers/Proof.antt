@@ -16,6 +16,10 @@ Inv-loop xs at out₀ end₀ i₀ i-end out end i = Rowing 21 (length xs) xs at 
 abbrev μ-loop : tie.MeasureT-loop
 μ-loop xs at out₀ end₀ i₀ i-end out end i = length xs - i
 
+-- a number of 64 bits and its space have at most 21 bytes
+short : (c : tie.After-shared-slice-known2 Inv-loop μ-loop) → length (decimal (getD (now (c .before .before .before .before .before .args .xs)) (c .before .before .loop .i) 0)) < 21
+short c = omega (arith, twenty-digits (getD (now (c .before .before .before .before .before .args .xs)) (c .before .before .loop .i) 0) (omega (arith, c .shared-slice-known2 .given (c .before .before .loop .i))))
+
 loop-holds : tie.Need-loop-holds Inv-loop μ-loop
 loop-holds c = row-from _ _ _ _ _ (omega arith) (search needs)
 
@@ -26,10 +30,7 @@ shared-slice-read-put-spaced : tie.Need-shared-slice-read-put-spaced Inv-loop μ
 shared-slice-read-put-spaced c = search needs
 
 put-spaced-requires : tie.Need-put-spaced-requires Inv-loop μ-loop
-put-spaced-requires c κs =
-    let l = c .before .before .before .loop in
-    let x = getD (now (c .before .before .before .before .before .before .args .xs)) (l .i) 0 in
-    omega (arith, row-room (l .inv) (omega arith), twenty-digits x (omega (arith, c .before .shared-slice-known2 .given (l .i))))
+put-spaced-requires c κs = omega (arith, row-room (c .before .before .before .loop .inv) (omega arith), short (c .before))
 
 add-i : tie.Need-add-i Inv-loop μ-loop
 add-i c = search needs
@@ -38,12 +39,7 @@ loop-less : tie.Need-loop-less Inv-loop μ-loop
 loop-less c = search needs
 
 loop-again : tie.Need-loop-again Inv-loop μ-loop
-loop-again c =
-    let p = c .before .before .put-spaced in
-    let l = c .before .before .before .before .before .before .loop in
-    let x = getD (now (c .before .before .before .before .before .before .before .before .before .args .xs)) (l .i) 0 in
-    let d : length (decimal x) < 21 = omega (arith, twenty-digits x (omega (arith, c .before .before .before .before .shared-slice-known2 .given (l .i)))) in
-    row-on (l .inv) (omega arith) d (p .kept .1 .1 .0) (p .ensures)
+loop-again c = row-on (c .before .before .before .before .before .before .loop .inv) (omega arith) (short (c .before .before .before .before)) (c .before .before .put-spaced .kept .1 .1 .0) (c .before .before .put-spaced .ensures)
 
 same-length : tie.Need-same-length Inv-loop μ-loop
 same-length c = search needs

@@ -16,6 +16,10 @@ Inv-loop s roots at out₀ end₀ i₀ out end i = Rowing 6 s roots at out₀ ou
 abbrev μ-loop : tie.MeasureT-loop
 μ-loop s roots at out₀ end₀ i₀ out end i = s - i
 
+-- a number of 16 bits and its space have at most 6 bytes
+short : (c : tie.After-shared-slice-known2 Inv-loop μ-loop) → length (decimal (getD (now (c .before .before .before .before .before .args .roots)) (c .before .before .loop .i) 0)) < 6
+short c = omega (arith, five-digits (getD (now (c .before .before .before .before .before .args .roots)) (c .before .before .loop .i) 0) (omega (arith, c .shared-slice-known2 .given (c .before .before .loop .i))))
+
 loop-holds : tie.Need-loop-holds Inv-loop μ-loop
 loop-holds c = row-from _ _ _ _ _ (search needs) (search needs)
 
@@ -29,10 +33,7 @@ cast-put-spaced : tie.Need-cast-put-spaced Inv-loop μ-loop
 cast-put-spaced c = omega (arith, c .shared-slice-known2 .given (c .before .before .loop .i))
 
 put-spaced-requires : tie.Need-put-spaced-requires Inv-loop μ-loop
-put-spaced-requires c κs =
-    let l = c .before .before .before .loop in
-    let x = getD (now (c .before .before .before .before .before .before .args .roots)) (l .i) 0 in
-    omega (arith, row-room (l .inv) (omega arith), five-digits x (omega (arith, c .before .shared-slice-known2 .given (l .i))))
+put-spaced-requires c κs = omega (arith, row-room (c .before .before .before .loop .inv) (omega arith), short (c .before))
 
 add-i : tie.Need-add-i Inv-loop μ-loop
 add-i c = search needs
@@ -41,12 +42,7 @@ loop-less : tie.Need-loop-less Inv-loop μ-loop
 loop-less c = search needs
 
 loop-again : tie.Need-loop-again Inv-loop μ-loop
-loop-again c =
-    let p = c .before .before .put-spaced in
-    let l = c .before .before .before .before .before .before .loop in
-    let x = getD (now (c .before .before .before .before .before .before .before .before .before .args .roots)) (l .i) 0 in
-    let d : length (decimal x) < 6 = omega (arith, five-digits x (omega (arith, c .before .before .before .before .shared-slice-known2 .given (l .i)))) in
-    row-on (l .inv) (omega arith) d (p .kept .1 .1 .0) (p .ensures)
+loop-again c = row-on (c .before .before .before .before .before .before .loop .inv) (omega arith) (short (c .before .before .before .before)) (c .before .before .put-spaced .kept .1 .1 .0) (c .before .before .put-spaced .ensures)
 
 same-length : tie.Need-same-length Inv-loop μ-loop
 same-length c = search needs
