@@ -46,7 +46,7 @@ need_counter() {
 }
 
 # count WORDS: prints the instructions of the program that these words run, where they can be had.
-count() { { "${counting[@]}" "$@" 2>&1 || true; } | sed -n 's/.*Collected : //p'; }
+count() { { "${counting[@]}" "$@" 2>&1 >/dev/null || true; } | sed -n 's/.*Collected : //p'; }
 
 # count_each PROGRAM N: of each line of standard input the first N words, which name a set of 64 cases, and the instructions that the program takes for a case.
 count_each() {

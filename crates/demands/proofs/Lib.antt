@@ -1,5 +1,5 @@
--- The three demands, that the two ways agree, and what is promised of the block corrector, of salvage
--- and of the writer of records.
+-- The three demands, that the two ways agree, and what is promised of the block corrector, of salvage, of the writer of
+-- records and of the monthly sheet.
 pub mod Agreement
 pub mod Demand1
 pub mod Demand2
@@ -9,3 +9,4 @@ pub mod Cutoffs
 pub mod Corrector
 pub mod Salvage
 pub mod Writer
+pub mod Sheet

@@ -6,3 +6,4 @@ pub mod Cutoffs
 pub mod Corrector
 pub mod Salvage
 pub mod Writer
+pub mod Sheet

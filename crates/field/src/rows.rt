@@ -11,8 +11,11 @@ pub struct Row {
     pub size: u16,
 }
 
+// How many fields there are.
+pub const FIELDS: usize = 3;
+
 // The fields' rows, which the tests, the reader and the field types consult.
-pub const ROWS: [Row; 3] = [
+pub const ROWS: [Row; FIELDS] = [
     Row {
         degree: 4,
         poly: 19,
@@ -40,7 +43,7 @@ pub fn row_of(m: u16) -> FoundRow
     ensures { λ r. ⌜ r ≡ rowAt m ⌝ }
 {
     let mut i = 0;
-    while i < 3 {
+    while i < FIELDS {
         let row = ROWS[i];
         if row.degree == m {
             return FoundRow::At(row);

@@ -2,10 +2,10 @@
 // of the file handed back.
 ghost use mathlib.Core.Path.{_≡_};
 ghost use Prim.Native.Nat.{_+_, _*_, _≤_, _<_, _^_};
-ghost use lib.ListN.{length};
+ghost use lib.ListN.{length, drop};
 ghost use Rattle.refusals.specs.Admitting.{Admits};
 ghost use Rattle.find_admit.specs.Values.{Measured};
-ghost use Rattle.job_records.specs.Layout.{headLength, word, words, part};
+ghost use Rattle.job_records.specs.Layout.{headLength, degreeByte, word, words, part};
 ghost use Rattle.job_records.specs.Cutoffs.{statedCutoff, statedBy, asked};
 ghost use Rattle.job_records.specs.Reading.{toldRead, answered, bytesOf, readHere, ReadsAt, callTests, Spelled};
 use find_admit::admit_call;
@@ -162,6 +162,14 @@ pub fn read_record(file: &[u8], at: usize) -> Read
         return Read::End;
     }
     read_here(at, &file[at..])
+}
+
+// The m of the record at a place, whose head is all there: also of one that is refused.
+pub fn degree_byte(file: &[u8], at: usize) -> u8
+    requires { ⌜ at + headLength ≤ length (now file) ⌝ }
+    ensures { λ m. ⌜ m ≡ degreeByte (drop at (now (file .entry))) ⌝ }
+{
+    file[at + 2]
 }
 
 // A part of the file, for the coefficient bytes of a record; it ends where the file ends.

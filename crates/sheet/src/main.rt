@@ -1,0 +1,74 @@
+// Prints the monthly sheet of a job file (docs/RULES.md section 13.4): reads standard input as `roots` does, and prints
+// the names of the columns, a line for each field, and how many outcomes were 1, 11 and 12.
+ghost use Prim.Native.Nat.{_≤_};
+ghost use lib.ListN.{length};
+ghost use Rattle.algebra.specs.Trial.{All};
+ghost use Rattle.job_sheet.specs.Text.{Printable};
+use field::rows::FIELDS;
+use field::rows::ROWS;
+use job_sheet::FieldLine;
+use job_sheet::Sheet;
+use job_sheet::text::APART_LINE;
+use job_sheet::text::FIELD_LINE;
+
+// Prints the line of the field of degree m; false where that fails, which is told.
+fn print_field(m: u16, line: FieldLine) -> bool
+    requires { ⌜ Printable line ⌝ }
+{
+    let mut out = [0u8; FIELD_LINE];
+    let n = job_sheet::text::field_line(m, line, &mut out);
+    job_streams::print(b"sheet: standard output", &out[..n])
+}
+
+// Prints the line of each field, ascending; false where that fails, which is told.
+fn print_fields(lines: [FieldLine; FIELDS]) -> bool
+    requires { ⌜ All Printable lines ⌝ }
+{
+    for i in 0..FIELDS {
+        if !print_field(ROWS[i].degree, lines[i]) {
+            return false;
+        }
+    }
+    true
+}
+
+// Prints how many outcomes were 1, 11 and 12; false where that fails, which is told.
+fn print_apart(unknown: u64, mark: u64, short: u64) -> bool {
+    let mut out = [0u8; APART_LINE];
+    let n = job_sheet::text::apart_line(unknown, mark, short, &mut out);
+    job_streams::print(b"sheet: standard output", &out[..n])
+}
+
+// Prints the sheet of what was read; false where a line could not be printed.
+fn run(file: &[u8]) -> bool
+    requires { ⌜ length (now file) ≤ 65536 ⌝ }
+{
+    let sheet = job_sheet::sheet_of(file);
+    let lines = sheet.lines;
+    if !job_streams::print(
+        b"sheet: standard output",
+        b"field accepted 2 3 4 5 6 roots steps record its-steps its-limit\n",
+    ) {
+        return false;
+    }
+    if !print_fields(lines) {
+        return false;
+    }
+    print_apart(sheet.unknown, sheet.mark, sheet.short)
+}
+
+fn main() {
+    let mut buffer = io::large_buffer();
+    let came = job_streams::read_all(b"sheet: standard input", &mut buffer);
+    let n = came.bytes;
+    if came.failed {
+        return;
+    }
+    if run(&buffer[..n]) {
+        job_streams::tell_behind(
+            n,
+            b"sheet: standard input",
+            b"sheet: input behind 65,536 bytes is ignored\n",
+        );
+    }
+}
