@@ -33,7 +33,9 @@ pub record RowTable (rows : List ℕ) : Type 0 where
 pub record ValuesAdded (s : List ℕ) (n j : ℕ) (r : List ℕ) : Type 0 where
   pub long : length r ≡ 8
   pub value : (k : ℕ) → k < 8
-      → getD r k 0 ≡ bitXor (getD s k 0) (mul (fieldAt 11) (power F11 (oddPower k) j) (valueOfDigits (fieldAt 11) (oddPower k) n))
+      → getD r k 0
+      ≡ bitXor (getD s k 0)
+      (mul (fieldAt 11) (power F11 (oddPower k) j) (valueOfDigits (fieldAt 11) (oddPower k) n))
 
 -- r is s, with the values of x^j added
 pub record RowAdded (s : List ℕ) (j : ℕ) (r : List ℕ) : Type 0 where

@@ -50,7 +50,8 @@ pub record Followed (m c : ℕ) (f begun : List ℕ) : Type 0 where
   pub finish-gives : (t list : List ℕ) (r : Finished) (after : List ℕ) → After begun (stepsAt m c f) t
       → limit ≤ length list
       → Finishes t list r after → (r ≡ Listed (length (rootsAt m f))) × (after ≡ copied (rootsAt m f) list)
-  pub whole-gives : (t list mults : List ℕ) (r : Finished) (s : Solved) (x y u : List ℕ) → After begun (stepsAt m c f) t
+  pub whole-gives : (t list mults : List ℕ) (r : Finished) (s : Solved) (x y u : List ℕ)
+      → After begun (stepsAt m c f) t
       → limit ≤ length list → limit ≤ length mults
       → Finishes t list r x → Solves m c f list mults s y u
       → (s ≡ Found (length (rootsAt m f)) (stepsAt m c f)) × (y ≡ x)

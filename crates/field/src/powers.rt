@@ -1,5 +1,5 @@
-// Powers by repeated squaring, the one way. A turn, x to (c x)^2, is additive, so it is a sum over the digits of x of a
-// row that is made once: what it makes of 1, 2, 4, ..
+// Powers by repeated squaring, the one way. A turn, x to (c x)^2, is additive, so it is a sum over the digits of x of
+// a row that is made once: what it makes of 1, 2, 4, ..
 ghost use mathlib.Core.Path.{_≡_};
 ghost use Prim.Native.Nat.{_-_, _<_, _^_};
 ghost use Rattle.field.specs.Rows.{ListedRow};

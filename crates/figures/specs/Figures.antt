@@ -44,7 +44,8 @@ abbrev pub acceptedFigure : ℕ → ℕ → List ℕ → List ℕ → ℕ → Fi
 acceptedFigure m c cs roots steps = followedFigure m c cs roots steps []
 
 abbrev pub refusedFigure : ℕ → ℕ → List ℕ → ℕ → Figure
-refusedFigure m c cs k = record { m = m; cutoff = c; coefficients = cs; number = k; steps = 0; roots = []; tables = [] }
+refusedFigure m c cs k =
+    record { m = m; cutoff = c; coefficients = cs; number = k; steps = 0; roots = []; tables = [] }
 
 abbrev pub everyElement : List ℕ
 everyElement = 0 ∷ 1 ∷ 2 ∷ 3 ∷ 4 ∷ 5 ∷ 6 ∷ 7 ∷ 8 ∷ 9 ∷ 10 ∷ 11 ∷ 12 ∷ 13 ∷ 14 ∷ 15 ∷ []

@@ -73,7 +73,8 @@ pub record TracedTo (m n : ℕ) (rows : List ℕ) (i k : ℕ) (traces : List ℕ
   pub within : k ≤ m
   pub traced : Traced m n rows k traces
 
-pub record Advancing (m : ℕ) (ls ts : List ℕ) (n : ℕ) (rows traces : List ℕ) (k : ℕ) (table : List ℕ) (o : ℕ) : Type 0 where
+pub record Advancing (m : ℕ) (ls ts : List ℕ) (n : ℕ) (rows traces : List ℕ) (k : ℕ) (table : List ℕ) (o : ℕ)
+    : Type 0 where
   pub chosen : Chosen table o
   pub width : widthOf table ≡ m
   pub few : n ≤ limit

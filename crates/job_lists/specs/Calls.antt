@@ -1,7 +1,7 @@
 -- What the call that writes the record of a line answers, for every line and room.
 --   Lists   THE CONTRACT: the answer, and what the room holds afterwards. A line that is not legible or has one number
---           alone asks for no record, nor does one with no number; any other asks for that of its field, its cutoff and
---           its roots
+--           alone asks for no record, nor does one with no number; any other asks for that of its field, its cutoff
+--           and its roots
 -- Assumes nothing.
 use mathlib.Core.Path.{_≡_}
 use mathlib.Core.Bool.{true, false}

@@ -6,8 +6,8 @@
 --   stretchRows  the lines of stretches, one after the other
 --   reportOf     all lines of a file: its dropped stretches in file order, and the number of records kept
 --   gapRow       the line of a stretch; none where it is empty
---   PrintsFrom   the program's loop, told in words: from a place on, the line of what is dropped before the next record,
---                and then what is printed from its end on
+--   PrintsFrom   the program's loop, told in words: from a place on, the line of what is dropped before the next
+--                record, and then what is printed from its end on
 -- Assumes nothing.
 use mathlib.Core.List.{List, [], _∷_, _++_}
 use Prim.Native.Nat.{ℕ, zero, suc, _-_, _≤_, _<_}

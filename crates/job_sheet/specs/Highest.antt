@@ -1,4 +1,5 @@
--- The record of a field whose steps stand highest against their limit (docs/RULES.md section 13.2), told by what it is.
+-- The record of a field whose steps stand highest against their limit (docs/RULES.md section 13.2), told by what it
+-- is.
 --   EntryAt     an entry has a number among entries, counted from 1
 --   HighestAt   a peak is an entry that competes: at least every other as a fraction, and the first such
 --   IsHighest   it is so, or it is none where no entry competes

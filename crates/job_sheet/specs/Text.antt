@@ -29,7 +29,8 @@ highestText p = cond (eqb (p .limit) 0) noneText (spaced (p .place ∷ p .steps 
 abbrev pub fieldText : ℕ → FieldFigures → List ℕ
 fieldText m f =
     decimal m ++
-    (spaced (f .accepted ∷ (f .refused ++ (f .roots ∷ f .steps ∷ []))) ++ (highestText (f .highest) ++ (lineFeed ∷ [])))
+    (spaced (f .accepted ∷ (f .refused ++ (f .roots ∷ f .steps ∷ [])))
+    ++ (highestText (f .highest) ++ (lineFeed ∷ [])))
 
 -- "unknown", " mark" and " short"
 abbrev pub unknownWord : List ℕ
@@ -44,7 +45,8 @@ shortWord = 32 ∷ 115 ∷ 104 ∷ 111 ∷ 114 ∷ 116 ∷ []
 abbrev pub apartText : ℕ → ℕ → ℕ → List ℕ
 apartText unknown mark short =
     unknownWord ++
-    (spaced (unknown ∷ []) ++ (markWord ++ (spaced (mark ∷ []) ++ (shortWord ++ (spaced (short ∷ []) ++ (lineFeed ∷ []))))))
+    (spaced (unknown ∷ [])
+    ++ (markWord ++ (spaced (mark ∷ []) ++ (shortWord ++ (spaced (short ∷ []) ++ (lineFeed ∷ []))))))
 
 -- eleven figures of at most 20 digits behind the degree
 abbrev pub fieldRoom : ℕ

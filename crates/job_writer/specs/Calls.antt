@@ -42,8 +42,8 @@ toldWritten (NotWritten k) = (numberOf k, [])
 -- the record at the front of the room; nothing behind it is written
 abbrev pub Writes : ℕ → ℕ → List ℕ → List ℕ → Written → List ℕ → Type 0
 Writes m c roots room r after =
-    Answers (writeTests m c roots (length room)) (lengthFor (length roots) ∷ []) (copied (recordOf m c roots) room) room
-    (toldWritten r) after
+    Answers (writeTests m c roots (length room)) (lengthFor (length roots) ∷ []) (copied (recordOf m c roots) room)
+    room (toldWritten r) after
 
 pub record Writable (m c : ℕ) (roots room : List ℕ) : Type 0 where
   pub field : known m ≡ true

@@ -1,7 +1,7 @@
 -- What the parts of the writer may take for granted, and what they leave.
 --   headOf      the bytes of a record before its coefficients
---   Expandable  what the polynomial of roots may take for granted: a known field, roots that are elements, and room for
---               one coefficient more than there are roots
+--   Expandable  what the polynomial of roots may take for granted: a known field, roots that are elements, and room
+--               for one coefficient more than there are roots
 --   Recorded    the record stands at the front of the room, with its length
 -- Assumes nothing.
 use mathlib.Core.Path.{_≡_}

@@ -1,6 +1,6 @@
 // Writing records from roots (docs/RULES.md section 12): the record of the monic polynomial that has exactly the given
-// simple roots. The polynomial is the product of z + r over the roots; of no root it is 1 and of one root z + r, and no
-// table is made. The head and the coefficients then go to the front of the room, two bytes a coefficient.
+// simple roots. The polynomial is the product of z + r over the roots; of no root it is 1 and of one root z + r, and
+// no table is made. The head and the coefficients then go to the front of the room, two bytes a coefficient.
 ghost use mathlib.Core.Path.{_≡_};
 ghost use Prim.Native.Nat.{_+_, _*_, _≤_};
 ghost use lib.ListN.{length};

@@ -1,6 +1,7 @@
 // Job records from a list of roots: reads lines of decimal numbers, `m cutoff root root ..`, from standard input, as
-// `roots` reads records, and writes the record of each line to standard output, so that `jobs < list | roots` shows the
-// roots again. Of a line that asks for no record nothing is written; standard error says which line it is, and why.
+// `roots` reads records, and writes the record of each line to standard output, so that `jobs < list | roots` shows
+// the roots again. Of a line that asks for no record nothing is written; standard error says which line it is, and
+// why.
 ghost use Prim.Native.Nat.{_≤_};
 ghost use lib.ListN.{length};
 use job_lists::Listed;

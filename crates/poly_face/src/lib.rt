@@ -1,6 +1,6 @@
 // The inner routines on polynomials as C calls them, to be tested (tests/c/routines.c) and timed (bench/c/routines.c).
-// Not part of the product's face: each asks what its routine asks, and the C side sees to it. ls and ts are the log and
-// antilog tables of the field of degree m.
+// Not part of the product's face: each asks what its routine asks, and the C side sees to it. ls and ts are the log
+// and antilog tables of the field of degree m.
 ghost use mathlib.Core.Path.{_≡_};
 ghost use mathlib.Core.List.{[], _∷_};
 ghost use Prim.Native.Nat.{_^_, _≤_, _<_};

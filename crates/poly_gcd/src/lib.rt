@@ -1,5 +1,5 @@
-// The monic greatest common divisor of a monic polynomial and another by Euclid's loop, whose two slices change roles at
-// each division, so that none copies; and the cofactor. The work is here, for degrees up to the house's limit.
+// The monic greatest common divisor of a monic polynomial and another by Euclid's loop, whose two slices change roles
+// at each division, so that none copies; and the cofactor. The work is here, for degrees up to the house's limit.
 ghost use mathlib.Core.Path.{_≡_};
 ghost use Prim.Native.Nat.{_≤_};
 ghost use lib.ListN.{length, take};

@@ -94,8 +94,8 @@ fn add_to(m: u16, w: &[u16], sum: &mut [u16])
     }
 }
 
-// Writes the trace sum w + w^2 + w^4 + .. , m terms, modulo the polynomial that the row holds to t. What stands in w is
-// used up.
+// Writes the trace sum w + w^2 + w^4 + .. , m terms, modulo the polynomial that the row holds to t. What stands in w
+// is used up.
 fn trace_mod(m: u16, logs: &[u16], antilogs: &[u16], row: &[u16], w: &mut [u16], t: &mut [u16])
     requires { ⌜ Squarable m (now logs) (now antilogs) (now row) (now w) × (length (now t) ≡ length (now row)) ⌝ }
     ensures { λ _. ⌜ now (t .exit) ≡ traceMod (G m) (held m (now (row .entry))) m (now (w .entry)) ⌝ }

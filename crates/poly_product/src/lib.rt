@@ -1,6 +1,6 @@
 // The product of z + r over a list of roots, on a lent slice of coefficients, constant first, and over lent log and
-// antilog tables. The product grows from the last root to the first, and downward in the slice: times z it stands where
-// it stood, one place lower, and r times itself is added.
+// antilog tables. The product grows from the last root to the first, and downward in the slice: times z it stands
+// where it stood, one place lower, and r times itself is added.
 ghost use mathlib.Core.Path.{_≡_};
 ghost use lib.ListN.{drop};
 ghost use Rattle.algebra.specs.Polynomial.{fromRoots, linear, mul};

@@ -120,7 +120,8 @@ butterflySum q e up p = sumWords (length q) (wordsAt (length q) p 0) (laneProduc
 
 unfoldable pub butterflyAt : List ℕ → List ℕ → ℕ → List ℕ → List ℕ
 butterflyAt q e up p =
-    paste (paste p 0 (butterflySum q e up p) (length q)) up (sumWords (length q) (butterflySum q e up p) (wordsAt (length q) p up)) (length q)
+    paste (paste p 0 (butterflySum q e up p) (length q)) up
+    (sumWords (length q) (butterflySum q e up p) (wordsAt (length q) p up)) (length q)
 
 -- the first n such butterflies of a row of vectors
 unfoldable pub butterfliesAt : List ℕ → List ℕ → ℕ → ℕ → List ℕ → List ℕ
@@ -136,8 +137,10 @@ unfoldable pub transformAt : List ℕ → ℕ → List ℕ → List ℕ → List
 unfolding butterfliesAt
 transformAt q zero g p = p
 transformAt q (suc k) g p =
-    transformAt q k (drop (length q) g) (take (2 ^ k * length q) (butterfliesAt q (wordsAt (length q) g 0) (2 ^ k * length q) (2 ^ k) p))
-    ++ transformAt q k (drop (2 ^ k * length q) g) (drop (2 ^ k * length q) (butterfliesAt q (wordsAt (length q) g 0) (2 ^ k * length q) (2 ^ k) p))
+    transformAt q k (drop (length q) g)
+    (take (2 ^ k * length q) (butterfliesAt q (wordsAt (length q) g 0) (2 ^ k * length q) (2 ^ k) p))
+    ++ transformAt q k (drop (2 ^ k * length q) g)
+    (drop (2 ^ k * length q) (butterfliesAt q (wordsAt (length q) g 0) (2 ^ k * length q) (2 ^ k) p))
 
 -- planes as values that are added and multiplied (what else `Ops` names is not used)
 abbrev pub planeOps : List ℕ → Ops (List ℕ)

@@ -1,5 +1,5 @@
-// Prints the monthly sheet of a job file (docs/RULES.md section 13.4): reads standard input as `roots` does, and prints
-// the names of the columns, a line for each field, and how many outcomes were 1, 11 and 12.
+// Prints the monthly sheet of a job file (docs/RULES.md section 13.4): reads standard input as `roots` does, and
+// prints the names of the columns, a line for each field, and how many outcomes were 1, 11 and 12.
 ghost use Prim.Native.Nat.{_≤_};
 ghost use lib.ListN.{length};
 ghost use Rattle.algebra.specs.Trial.{All};

@@ -83,7 +83,9 @@ behindFactor l = drop (getD l 1 0) (drop factorSlots l)
 
 unfoldable pub readBlocks : ℕ → List ℕ → List StatedFactor
 readBlocks zero l = []
-readBlocks (suc n) l = record { level = getD l 0 0; degree = getD l 1 0; coefficients = take (getD l 1 0) (drop factorSlots l) } ∷ readBlocks n (behindFactor l)
+readBlocks (suc n) l =
+    record { level = getD l 0 0; degree = getD l 1 0; coefficients = take (getD l 1 0) (drop factorSlots l) }
+    ∷ readBlocks n (behindFactor l)
 
 unfoldable pub restBlocks : ℕ → List ℕ → List ℕ
 restBlocks zero l = l

@@ -56,7 +56,12 @@ stuck t = not (isDone t) && (eqb (firstFactor t .0) (t .width) || eqb (t .taken)
 
 -- the first factor above the cutoff is replaced by its parts, and slot 3 grows by 1
 abbrev pub stepTable : Halving ℕ → Table → Table
-stepTable H t = record { width = t .width; cutoff = t .cutoff; taken = suc (t .taken); factors = step H (t .cutoff) (t .factors) }
+stepTable H t = record {
+  width = t .width;
+  cutoff = t .cutoff;
+  taken = suc (t .taken);
+  factors = step H (t .cutoff) (t .factors);
+}
 
 unfoldable pub tableAfter : Halving ℕ → ℕ → Table → Table
 tableAfter H zero t = t
@@ -68,7 +73,12 @@ abbrev pub begunTable : ℕ → ℕ → List ℕ → Table
 begunTable m c p = record { width = m; cutoff = c; taken = 0; factors = unlessEmpty 0 p }
 
 abbrev pub groupedTable : Ops ℕ → ℕ → ℕ → ℕ → List ℕ → ℕ → Table
-groupedTable G m a c roots n = record { width = m; cutoff = c; taken = n; factors = map (carry (monicRoots G)) (reached (traceBit G m a) c roots n) }
+groupedTable G m a c roots n = record {
+  width = m;
+  cutoff = c;
+  taken = n;
+  factors = map (carry (monicRoots G)) (reached (traceBit G m a) c roots n);
+}
 
 -- ---- finish
 

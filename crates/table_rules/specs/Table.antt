@@ -49,7 +49,12 @@ module _ (Y : Layout) where
       padded slots (t .width ∷ Y .mark (t .cutoff) ∷ length (t .factors) ∷ t .taken ∷ Y .write (t .factors))
 
   unfoldable pub decode : List ℕ → Table
-  decode l = record { width = getD l 0 0; cutoff = Y .unmark (getD l 1 0); taken = getD l 3 0; factors = map factorOf (Y .read (getD l 2 0) (drop headSlots l)) }
+  decode l = record {
+    width = getD l 0 0;
+    cutoff = Y .unmark (getD l 1 0);
+    taken = getD l 3 0;
+    factors = map factorOf (Y .read (getD l 2 0) (drop headSlots l));
+  }
 
   -- A TABLE IS SOUND if slot 0 is a known degree; slot 1 is 1 to 3; slot 2 is at most the limit; levels are at most m;
   -- degrees are at least 1, with sum s at most the limit; coefficients are below 2^m; slot 3 is at most m times the

@@ -75,5 +75,6 @@ pub record Replaceable (l : List ℕ) (o : ℕ) (new : List ℕ) : Type 0 where
 -- two slots for each part, and the coefficients
 abbrev pub replacedAt : ℕ → List ℕ → List ℕ → List ℕ
 replacedAt o new l =
-    set (set (spliced o (degreeAt l o + factorSlots) new l) 2 (countOf l - 1 + (length new - degreeAt l o) / factorSlots)) 3
-    (takenOf l + 1)
+    set
+    (set (spliced o (degreeAt l o + factorSlots) new l) 2 (countOf l - 1 + (length new - degreeAt l o) / factorSlots))
+    3 (takenOf l + 1)
