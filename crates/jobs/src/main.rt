@@ -53,14 +53,14 @@ fn take_line(line: &[u8], k: u32) -> bool {
             }
             Written::Bytes(bytes) => {
                 let n = bytes as usize;
-                job_streams::print(b"jobs: standard output", &room[..n])
+                job_streams::print(b"jobs", &room[..n])
             }
         },
     }
 }
 
 // Takes each line of the text, in order; false where a record could not be written.
-fn run(text: &[u8]) -> bool
+fn take_lines(text: &[u8]) -> bool
     requires { ⌜ length (now text) ≤ 65536 ⌝ }
 {
     let mut at = 0;
@@ -76,18 +76,19 @@ fn run(text: &[u8]) -> bool
     true
 }
 
-fn main() {
-    let mut buffer = io::large_buffer();
-    let came = job_streams::read_all(b"jobs: standard input", &mut buffer);
+// Reads standard input into the room, takes its lines, and tells if there is more behind them.
+fn run(room: &mut [u8]) {
+    let came = job_streams::read_all(b"jobs", room);
     let n = came.bytes;
     if came.failed {
         return;
     }
-    if run(&buffer[..n]) {
-        job_streams::tell_behind(
-            n,
-            b"jobs: standard input",
-            b"jobs: input behind 65,536 bytes is ignored\n",
-        );
+    if take_lines(&room[..n]) {
+        job_streams::tell_behind(b"jobs", n);
     }
+}
+
+fn main() {
+    let mut buffer = io::large_buffer();
+    run(&mut buffer);
 }

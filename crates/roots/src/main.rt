@@ -22,7 +22,7 @@ fn print_turn(read: Read, bytes: &[u8], k: u32) -> usize
     let mut out = [0u8; LINE];
     let turn = job_lines::take_turn(read, bytes, k, &mut out);
     let len = turn.len;
-    if !job_streams::print(b"roots: standard output", &out[..len]) {
+    if !job_streams::print(b"roots", &out[..len]) {
         return FAILED;
     }
     let next = turn.next;
@@ -53,16 +53,12 @@ fn run(file: &[u8]) -> usize
 
 fn main() {
     let mut buffer = io::large_buffer();
-    let came = job_streams::read_all(b"roots: standard input", &mut buffer);
+    let came = job_streams::read_all(b"roots", &mut buffer);
     let n = came.bytes;
     if came.failed {
         return;
     }
     if run(&buffer[..n]) != FAILED {
-        job_streams::tell_behind(
-            n,
-            b"roots: standard input",
-            b"roots: input behind 65,536 bytes is ignored\n",
-        );
+        job_streams::tell_behind(b"roots", n);
     }
 }

@@ -49,7 +49,7 @@ fn write_kept(bytes: &[u8]) -> bool {
 fn print_stretch(start: u32, len: u32) -> bool {
     let mut out = [0u8; ROW];
     let n = job_salvage::report::stretch_row(start, len, &mut out);
-    job_streams::print(b"salvage: standard output", &out[..n])
+    job_streams::print(b"salvage", &out[..n])
 }
 
 // Prints the line of each dropped stretch, in file order; false where that fails, which is told.
@@ -74,11 +74,11 @@ fn print_stretches(file: &[u8]) -> bool
 fn print_count(records: u32) {
     let mut out = [0u8; ROW];
     let n = job_salvage::report::count_row(records, &mut out);
-    job_streams::print(b"salvage: standard output", &out[..n]);
+    job_streams::print(b"salvage", &out[..n]);
 }
 
-// Salvages what was read; false where a line or kept.lr could not be written.
-fn run(file: &[u8]) -> bool
+// Keeps what can be kept of what was read; false where a line or kept.lr could not be written.
+fn keep(file: &[u8]) -> bool
     requires { ⌜ length (now file) ≤ 65536 ⌝ }
 {
     let mut room = io::large_buffer();
@@ -96,18 +96,19 @@ fn run(file: &[u8]) -> bool
     true
 }
 
-fn main() {
-    let mut buffer = io::large_buffer();
-    let came = job_streams::read_all(b"salvage: standard input", &mut buffer);
+// Reads standard input into the room, keeps what can be kept, and tells if there is more behind it.
+fn run(room: &mut [u8]) {
+    let came = job_streams::read_all(b"salvage", room);
     let n = came.bytes;
     if came.failed {
         return;
     }
-    if run(&buffer[..n]) {
-        job_streams::tell_behind(
-            n,
-            b"salvage: standard input",
-            b"salvage: input behind 65,536 bytes is ignored\n",
-        );
+    if keep(&room[..n]) {
+        job_streams::tell_behind(b"salvage", n);
     }
+}
+
+fn main() {
+    let mut buffer = io::large_buffer();
+    run(&mut buffer);
 }

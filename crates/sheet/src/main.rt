@@ -17,7 +17,7 @@ fn print_field(m: u16, line: FieldLine) -> bool
 {
     let mut out = [0u8; FIELD_LINE];
     let n = job_sheet::text::field_line(m, line, &mut out);
-    job_streams::print(b"sheet: standard output", &out[..n])
+    job_streams::print(b"sheet", &out[..n])
 }
 
 // Prints the line of each field, ascending; false where that fails, which is told.
@@ -36,17 +36,17 @@ fn print_fields(lines: [FieldLine; FIELDS]) -> bool
 fn print_apart(unknown: u64, mark: u64, short: u64) -> bool {
     let mut out = [0u8; APART_LINE];
     let n = job_sheet::text::apart_line(unknown, mark, short, &mut out);
-    job_streams::print(b"sheet: standard output", &out[..n])
+    job_streams::print(b"sheet", &out[..n])
 }
 
 // Prints the sheet of what was read; false where a line could not be printed.
-fn run(file: &[u8]) -> bool
+fn print_sheet(file: &[u8]) -> bool
     requires { ⌜ length (now file) ≤ 65536 ⌝ }
 {
     let sheet = job_sheet::sheet_of(file);
     let lines = sheet.lines;
     if !job_streams::print(
-        b"sheet: standard output",
+        b"sheet",
         b"field accepted 2 3 4 5 6 roots steps record its-steps its-limit\n",
     ) {
         return false;
@@ -57,18 +57,19 @@ fn run(file: &[u8]) -> bool
     print_apart(sheet.unknown, sheet.mark, sheet.short)
 }
 
-fn main() {
-    let mut buffer = io::large_buffer();
-    let came = job_streams::read_all(b"sheet: standard input", &mut buffer);
+// Reads standard input into the room, prints its sheet, and tells if there is more behind it.
+fn run(room: &mut [u8]) {
+    let came = job_streams::read_all(b"sheet", room);
     let n = came.bytes;
     if came.failed {
         return;
     }
-    if run(&buffer[..n]) {
-        job_streams::tell_behind(
-            n,
-            b"sheet: standard input",
-            b"sheet: input behind 65,536 bytes is ignored\n",
-        );
+    if print_sheet(&room[..n]) {
+        job_streams::tell_behind(b"sheet", n);
     }
+}
+
+fn main() {
+    let mut buffer = io::large_buffer();
+    run(&mut buffer);
 }

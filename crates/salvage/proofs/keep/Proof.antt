@@ -1,4 +1,4 @@
--- `salvage::run` lends what was kept: no more bytes and no more records than the file has bytes.
+-- `salvage::keep` lends what was kept: no more bytes and no more records than the file has bytes.
 -- Assumes nothing.
 use mathlib.Core.Path.{sym}
 use Prim.Native.Nat.{_≤_}
@@ -8,8 +8,8 @@ use lib.ListN.{length}
 use lib.Seq.{length-take-le}
 use Rattle.job_salvage.proofs.Contract.{Says, kept-says, few-kept, answer-adds}
 use borrow.Author.Needs.{needs}
-use Rattle.salvage.proofs.run.Statement.{statement}
-use Rattle.salvage.proofs.run.Tie as tie
+use Rattle.salvage.proofs.keep.Statement.{statement}
+use Rattle.salvage.proofs.keep.Tie as tie
 use Rattle.io.proofs.large_buffer.Reads as large-buffer-reads
 use Rattle.job_salvage.proofs.salvage.Reads as salvage-reads
 use Rattle.salvage.proofs.print_count.Reads as print-count-reads
@@ -71,8 +71,8 @@ print-count-requires c κs = search needs
 returns-4 : tie.Need-returns-4
 returns-4 c = search needs
 
-pub run-spec : {M : Type 1} → statement M
-run-spec =
+pub keep-spec : {M : Type 1} → statement M
+keep-spec =
     tie.close
     (tie.spec
     large-buffer-requires

@@ -1,11 +1,11 @@
--- `sheet::run` lends lines that can be printed: the file is small.
+-- `sheet::print_sheet` lends lines that can be printed: the file is small.
 -- Assumes nothing.
 use native.Mathlib.Omega.{arith}
 use denote.Ref.{now}
 use Rattle.job_sheet.proofs.Bounds.{small-printable}
 use borrow.Author.Needs.{needs}
-use Rattle.sheet.proofs.run.Statement.{statement}
-use Rattle.sheet.proofs.run.Tie as tie
+use Rattle.sheet.proofs.print_sheet.Statement.{statement}
+use Rattle.sheet.proofs.print_sheet.Tie as tie
 
 sheet-of-requires : tie.Need-sheet-of-requires
 sheet-of-requires c κs = search needs
@@ -37,8 +37,8 @@ print-apart-requires c κs = search needs
 returns-3 : tie.Need-returns-3
 returns-3 c = search needs
 
-pub run-spec : {M : Type 1} → statement M
-run-spec =
+pub print-sheet-spec : {M : Type 1} → statement M
+print-sheet-spec =
     tie.close
     (tie.spec
     sheet-of-requires

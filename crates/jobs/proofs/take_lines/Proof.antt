@@ -1,4 +1,4 @@
--- `jobs::run` ends: each turn goes on behind the end of a line. There are no more lines than bytes.
+-- `jobs::take_lines` ends: each turn goes on behind the end of a line. There are no more lines than bytes.
 -- Assumes nothing.
 use Prim.Native.Nat.{_+_, _-_, _≤_}
 use native.Mathlib.Omega.{arith}
@@ -6,8 +6,8 @@ use lib.ListN.{length}
 use denote.Ref.{now}
 use Rattle.job_lists.proofs.Ends.{end-within}
 use borrow.Author.Needs.{needs}
-use Rattle.jobs.proofs.run.Statement.{statement}
-use Rattle.jobs.proofs.run.Tie as tie
+use Rattle.jobs.proofs.take_lines.Statement.{statement}
+use Rattle.jobs.proofs.take_lines.Tie as tie
 use Rattle.job_lists.proofs.line_end.Reads as line-end-reads
 use Rattle.jobs.proofs.take_line.Reads as take-line-reads
 
@@ -57,8 +57,8 @@ loop-again c = let w = within (c .before .before .before) in (omega arith, omega
 returns-2 : tie.Need-returns-2 Inv-loop μ-loop
 returns-2 c = search needs
 
-pub run-spec : {M : Type 1} → statement M
-run-spec =
+pub take-lines-spec : {M : Type 1} → statement M
+take-lines-spec =
     tie.close
     (tie.spec
     Inv-loop
