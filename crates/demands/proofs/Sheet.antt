@@ -1,9 +1,7 @@
 -- `MonthlySheet` of specs/Sheet.antt holds, by the laws of the contract alone.
 --   monthly-sheet   it holds
 -- Assumes nothing.
-use Rattle.job_sheet.specs.Entries.{entries}
 use Rattle.job_sheet.proofs.Outcomes.{numbers-of-file}
-use Rattle.job_sheet.proofs.Peaks.{is-highest}
 use Rattle.job_sheet.proofs.Coincide.{sheets-coincide}
 use Rattle.job_sheet.proofs.Contract.{told-add-up, told-highest, told-joined}
 use Rattle.demands.specs.Sheet.{MonthlySheet}
@@ -12,8 +10,7 @@ pub monthly-sheet : MonthlySheet
 monthly-sheet = record {
   outcomes = numbers-of-file;
   add-up = told-add-up;
-  highest = λ file s h m k. is-highest m (entries file);
-  told = told-highest;
+  highest = told-highest;
   joined = told-joined;
   one = sheets-coincide;
 }

@@ -3,16 +3,14 @@
 --                  files; one sheet for a file
 -- Assumes nothing.
 use mathlib.Core.Path.{_≡_}
-use mathlib.Core.Bool.{true}
 use mathlib.Core.List.{List, _++_, map}
 use Prim.Native.Nat.{ℕ}
 use lib.ListN.{length}
-use Rattle.field.specs.Rows.{rows, known}
+use Rattle.field.specs.Rows.{rows}
 use Rattle.job_records.specs.Reading.{Outcome}
 use Rattle.job_records.specs.Files.{Reads}
 use Rattle.job_sheet.specs.Entries.{numberGiven, entries}
-use Rattle.job_sheet.specs.Figures.{highestFrom}
-use Rattle.job_sheet.specs.Highest.{IsHighest}
+use Rattle.job_sheet.specs.Highest.{HighestEach}
 use Rattle.job_sheet.specs.Joined.{outcomesIn, joinedFigures}
 use Rattle.job_sheet.specs.Calls.{toldSheet, Sheets}
 use Rattle.job_sheet.specs.declared.Sheet.{Sheet}
@@ -26,10 +24,7 @@ pub record MonthlySheet : Type 0 where
       → outcomesIn (toldSheet s) ≡ length os
   -- the highest is at least every other as a fraction, and the first such; ties go to the earlier, limit 0 does not
   -- compete
-  pub highest : (file : List ℕ) (s : Sheet) → Sheets file s → (m : ℕ) → known m ≡ true
-      → IsHighest m (entries file) (highestFrom m 1 (entries file))
-  pub told : (file : List ℕ) (s : Sheet) → Sheets file s
-      → map (λ l. l .highest) (toldSheet s .fields) ≡ map (λ r. highestFrom (r .0) 1 (entries file)) rows
+  pub highest : (file : List ℕ) (s : Sheet) → Sheets file s → HighestEach (entries file) rows (toldSheet s .fields)
   -- where the first of two files ends cleanly, the figures of the joined file are the sums, and its highest is the
   -- better of the two, the earlier on a tie, its number counted on
   pub joined : (f g : List ℕ) (s t u : Sheet) → Sheets f s → Sheets g t → Sheets (f ++ g) u → toldSheet s .mark ≡ 0
