@@ -67,7 +67,8 @@ pub fn print(program: &[u8], text: &[u8]) -> bool {
     written
 }
 
-// Where n bytes came, which are the most that are read: tells if there is input behind them. A read that fails is told.
+// Where n bytes came, which are the most that are read: tells if there is input behind them. A read that fails is
+// told.
 pub fn tell_behind(program: &[u8], n: usize) {
     if n < MOST {
         return;
