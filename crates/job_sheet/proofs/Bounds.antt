@@ -32,7 +32,7 @@ use Rattle.job_records.proofs.Forward.Numbers.{one}
 use Rattle.job_sheet.specs.Entries.{Entry, goesOn, entryHere, entriesBehind, entries}
 use Rattle.job_sheet.specs.Figures.{sumOf, acceptedIn, FieldFigures, Figures, figuresAt}
 use Rattle.job_sheet.specs.Calls.{totalOf, toldField, Sheets}
-use Rattle.job_sheet.specs.Text.{Printable}
+use Rattle.job_sheet.specs.Text.{FitsLine}
 use Rattle.job_sheet.specs.declared.Total.{Total}
 use Rattle.job_sheet.specs.declared.FieldLine.{FieldLine}
 use Rattle.job_sheet.specs.declared.Sheet.{Sheet}
@@ -108,7 +108,7 @@ one-word-total t h = omega arith
 
 -- a line that tells of figures with five refusals and a total of one word
 line-printable : (l : FieldLine) (es : List Entry) (m : ℕ) → toldField l ≡ figuresAt es m → stepsIn m es < 2 ^ 64
-    → Printable l
+    → FitsLine l
 line-printable l es m e h = record {
   word = one-word-total (l .steps) (subst (λ n. n < 2 ^ 64) (sym (ap (λ (f : FieldFigures). f .steps) e)) h);
   five = ap (λ (f : FieldFigures). length (f .refused)) e;
@@ -117,7 +117,7 @@ line-printable l es m e h = record {
 lines-printable : (ls : List FieldLine) (es : List Entry) (rs : List (ℕ × ℕ))
     → map toldField ls ≡ map (λ r. figuresAt es (r .0)) rs
     → ((m : ℕ) → stepsIn m es < 2 ^ 64)
-    → All Printable ls
+    → All FitsLine ls
 lines-printable [] es rs e h = tt
 lines-printable (l ∷ ls) es [] e h =
     absurd (let z : _≡_ {A = ℕ} (suc (length (map toldField ls))) 0 = ap length e in let b : ⊥ = omega arith in b)
@@ -126,14 +126,14 @@ lines-printable (l ∷ ls) es (r ∷ rs) e h =
     let more : map toldField ls ≡ map (λ r. figuresAt es (r .0)) rs = cc in
     (line-printable l es (r .0) one (h (r .0)), lines-printable ls es rs more h)
 
-pub small-printable : (file : List ℕ) (s : Sheet) → length file ≤ 65536 → Sheets file s → All Printable (s .lines)
+pub small-printable : (file : List ℕ) (s : Sheet) → length file ≤ 65536 → Sheets file s → All FitsLine (s .lines)
 small-printable file s h e =
     lines-printable (s .lines) (entries file) rows (ap (λ (f : Figures). f .fields) (e .0))
     (λ m. omega (arith, total-few m 0 file))
 
 -- each of them, by its place
-pub printable-at : (ls : List FieldLine) (i : ℕ) (d : FieldLine) → All Printable ls → i < length ls
-    → Printable (getD ls i d)
+pub printable-at : (ls : List FieldLine) (i : ℕ) (d : FieldLine) → All FitsLine ls → i < length ls
+    → FitsLine (getD ls i d)
 printable-at [] i d a h = absurd (let b : ⊥ = omega arith in b)
 printable-at (l ∷ ls) zero d a h = a .0
 printable-at (l ∷ ls) (suc i) d a h = printable-at ls i d (a .1) (omega arith)

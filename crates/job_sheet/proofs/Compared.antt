@@ -1,5 +1,5 @@
 -- Two peaks compared by their steps against their limits (docs/RULES.md section 13.2).
---   AtMost, Below        a peak stands at most as high as another; lower: s/l against t/k by the products s k and t l
+--   AtMost, LowerThan        a peak stands at most as high as another; lower: s/l against t/k by the products s k and t l
 --   most-self, most-trans   the order, over a limit that is not 0
 --   Compared, compared   which of two the better is: the second where the first is none or stands lower, else the first
 --   better-either        it is one of the two
@@ -18,8 +18,8 @@ use Rattle.job_sheet.proofs.Better.{least-trans, Fair, better-left, bet
 abbrev pub AtMost : Peak → Peak → Type 0
 AtMost p q = p .steps * q .limit ≤ q .steps * p .limit
 
-abbrev pub Below : Peak → Peak → Type 0
-Below p q = p .steps * q .limit < q .steps * p .limit
+abbrev pub LowerThan : Peak → Peak → Type 0
+LowerThan p q = p .steps * q .limit < q .steps * p .limit
 
 pub most-self : (p : Peak) → AtMost p p
 most-self p = omega arith
@@ -31,7 +31,7 @@ most-trans p q r l a b = least-trans (r .steps) (r .limit) (q .steps) (q .limit)
 
 pub data Compared (p q : Peak) : Type 0 where
   none : p .limit ≡ 0 → better p q ≡ q → Compared p q
-  second : 0 < p .limit → Below p q → better p q ≡ q → Compared p q
+  second : 0 < p .limit → LowerThan p q → better p q ≡ q → Compared p q
   first : 0 < p .limit → AtMost q p → better p q ≡ p → Compared p q
 
 pub compared : (p q : Peak) → Compared p q

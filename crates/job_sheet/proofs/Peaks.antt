@@ -17,7 +17,7 @@ use Rattle.job_sheet.specs.Highest.{EntryAt, IsHighest}
 use Rattle.job_sheet.specs.Highest.EntryAt.{here, later}
 use Rattle.job_sheet.specs.Highest.IsHighest.{some, nothing}
 use Rattle.job_sheet.proofs.Better.{Fair, better-right, competes-limit}
-use Rattle.job_sheet.proofs.Compared.{AtMost, Below, most-trans, Compared, compared}
+use Rattle.job_sheet.proofs.Compared.{AtMost, LowerThan, most-trans, Compared, compared}
 use Rattle.job_sheet.proofs.Compared.Compared.{none, second, first}
 
 pub entry-place : {es : List Entry} {k : ℕ} {e : Entry} → EntryAt es k e → 0 < k
@@ -34,7 +34,7 @@ pub record Top (j m : ℕ) (es : List Entry) (p : Peak) : Type 0 where
   pub is : p ≡ peakOf (j + i) entry
   pub one : competes m entry ≡ true
   pub most : (k : ℕ) (e : Entry) → EntryAt es k e → competes m e ≡ true → AtMost (peakOf k e) p
-  pub earlier : (k : ℕ) (e : Entry) → EntryAt es k e → competes m e ≡ true → k < i → Below (peakOf k e) p
+  pub earlier : (k : ℕ) (e : Entry) → EntryAt es k e → competes m e ≡ true → k < i → LowerThan (peakOf k e) p
 
 pub data Tops (j m : ℕ) (es : List Entry) (p : Peak) : Type 0 where
   top : Top j m es p → Tops j m es p
@@ -42,7 +42,7 @@ pub data Tops (j m : ℕ) (es : List Entry) (p : Peak) : Type 0 where
 
 module _ (j m : ℕ) (d : Entry) (es : List Entry) where
   -- one behind the first is the top, where the first stands below it or does not compete
-  onward : {p : Peak} → (competes m d ≡ true → Below (peakOf (suc j) d) p) → Top (suc j) m es p → Top j m (d ∷ es) p
+  onward : {p : Peak} → (competes m d ≡ true → LowerThan (peakOf (suc j) d) p) → Top (suc j) m es p → Top j m (d ∷ es) p
   onward {p} below t = record {
     i = suc (t .i);
     entry = t .entry;
@@ -57,7 +57,7 @@ module _ (j m : ℕ) (d : Entry) (es : List Entry) where
       most k e here h = omega (arith, below h)
       most k e (later a) h = t .most _ e a h
 
-      earlier : (k : ℕ) (e : Entry) → EntryAt (d ∷ es) k e → competes m e ≡ true → k < suc (t .i) → Below (peakOf k e) p
+      earlier : (k : ℕ) (e : Entry) → EntryAt (d ∷ es) k e → competes m e ≡ true → k < suc (t .i) → LowerThan (peakOf k e) p
       earlier k e here h l = below h
       earlier k e (later a) h l = t .earlier _ e a h (omega arith)
 

@@ -4,7 +4,7 @@
 --   fieldText     the line of a field: its degree, and its figures
 --   apartText     the last line: how many outcomes were 1, 11 and 12, each behind its word
 --   fieldRoom, apartRoom   how many bytes these lines have at most
---   Printable     a line of the sheet that fits: its total of steps is one word
+--   FitsLine      a line of the sheet that fits: its total of steps is one word
 -- Assumes nothing.
 use mathlib.Core.Path.{_≡_}
 use mathlib.Core.Bool.{cond}
@@ -55,6 +55,6 @@ fieldRoom = 6 + 21 * 11
 abbrev pub apartRoom : ℕ
 apartRoom = 19 + 21 * 3
 
-pub record Printable (l : FieldLine) : Type 0 where
+pub record FitsLine (l : FieldLine) : Type 0 where
   pub word : l .steps .high ≡ 0
   pub five : length (l .refused) ≡ 5

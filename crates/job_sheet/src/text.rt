@@ -6,7 +6,7 @@ ghost use lib.ListN.{length};
 ghost use Rattle.job_text.specs.Lines.{spaced, Wrote};
 ghost use Rattle.job_sheet.specs.Calls.{toldHighest, toldField};
 ghost use Rattle.job_sheet.specs.Text.{highestText, fieldText, apartText, fieldRoom, apartRoom};
-ghost use Rattle.job_sheet.specs.Text.{Printable};
+ghost use Rattle.job_sheet.specs.Text.{FitsLine};
 use crate::FieldLine;
 use crate::Highest;
 use job_text::decimal;
@@ -39,7 +39,7 @@ fn put_highest(highest: Highest, at: usize, out: &mut [u8]) -> usize
 
 // Writes the line of the field of degree m to the front of out; its length.
 pub fn field_line(m: u16, line: FieldLine, out: &mut [u8]) -> usize
-    requires { ⌜ (fieldRoom ≤ length (now out)) × Printable line ⌝ }
+    requires { ⌜ (fieldRoom ≤ length (now out)) × FitsLine line ⌝ }
     ensures { λ n. ⌜ Wrote (fieldText m (toldField line)) 0 (now (out .entry)) n (now (out .exit))
         × (n ≤ fieldRoom) ⌝ }
 {

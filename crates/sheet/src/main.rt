@@ -3,7 +3,7 @@
 ghost use Prim.Native.Nat.{_≤_};
 ghost use lib.ListN.{length};
 ghost use Rattle.algebra.specs.Trial.{All};
-ghost use Rattle.job_sheet.specs.Text.{Printable};
+ghost use Rattle.job_sheet.specs.Text.{FitsLine};
 use field::rows::FIELDS;
 use field::rows::ROWS;
 use job_sheet::FieldLine;
@@ -13,7 +13,7 @@ use job_sheet::text::FIELD_LINE;
 
 // Prints the line of the field of degree m; false where that fails, which is told.
 fn print_field(m: u16, line: FieldLine) -> bool
-    requires { ⌜ Printable line ⌝ }
+    requires { ⌜ FitsLine line ⌝ }
 {
     let mut out = [0u8; FIELD_LINE];
     let n = job_sheet::text::field_line(m, line, &mut out);
@@ -22,7 +22,7 @@ fn print_field(m: u16, line: FieldLine) -> bool
 
 // Prints the line of each field, ascending; false where that fails, which is told.
 fn print_fields(lines: [FieldLine; FIELDS]) -> bool
-    requires { ⌜ All Printable lines ⌝ }
+    requires { ⌜ All FitsLine lines ⌝ }
 {
     for i in 0..FIELDS {
         if !print_field(ROWS[i].degree, lines[i]) {
