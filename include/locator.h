@@ -166,7 +166,8 @@ typedef struct { uint16_t outcome; size_t length; } locator_salvaged;
 /* Salvage of a damaged job file. At each place, from the front on, a record is kept if its mark is there, it is complete, and the whole call would not
    refuse its field, coefficients or cutoff; what stands behind it comes next. Else one byte is dropped. The records kept are copied unaltered, in order,
    to the front of kept, length bytes in all; what is behind them is not written. A file of such records comes back unchanged, and salvaging what was
-   kept changes nothing. The program `salvage` prints what was dropped as well.
+   kept changes nothing. The program `salvage` prints what was dropped as well. A job file has no checksum: a coefficient that was changed into another
+   element gives a record that is kept, with other roots.
    Outcomes 0, 7; 7 where room is less than n, whatever the file holds. */
 locator_salvaged locator_salvage(const uint8_t *file, size_t n, uint8_t *kept, size_t room);
 

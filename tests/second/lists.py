@@ -39,7 +39,8 @@ PASSED = "passed over"
 A_BYTE = "not decimal: a byte"
 ONE_NUMBER = "not decimal: one number"
 REFUSED = "refused under %d"
-FATES = [RECORD, PASSED, A_BYTE, ONE_NUMBER] + [REFUSED % number for number in (1, 3, 4, 25, 6)]
+CUT_OFF = "cut off"
+FATES = [RECORD, PASSED, A_BYTE, ONE_NUMBER, CUT_OFF] + [REFUSED % number for number in (1, 3, 4, 25, 6)]
 
 
 # The rules.
@@ -68,21 +69,26 @@ def asked(line):
 
 def said_of(number, fate):
     """The line of standard error for a line of the list; None where there is none."""
+    if fate == CUT_OFF:
+        return "jobs: line %d is cut off at byte 65,536: no record of it was written; the rest was not read" % number
     if fate in (A_BYTE, ONE_NUMBER):
         return "jobs: line %d: not decimal numbers: m, a cutoff and roots" % number
     return None if fate in (RECORD, PASSED) else "jobs: line %d: %s" % (number, fate)
 
 
 def walk(data):
-    """(fate, record) of each line of the first 65,536 bytes."""
-    return [asked(line) for line in data[:LIMIT].split(b"\n")]
+    """(fate, record) of each line of the first 65,536 bytes: a line that goes on behind them, or whose line feed stands behind them, is cut off."""
+    *lines, last = data[:LIMIT].split(b"\n")
+    walked = [asked(line) for line in lines]
+    return walked + [(CUT_OFF, None) if last and len(data) > LIMIT else asked(last)]
 
 
 def told_of(data, walked):
     """The bytes of standard output and the lines of standard error."""
     written = b"".join(record[3] for _, record in walked if record)
     said = [line for line in (said_of(number, fate) for number, (fate, _) in enumerate(walked, 1)) if line]
-    return written, said + ["jobs: input behind 65,536 bytes is ignored"] * (len(data) > LIMIT)
+    cut = any(fate == CUT_OFF for fate, _ in walked)
+    return written, said + ["jobs: input behind 65,536 bytes is ignored"] * (len(data) > LIMIT and not cut)
 
 
 def jobs(data):
@@ -263,8 +269,9 @@ def at_the_limit(maker):
     yield "limit-list-behind", full + b"\n" + EXAMPLE
     yield "limit-letter-behind", full + b"x"
     yield "limit-feed-last", maker.exactly(LIMIT - 1) + b"\n" + EXAMPLE
-    for kept in range(1, 11):
-        yield "limit-cut-%d" % kept, maker.exactly(LIMIT - kept - 1) + b"\n" + b"8 3 12 34 56 7x"
+    for line in (b"11 2 3 700 1999\n", b"8 3 12 34 56 7x\n", b" \t 4 1\r\n"):
+        for kept in range(len(line) + 1):  # every place of a line
+            yield "limit-cut-%d" % kept, maker.exactly(LIMIT - kept - 1) + b"\n" + line + EXAMPLE
     yield "limit-spaces", b" " * (LIMIT + 5)
     yield "limit-spaces-between", b"4 1" + b" " * (LIMIT - 4) + b"3"
     yield "limit-feeds", b"\n" * (LIMIT - 8) + b"4 1 1 2\n9 9"

@@ -8,8 +8,8 @@
     records.py salvaged FOLDER
 
 The folder is made if it is missing; the files are named NNNN-kind.bin. `cases` puts all files into files.bin and the name of each into kinds.txt, and
-`answers` the lines of each into lines.bin, each behind its length in four bytes, low byte first; it prints how many files of each kind and lines of
-each outcome there are. `salvaged` puts what the program `salvage` keeps of each file into kept.bin and its lines into report.bin in the same form.
+`answers` the lines of each into lines.bin and what `roots` says on standard error into said.bin, each behind its length in four bytes, low byte first; it
+prints how many files of each kind and lines of each outcome there are. `salvaged` puts what the program `salvage` keeps of each file into kept.bin and its lines into report.bin in the same form.
 """
 
 import argparse
@@ -272,17 +272,42 @@ def unframed(data):
         at = end
 
 
+def stop_of(data):
+    """(number of the record, place, outcome) where reading stops at 11 or 12; None where it does not."""
+    number, at = 1, 0
+    while True:
+        outcome, values, _ = R.read_record(data, at)
+        if outcome == R.END:
+            return None
+        if outcome in (11, 12):
+            return number, at, outcome
+        number, at = number + 1, values[-1]
+
+
+def said_of(program, data):
+    """What `roots` or `sheet` says on standard error of a file that it reads and prints."""
+    lines = []
+    stop = stop_of(data[:LIMIT])
+    if stop:
+        why = "its mark is missing" if stop[2] == 11 else "it ends early"
+        lines.append("%s: reading stopped at record %d (byte %d): %s; the rest was not read; `salvage` keeps what can be kept" % (program, *stop[:2], why))
+    if len(data) > LIMIT:
+        lines.append("%s: input behind 65,536 bytes is ignored" % program)
+    return "".join(line + "\n" for line in lines).encode()
+
+
 def answers(folder):
-    """The lines of each file in one."""
+    """The lines of each file in one, and what `roots` says of each."""
     with open(os.path.join(folder, "files.bin"), "rb") as file:
         data = file.read()
     with open(os.path.join(folder, "kinds.txt")) as file:
         names = [name.split("-")[0] for name in file.read().split("\n")[:-1]]
     outcomes = {}
-    with open(os.path.join(folder, "lines.bin"), "wb") as file:
+    with open(os.path.join(folder, "lines.bin"), "wb") as file, open(os.path.join(folder, "said.bin"), "wb") as said:
         for one in unframed(data):
             texts = R.roots_lines(one)
             file.write(framed("".join(text + "\n" for text in texts).encode()))
+            said.write(framed(said_of("roots", one)))
             for text in texts:
                 outcome = int(text.split()[1])
                 outcomes[outcome] = outcomes.get(outcome, 0) + 1

@@ -511,6 +511,10 @@ def check_records(rng, count):
     example = records.EXAMPLE
     lines = ["1 0 3 4 1 2 3", "2 1", "3 0 3 0 1 6 7"]
     check("the input of three records of RULES 6.4", R.roots_lines(example) == lines)
+    stop = b"roots: reading stopped at record 4 (byte 33): %s; the rest was not read; `salvage` keeps what can be kept\n"
+    check("nothing is said where reading ends", records.said_of("roots", example) == b"")
+    check("reading stops without a mark", records.said_of("roots", example + b"\x4c\x53\x04") == stop % b"its mark is missing")
+    check("reading stops at a record that ends early", records.said_of("roots", example + b"\x4c\x52\x04") == stop % b"it ends early")
     check("no input, no line", R.roots_lines(b"") == [])
     for length in range(len(example) + 1):
         whole = [line for line, end in zip(lines, (13, 20, 33)) if end <= length]
@@ -640,8 +644,10 @@ def check_lists():
         check("lists: refused", lists.jobs(asked) == (b"", ["jobs: line 1: refused under %d" % number]), asked)
     full = text_line(11, 1, range(33))
     check("lists: the first 35 numbers count", lists.jobs(full + b" 5 70000")[1] == lists.jobs(full)[1] == ["jobs: line 1: refused under 3"])
-    cut = b"\n" * 65529 + b"4 1 1 2 3"
-    check("lists: the 65,536th byte ends the last line", lists.jobs(cut) == (writer.write(4, 1, [1, 2], bytes(11))[2], ["jobs: input behind 65,536 bytes is ignored"]))
+    told = ["jobs: line 65530 is cut off at byte 65,536: no record of it was written; the rest was not read"]
+    check("lists: a line that is cut off", lists.jobs(b"\n" * 65529 + b"4 1 1 2 3") == (b"", told))
+    check("lists: its line feed behind the limit", lists.jobs(b"\n" * 65529 + b"4 1 1 2\n") == (b"", told))
+    check("lists: an input that ends at the limit", lists.jobs(b"\n" * 65527 + b"4 1 1 2 3") == (one, []))
 
 
 # The sheet.

@@ -5,8 +5,8 @@
     sheet.py lines FILE
 
 The folder is made if it is missing. `cases` puts all files into files.bin and
-the name of each into kinds.txt; `answers` the lines of each into lines.bin, each
-part behind its length in four bytes, low byte first. Files named join-first,
+the name of each into kinds.txt; `answers` the lines of each into lines.bin and
+what `sheet` says on standard error into said.bin, each part behind its length in four bytes, low byte first. Files named join-first,
 join-second and join-both stand one behind the other: the sheet of the last must
 be the sums that the rule makes of the first two, or `answers` fails. It prints
 what was counted, and fails where a column was 0 in every file, or a kind of
@@ -321,9 +321,10 @@ def answers(folder):
     kinds = read("kinds.txt").decode().split("\n")[:-1]
     files = list(records.unframed(read("files.bin")))
     every = [sheet(data[:LIMIT]) for data in files]
-    with open(os.path.join(folder, "lines.bin"), "wb") as part:
-        for figures in every:
+    with open(os.path.join(folder, "lines.bin"), "wb") as part, open(os.path.join(folder, "said.bin"), "wb") as said:
+        for data, figures in zip(files, every):
             part.write(records.framed("".join(line + "\n" for line in lines_of(figures)).encode()))
+            said.write(records.framed(records.said_of("sheet", data)))
     looked = check_joins(kinds, every)
     tally(kinds, files, every)
     print("joined files: %d sheets are the sums of the two before them" % looked)

@@ -1,8 +1,9 @@
--- Two outcomes that the contract of `line_record` admits coincide.
---   lists-once   the answer, and every byte of the room
+-- Two outcomes that the contract of `record_at` admits coincide.
+--   lists-once      of a whole line: the answer, and every byte of the room
+--   lists-at-once   of the line at a place
 -- Assumes nothing.
 use mathlib.Core.Path.{_≡_, refl, sym, ap, subst, _∙_}
-use mathlib.Core.Bool.{true, false, true≢false}
+use mathlib.Core.Bool.{Bool, true, false, true≢false}
 use mathlib.Core.List.{List, _∷_}
 use Prim.Native.Nat.{ℕ}
 use Rattle.job_records.proofs.Forward.{never}
@@ -10,7 +11,8 @@ use Rattle.job_writer.specs.Calls.{Writes}
 use Rattle.job_writer.specs.declared.Written.{Written}
 use Rattle.job_writer.proofs.Coincide.{write-coincide}
 use Rattle.job_lists.specs.Lines.{legible}
-use Rattle.job_lists.specs.Calls.{Lists}
+use Rattle.job_lists.specs.Calls.{Lists, ListsAt}
+use Rattle.job_lists.specs.Calls.ListsAt.{cut, whole}
 use Rattle.job_lists.specs.Calls.Lists.{illegible, blank, alone, asks}
 use Rattle.job_lists.specs.declared.Listed.{Listed}
 use Rattle.job_lists.specs.declared.Listed.the-variants.{Answer}
@@ -49,3 +51,10 @@ lists-once (alone t e) (blank u d) = never (cc)
 lists-once (alone t e) (asks u d q) = never (cc)
 lists-once (asks t e p) (blank u d) = never (cc)
 lists-once (asks t e p) (alone u d) = never (cc)
+
+pub lists-at-once : {text room : List ℕ} {at : ℕ} {ended : Bool} {r s : Listed} {x y : List ℕ}
+    → ListsAt text at ended room r x → ListsAt text at ended room s y → (r ≡ s) × (x ≡ y)
+lists-at-once (cut f) (cut g) = (refl, refl)
+lists-at-once (whole t p) (whole u q) = lists-once p q
+lists-at-once (cut f) (whole t p) = absurd (true≢false (sym t ∙ f))
+lists-at-once (whole t p) (cut f) = absurd (true≢false (sym t ∙ f))

@@ -1,21 +1,22 @@
 -- The loops that look for the end of a line and for a byte that is not legible.
 --   end-here, end-on, end-over   where a line ends: at a line feed, behind another byte, at the end of the text
 --   end-within     a line that begins within the text ends there
+--   line-is        its bytes are those from its place to its end
 --   legible-not, legible-on, legible-over   a byte that is not legible, one that is, the end of the line
 -- Assumes nothing.
 use mathlib.Core.Path.{_≡_, sym, ap, _∙_}
 use mathlib.Core.Bool.{Bool, true, false, cond, _&&_}
 use mathlib.Core.List.{List, [], _∷_}
-use Prim.Native.Nat.{ℕ, suc, _+_, _≤_, _<_}
+use Prim.Native.Nat.{ℕ, suc, _+_, _-_, _≤_, _<_}
 use native.Mathlib.Nat.{add-zero}
 use native.Mathlib.Numerals.{add-one}
 use native.Mathlib.Omega.{arith}
 use borrow.Author.Tests.{eq-eqb, ne-eqb}
 use lib.Dec.{eqb}
-use lib.ListN.{length, getD, drop, length-drop, drop-of-length-le}
+use lib.ListN.{length, getD, take, drop, length-drop, drop-of-length-le}
 use lib.Seq.{drop-cons}
 use Rattle.job_text.specs.Lines.{lineFeed}
-use Rattle.job_lists.specs.Lines.{isLegible, lineLength, lineEnd, legible}
+use Rattle.job_lists.specs.Lines.{isLegible, lineLength, lineEnd, lineAt, legible}
 
 -- what stands at a place, and what is behind it
 split : (l : List ℕ) (i : ℕ) → i < length l → drop i l ≡ getD l i 0 ∷ drop (i + 1) l
@@ -52,6 +53,11 @@ line-short (b ∷ l) = go (eqb b lineFeed) (line-short l)
 
 pub end-within : (text : List ℕ) (at : ℕ) → at ≤ length text → lineEnd text at ≤ length text
 end-within text at h = omega (arith, line-short (drop at text), length-drop at text)
+
+pub line-is : (text : List ℕ) (at end : ℕ) → end ≡ lineEnd text at → take (end - at) (drop at text) ≡ lineAt text at
+line-is text at end e =
+    let n : end - at ≡ lineLength (drop at text) = omega arith in
+    ap (λ (k : ℕ). take k (drop at text)) n
 
 -- ---- `legible`
 

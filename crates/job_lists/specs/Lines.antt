@@ -3,6 +3,8 @@
 --   isBlank, isDigit, isLegible   is a byte a blank, a digit, or one of both?
 --   lineLength     how many bytes stand before the first line feed; all of them where there is none
 --   lineEnd        where the line ends that stands at a place
+--   lineAt         the bytes of that line
+--   endsWhole      is a line whole that ends at a place: does a line feed end it, or the end of the input?
 --   legible        is every byte of a line a digit or a blank?
 --   highestNumber  the highest number that counts;  capped  a number above it counts as it
 --   soFar          what the digits of a word spell that were read; 0 where none was
@@ -17,7 +19,7 @@ use mathlib.Core.List.{List, [], _∷_, _++_}
 use mathlib.Core.Option.{Option, none, some}
 use Prim.Native.Nat.{ℕ, suc, _+_, _-_, _*_}
 use lib.Dec.{eqb, ltb, leb}
-use lib.ListN.{take, drop}
+use lib.ListN.{length, take, drop}
 use Rattle.job_text.specs.Lines.{digitByte, space, lineFeed}
 use Rattle.table_rules.specs.Limit.{limit}
 
@@ -43,6 +45,13 @@ lineLength (b ∷ bs) = cond (eqb b lineFeed) 0 (suc (lineLength bs))
 -- before the next line feed, or at the end of the text
 abbrev pub lineEnd : List ℕ → ℕ → ℕ
 lineEnd text at = at + lineLength (drop at text)
+
+abbrev pub lineAt : List ℕ → ℕ → List ℕ
+lineAt text at = take (lineLength (drop at text)) (drop at text)
+
+-- where a line feed ends it, it ends before the text does; `ended` says that the input ends with the text
+unfoldable pub endsWhole : List ℕ → ℕ → Bool → Bool
+endsWhole text end ended = ended || ltb end (length text)
 
 unfoldable pub legible : List ℕ → Bool
 legible [] = true

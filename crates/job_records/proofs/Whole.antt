@@ -1,6 +1,8 @@
 -- A file is read to its end.
 --   reads          from every place on reading ends
 --   reads-once     in one way
+--   HaltsFrom      how reading ends from a place on is how it ends from the start
+--   halts-from, halts-on   so at the start, and behind a record
 --   front-judged   what a complete record gives does not depend on what is behind it
 --   record-read    a complete record in a file is read at its place
 --   reads-through  complete records are read one after the other, each at its place, and then what is behind them
@@ -20,8 +22,10 @@ use Rattle.refusals.specs.Order.Passed.{none as all-passed}
 use Rattle.refusals.proofs.Order.{passes, cases, given-decides, passed-decides}
 use Rattle.job_records.specs.Layout.{headLength, bodyLength, recordLength, part}
 use Rattle.job_records.specs.Reading.{Outcome, startTests, recordTests, judged, readHere, readAt}
-use Rattle.job_records.specs.Files.{Reads, Complete, joinedFile, outcomesOf, AllComplete}
+use Rattle.job_records.specs.Files.{Reads, Halts, Complete, joinedFile, outcomesOf, AllComplete}
 use Rattle.job_records.specs.Files.Reads.{over, stop, on}
+use Rattle.job_records.specs.Files.Halts.{on as on-halts}
+use Rattle.job_records.specs.declared.Ending.{Ending}
 use Rattle.job_records.specs.Files.AllComplete.{none, one}
 use Rattle.job_records.proofs.Starting.{goes-on}
 use Rattle.job_records.proofs.Forward.{never, onward}
@@ -64,6 +68,27 @@ reads-once {file} (on {next = n} {os = os} e q) (on {next = m} {os = ps} f r) =
     let same : m ≡ n = cc in
     let rest : os ≡ ps = reads-once q (subst (λ i. Reads file i ps) same r) in
     cc
+
+-- ---- how it ends
+
+-- the record of number k stands at the place, and there are no more records than bytes
+pub record HaltsFrom (file : List ℕ) (at k : ℕ) : Type 0 where
+  pub all : {r : Ending} → Halts file at k r → Halts file 0 1 r
+  pub within : at ≤ length file
+  pub few : k ≤ at + 1
+
+pub halts-from : (file : List ℕ) → HaltsFrom file 0 1
+halts-from file = record { all = λ h. h; within = omega arith; few = omega arith }
+
+pub halts-on : {file : List ℕ} {at k number next : ℕ} {values : List ℕ}
+    → readAt file at ≡ Outcome.gives number (next ∷ values) → HaltsFrom file at k → HaltsFrom file next (k + 1)
+halts-on {file} {at} e h =
+    let w = onward file at e in
+    record {
+      all = λ r. h .all (on-halts e r);
+      within = w .within;
+      few = omega (arith, h .few, w .ahead);
+    }
 
 -- ---- complete records
 

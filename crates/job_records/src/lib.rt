@@ -7,6 +7,7 @@ ghost use Rattle.refusals.specs.Admitting.{Admits};
 ghost use Rattle.find_admit.specs.Values.{Measured};
 ghost use Rattle.job_records.specs.Layout.{headLength, degreeByte, word, words, part};
 ghost use Rattle.job_records.specs.Cutoffs.{statedCutoff, statedBy, asked};
+ghost use Rattle.job_records.specs.Files.{Halts};
 ghost use Rattle.job_records.specs.Reading.{toldRead, answered, bytesOf, readHere, ReadsAt, callTests, Spelled};
 use find_admit::admit_call;
 use refusals::Admission;
@@ -44,6 +45,19 @@ pub enum Read {
     Record(Job),
     Refused { refusal: Refusal, next: usize },
     Stopped(Refusal),
+}
+
+// Where reading stopped: the number of the record, counted from 1, its place in the file, and its refusal.
+pub struct Stop {
+    pub record_number: u64,
+    pub at: usize,
+    pub refusal: Refusal,
+}
+
+// How the reading of a file ends: at its end, or it stops.
+pub enum Ending {
+    Whole,
+    Halted(Stop),
 }
 
 // The number that two bytes spell.
@@ -162,6 +176,30 @@ pub fn read_record(file: &[u8], at: usize) -> Read
         return Read::End;
     }
     read_here(at, &file[at..])
+}
+
+// How the reading of a file ends.
+pub fn read_through(file: &[u8]) -> Ending
+    ensures { λ r. ⌜ Halts (now (file .entry)) 0 1 r ⌝ }
+{
+    let mut at = 0;
+    let mut k: u64 = 1;
+    loop {
+        let read = read_record(file, at);
+        match read {
+            Read::End => return Ending::Whole,
+            Read::Stopped(refusal) => {
+                return Ending::Halted(Stop {
+                    record_number: k,
+                    at,
+                    refusal,
+                });
+            }
+            Read::Refused { next, .. } => at = next,
+            Read::Record(job) => at = job.next,
+        }
+        k += 1;
+    }
 }
 
 // The m of the record at a place, whose head is all there: also of one that is refused.

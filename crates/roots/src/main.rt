@@ -1,11 +1,12 @@
 // Reads job records from standard input, at most 65,536 bytes, and prints the line of each (docs/RULES.md section 6).
-// Where a read or a write fails, standard error says so and the program stops; that there was input behind is said
-// there too.
+// Where a read or a write fails, standard error says so and the program stops; at which record reading stopped, and that
+// there is input past the limit, is said there too.
 ghost use Prim.Native.Nat.{_+_, _≤_, _<_, _^_};
 ghost use lib.ListN.{length};
 ghost use Rattle.job_records.specs.Reading.{Stands};
 ghost use Rattle.job_lines.specs.Printing.{Ahead};
 use job_lines::Next;
+use job_records::Ending;
 use job_records::Read;
 use job_text::LINE;
 
@@ -51,14 +52,50 @@ fn run(file: &[u8]) -> usize
     at
 }
 
+// Says where reading stopped.
+fn tell_stop(file: &[u8]) {
+    match job_records::read_through(file) {
+        Ending::Whole => {}
+        Ending::Halted(stop) => {
+            let refusal = stop.refusal;
+            job_streams::tell_stop(
+                b"roots",
+                stop.record_number,
+                stop.at,
+                refusals::number(refusal),
+            );
+        }
+    }
+}
+
+// Prints the lines of what was read, and says what was not.
+fn print_lines(file: &[u8])
+    requires { ⌜ length (now file) ≤ 65536 ⌝ }
+{
+    let place = run(file);
+    if place == FAILED {
+        return;
+    }
+    if place == OVER {
+        tell_stop(file);
+    }
+    job_streams::tell_behind(b"roots", file.len());
+}
+
 fn main() {
+    if !job_streams::starts(
+        b"roots",
+        b"roots <jobs.lr",
+        b"Prints a line for each record of a job file: its number, 0 or the number of its refusal, and where it is\n\
+accepted how many roots, the steps and the roots.\n",
+    ) {
+        return;
+    }
     let mut buffer = io::large_buffer();
     let came = job_streams::read_all(b"roots", &mut buffer);
     let n = came.bytes;
     if came.failed {
         return;
     }
-    if run(&buffer[..n]) != FAILED {
-        job_streams::tell_behind(b"roots", n);
-    }
+    print_lines(&buffer[..n]);
 }

@@ -1,11 +1,13 @@
 // Prints the monthly sheet of a job file (docs/RULES.md section 13.4): reads standard input as `roots` does, and
-// prints the names of the columns, a line for each field, and how many outcomes were 1, 11 and 12.
+// prints the names of the columns, a line for each field, and how many outcomes were 1, 11 and 12. Standard error says
+// what `roots` says there.
 ghost use Prim.Native.Nat.{_≤_};
 ghost use lib.ListN.{length};
 ghost use Rattle.algebra.specs.Trial.{All};
 ghost use Rattle.job_sheet.specs.Text.{FitsLine};
 use field::rows::FIELDS;
 use field::rows::ROWS;
+use job_records::Ending;
 use job_sheet::FieldLine;
 use job_sheet::Sheet;
 use job_sheet::text::APART_LINE;
@@ -39,11 +41,10 @@ fn print_apart(unknown: u64, mark: u64, short: u64) -> bool {
     job_streams::print(b"sheet", &out[..n])
 }
 
-// Prints the sheet of what was read; false where a line could not be printed.
-fn print_sheet(file: &[u8]) -> bool
-    requires { ⌜ length (now file) ≤ 65536 ⌝ }
+// Prints the lines of a sheet; false where one could not be printed.
+fn print_lines(sheet: Sheet) -> bool
+    requires { ⌜ All FitsLine (sheet .lines) ⌝ }
 {
-    let sheet = job_sheet::sheet_of(file);
     let lines = sheet.lines;
     if !job_streams::print(
         b"sheet",
@@ -57,19 +58,62 @@ fn print_sheet(file: &[u8]) -> bool
     print_apart(sheet.unknown, sheet.mark, sheet.short)
 }
 
-// Reads standard input into the room, prints its sheet, and tells if there is more behind it.
+// Did reading stop, under 11 or 12?
+fn has_stopped(sheet: Sheet) -> bool {
+    if sheet.mark > 0 {
+        return true;
+    }
+    sheet.short > 0
+}
+
+// Says where reading stopped.
+fn tell_stop(file: &[u8]) {
+    match job_records::read_through(file) {
+        Ending::Whole => {}
+        Ending::Halted(stop) => {
+            let refusal = stop.refusal;
+            job_streams::tell_stop(
+                b"sheet",
+                stop.record_number,
+                stop.at,
+                refusals::number(refusal),
+            );
+        }
+    }
+}
+
+// Prints the sheet of what was read, and says what was not read.
+fn print_sheet(file: &[u8])
+    requires { ⌜ length (now file) ≤ 65536 ⌝ }
+{
+    let sheet = job_sheet::sheet_of(file);
+    if !print_lines(sheet) {
+        return;
+    }
+    if has_stopped(sheet) {
+        tell_stop(file);
+    }
+    job_streams::tell_behind(b"sheet", file.len());
+}
+
+// Reads standard input into the room and prints its sheet.
 fn run(room: &mut [u8]) {
     let came = job_streams::read_all(b"sheet", room);
     let n = came.bytes;
     if came.failed {
         return;
     }
-    if print_sheet(&room[..n]) {
-        job_streams::tell_behind(b"sheet", n);
-    }
+    print_sheet(&room[..n]);
 }
 
 fn main() {
+    if !job_streams::starts(
+        b"sheet",
+        b"sheet <jobs.lr",
+        b"Prints for each field how many records of a job file are accepted and refused, and their roots and steps.\n",
+    ) {
+        return;
+    }
     let mut buffer = io::large_buffer();
     run(&mut buffer);
 }
