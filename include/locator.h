@@ -157,8 +157,20 @@ typedef struct { uint16_t outcome, flips; } locator_corrected;
    Outcomes 0, 22, 23, 24, in this order: 22 where bytes is not 256 or the last bit is set, whatever the strength; 23
    where strength is not 1 to 8; then 24. A refusal writes nothing.
 
-   examples/c/encode.h makes codewords; examples/c/blocks.c records and corrects them. */
+   locator_encode makes codewords; examples/c/blocks.c records and corrects them. */
 locator_corrected locator_correct(uint16_t strength, uint8_t *word, size_t bytes);
+
+/* What the encoder gives: how many check bits the word has, 11 t, and 0 where refused. */
+typedef struct { uint16_t outcome, checks; } locator_encoded;
+
+/* The block encoder. Bits 11 t to 2046 of the word are its data: 2036 bits at strength 1, 1959 at strength 8. They stay
+   as they are. Bits 0 to 11 t - 1, the check bits, are written, whatever they held, so that the word is a codeword of
+   strength t. There is exactly one codeword with these data. locator_correct takes it with 0 flips, and gives it back
+   where at most t of its bits are wrong; encoding a codeword changes nothing.
+
+   Outcomes 0, 22, 23, in this order: 22 where bytes is not 256 or the last bit is set, whatever the strength; 23 where
+   strength is not 1 to 8. A refusal writes nothing. examples/c/blocks.c has an example. */
+locator_encoded locator_encode(uint16_t strength, uint8_t *word, size_t bytes);
 
 /* What salvage gives: how many bytes it kept, 0 where refused. */
 typedef struct { uint16_t outcome; size_t length; } locator_salvaged;

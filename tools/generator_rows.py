@@ -1,11 +1,15 @@
 #!/usr/bin/env python3
-"""generator_rows.py: writes the constants of the block corrector from the field polynomial alone.
+"""generator_rows.py: writes the constants of the block corrector and encoder from the field polynomial alone.
 
-  crates/corrector_generator/src/rows.rt    the remainders by the generator of strength 8; proofs/rows/ has the proofs of the arms
-  crates/corrector_syndromes/src/powers.rt  the powers of a, a^3, .., a^15
-The generator is the product of the minimal polynomials of a, a^3, .., a^15 in field 11, where a is 2; its degree is 88.
-A row function of digits k to k + w - 1 is a match: its arm c has the remainder of c x^(88 + k), the 64 low digits and
-the others."""
+  crates/corrector_generator/specs/Polynomials.antt   the generators of strengths 1 to 8, as numbers
+  crates/corrector_generator/src/rows8.rt, rows5.rt   the remainders by those of strengths 8 and 5; proofs/rows8, proofs/rows5 have
+                                                      the proofs of their arms, proofs/Bases8.antt, Bases5.antt what those cite
+  crates/corrector_remainder/src/raised.rt            the generators, moved up to the highest digit of a register
+  crates/corrector_syndromes/src/powers.rt            the powers of a, a^3, .., a^15
+The generator of strength t is the product of the minimal polynomials of a, a^3, .., a^(2t-1) in field 11, where a is 2;
+its degree d is 11 t. A row function of digits k to k + w - 1 is a match: its arm c has the remainder of c x^(d + k), at
+strength 8 the 64 low digits and the others."""
+import collections
 import sys
 
 sys.dont_write_bytecode = True
@@ -13,6 +17,14 @@ from repository import CRATES, command
 
 FIELD = 0b100000000101  # x^11 + x^2 + 1
 PARTS = [(0, 7), (7, 7), (14, 6), (20, 6), (26, 6)]
+
+# The rows of a generator: its strength, what a row returns, and the number that this holds.
+Rows = collections.namedtuple("Rows", "strength type result")
+TWO_PARTS = Rows(8, "Remainder", "remainderOf r")
+ONE_NUMBER = Rows(5, "u64", "r")
+STRONGEST = 8
+CRATE = "corrector_generator"
+SCRIPT = "Written by tools/generator_rows.py."
 
 
 def times(a, b):
@@ -58,10 +70,10 @@ def sum_xor(numbers):
     return r
 
 
-def generator():
-    """The generator of strength 8, as a number."""
+def generator(strength):
+    """The generator of a strength, as a number."""
     g = 1
-    for k in range(8):
+    for k in range(strength):
         g = carry_free(g, minimal(power(2, 2 * k + 1)))
     return g
 
@@ -73,25 +85,70 @@ def remainder(n, g):
     return n
 
 
-def function(k, w, g):
+def polynomials():
+    """The specs of the generators as numbers."""
+    yield f"-- The generators of strengths 1 to {STRONGEST}, as numbers. {SCRIPT} What they must be is a law,\n"
+    yield "-- proofs/Zeros: that of strength t has degree 11 t, and is zero at a, a^3, .., a^(2t-1).\n"
+    yield "--   polynomials   from strength 1 on\n-- Assumes nothing.\n"
+    yield "use mathlib.Core.List.{List, [], _∷_}\nuse Prim.Native.Nat.{ℕ}\n\n"
+    yield "-- from strength 1 on\nabbrev pub polynomials : List ℕ\n" + listing("polynomials", map(generator, range(1, STRONGEST + 1)), 105)
+
+
+def listing(name, numbers, width=90):
+    """A list of numbers as a definition, its lines no longer than width."""
+    lines = [f"{name} ="]
+    for word in " ∷ ".join([*map(str, numbers), "[]"]).split(" ∷ "):
+        mark = "" if lines[-1] == f"{name} =" else " ∷"
+        if len(lines[-1]) + len(mark) + len(word) + 1 > width:
+            lines.append("   ")
+        lines[-1] += f"{mark} {word}"
+    return "\n".join(lines) + "\n"
+
+
+def told(r, rows):
+    """A remainder as an arm tells it."""
+    return str(r) if rows is ONE_NUMBER else f"{rows.type}({r % 2 ** 64}, {r >> 64})"
+
+
+def function(k, w, rows):
     """The row function of digits k to k + w - 1."""
-    yield f"\n// The remainder of c x^{88 + k}: digits {k} to {k + w - 1} of what leaves at the top.\n"
-    yield f"pub fn row{k}(c: u64) -> Remainder\n    requires {{ ⌜ c < {1 << w} ⌝ }}\n"
-    yield f"    ensures {{ λ r. ⌜ remainderOf r ≡ backFromTop (c * {1 << k}) ⌝ }}\n{{\n    match c {{\n"
+    degree, g = 11 * rows.strength, generator(rows.strength)
+    yield f"\n// The remainder of c x^{degree + k}: digits {k} to {k + w - 1} of what leaves at the top.\n"
+    yield f"pub fn row{k}(c: u64) -> {rows.type}\n    requires {{ ⌜ c < {1 << w} ⌝ }}\n"
+    yield f"    ensures {{ λ r. ⌜ {rows.result} ≡ backFromTop (generatorAt {rows.strength}) (c * {1 << k}) ⌝ }}\n{{\n    match c {{\n"
     for c in range(1 << w):
-        r = remainder(c << (88 + k), g)
-        yield f"        {c} => Remainder({r % 2 ** 64}, {r >> 64}),\n"
-    yield "        _ => Remainder(0, 0),\n    }\n}\n"
+        yield f"        {c} => {told(remainder(c << (degree + k), g), rows)},\n"
+    yield f"        _ => {told(0, rows)},\n    }}\n}}\n"
 
 
-def rows(g):
+def functions(rows):
     """The file of the row functions."""
-    yield "// Remainders by the generator, as constants in place: a match whose arms are numbers is a table in the\n"
-    yield "// program's read-only part, and nothing is built at a call. Written by tools/generator_rows.py.\n"
+    names = "generatorAt, backFromTop" + (", remainderOf" if rows is TWO_PARTS else "")
+    yield f"// Remainders by the generator of strength {rows.strength}, as constants in place: a match whose arms are numbers is a table in\n"
+    yield f"// the program's read-only part, and nothing is built at a call. {SCRIPT}\n"
     yield "ghost use mathlib.Core.Path.{_≡_};\nghost use Prim.Native.Nat.{_*_, _<_};\n"
-    yield "ghost use Rattle.corrector_generator.specs.Rows.{remainderOf, backFromTop};\nuse crate::Remainder;\n"
+    yield f"ghost use Rattle.{CRATE}.specs.Generators.{{{names}}};\n" + (f"use crate::{rows.type};\n" if rows is TWO_PARTS else "")
     for k, w in PARTS:
-        yield from function(k, w, g)
+        yield from function(k, w, rows)
+
+
+def bases(rows):
+    """The law file of the arms of a generator."""
+    s = rows.strength
+    yield f"-- The arms of rows{s}, each the sum over its key's digits of a basis: `by-sum` of Bases at the generator of strength {s}.\n-- {SCRIPT}\n"
+    yield "--   sum0 ..   the sum of the basis of row0 .. over the digits of a number\n"
+    yield "--   arm0 ..   so an arm of row0 .. is the remainder of its key\n-- Assumes nothing.\n"
+    yield "use mathlib.Core.Path.{_≡_, refl}\nuse mathlib.Core.List.{List, [], _∷_}\nuse Prim.Native.Nat.{ℕ, _*_, _<_}\n"
+    yield "use Rattle.field.specs.Field.{reduce, horner, cut}\nuse Rattle.field.proofs.Additive.{linearMap, basis}\n"
+    yield f"use Rattle.{CRATE}.specs.Generators.{{generatorOf, generatorAt, backFromTop}}\n"
+    yield f"use Rattle.{CRATE}.proofs.Bases.{{by-sum}}\n"
+    for k, w in PARTS:
+        d, g = 11 * s + k, generator(s)
+        yield f"\n-- the remainders of x^{d}, x^{d + 1}, ..\nbasis{k} : List ℕ\n" + listing(f"basis{k}", (remainder(1 << (d + i), g) for i in range(w)))
+        yield f"\n-- their sum over the digits of a number\nunfoldable pub sum{k} : ℕ → ℕ\nunfolding linearMap basis{k}\nsum{k} c = linearMap basis{k} c\n"
+        yield f"\n-- an arm of row{k}\npub arm{k} : {{c m v : ℕ}} → c < {1 << w} → c ≡ m → v ≡ sum{k} m → v ≡ backFromTop (generatorAt {s}) (c * {1 << k})\n"
+        yield f"unfolding sum{k} basis{k} basis backFromTop generatorOf reduce horner cut\n"
+        yield f"arm{k} h key f = by-sum (generatorAt {s}) {k} {w} basis{k} refl h key f\n"
 
 
 def arm(name, k, i):
@@ -100,15 +157,14 @@ def arm(name, k, i):
     yield f"{name} c = arm{k} (c .before .pre) (c .match .keys{i + 1}) refl\n\n"
 
 
-def proof(k, w):
+def proof(k, w, rows):
     """The proof of a row function: each arm by its key, and no other number is below the bound."""
     names = ["returns"] + [f"returns-{i + 1}" for i in range(1, (1 << w) + 1)]
-    rest = names[-1]
-    yield f"-- `corrector_generator::rows::row{k}` meets its contract: each arm is the sum of the basis over its key's digits.\n"
-    yield "-- Written by tools/generator_rows.py. Assumes nothing.\nuse mathlib.Core.Path.{refl}\n"
-    yield f"use Rattle.corrector_generator.proofs.Bases.{{NotBelow, none-left, sum{k}, arm{k}}}\n"
-    yield f"use Rattle.corrector_generator.proofs.rows.row{k}.Statement.{{statement}}\n"
-    yield f"use Rattle.corrector_generator.proofs.rows.row{k}.Tie as tie\n\n"
+    rest, own, module = names[-1], f"Rattle.{CRATE}.proofs", f"rows{rows.strength}"
+    yield f"-- `{CRATE}::{module}::row{k}` meets its contract: each arm is the sum of the basis over its key's digits.\n"
+    yield f"-- {SCRIPT} Assumes nothing.\nuse mathlib.Core.Path.{{refl}}\n"
+    yield f"use {own}.Bases.{{NotBelow, none-left}}\nuse {own}.Bases{rows.strength}.{{sum{k}, arm{k}}}\n"
+    yield f"use {own}.{module}.row{k}.Statement.{{statement}}\nuse {own}.{module}.row{k}.Tie as tie\n\n"
     for i, name in enumerate(names[:-1]):
         yield from arm(name, k, i)
     yield f"{rest} : tie.Need-{rest}\nunfolding NotBelow\n"
@@ -117,12 +173,37 @@ def proof(k, w):
     yield "\n    ".join(names) + ")\n"
 
 
+def raised(t, rows):
+    """The generator of strength t, moved up so that its highest digit is the highest of the register; at the register's own strength its half."""
+    return (generator(t) << (11 * (rows.strength - t))) // 2
+
+
+def raised_functions():
+    """The file of the generators, moved up."""
+    yield f"// The generators, moved up to the highest digit of a register of 88 or 55 binary digits.\n// {SCRIPT}\n"
+    yield "ghost use mathlib.Core.Path.{_≡_};\nghost use Prim.Native.Nat.{_-_, _*_, _/_, _^_, _≤_};\n"
+    yield f"ghost use Rattle.{CRATE}.specs.Generators.{{generatorOf}};\n"
+    yield "ghost use Rattle.corrector_remainder.specs.Remainder.{restOf};\nuse crate::Rest;\n"
+    for rows, least, result, value in ((TWO_PARTS, 6, "Rest", "restOf g"), (ONE_NUMBER, 1, "u64", "g")):
+        s = rows.strength
+        yield f"\n// The generator of a strength from {least} to {s}, its highest digit at {11 * s - 1}; at strength {s}, where no digit is cut, its half.\n"
+        yield f"pub fn raised{s}(t: u16) -> {result}\n    requires {{ ⌜ ({least} ≤ t) × (t ≤ {s}) ⌝ }}\n"
+        yield f"    ensures {{ λ g. ⌜ {value} ≡ generatorOf t * 2 ^ ({11 * s} - 11 * t) / 2 ⌝ }}\n{{\n    match t {{\n"
+        for t in range(least, s + 1):
+            key, g = (t if t < s else "_"), raised(t, rows)
+            if rows is ONE_NUMBER:
+                yield f"        {key} => {g},\n"
+            else:
+                yield f"        {key} => Rest {{\n            lo: {g % 2 ** 64},\n            hi: {g >> 64},\n        }},\n"
+        yield "    }\n}\n"
+
+
 def powers():
     """The file of the powers: x^j at a, a^3, .., a^15."""
-    yield "// The constant table of the syndromes. Written by tools/generator_rows.py.\n\n"
-    yield "// x^j at a, a^3, .., a^15, for j below 88: eight in a row.\npub const ODD_POWERS: [u16; 704] = [\n"
-    for j in range(88):
-        for k in range(8):
+    yield f"// The constant table of the syndromes. {SCRIPT}\nuse crate::POWERS;\n\n"
+    yield f"// x^j at a, a^3, .., a^15, for j below {11 * STRONGEST}: eight in a row.\npub const ODD_POWERS: [u16; POWERS] = [\n"
+    for j in range(11 * STRONGEST):
+        for k in range(STRONGEST):
             yield f"    {power(power(2, 2 * k + 1), j)},\n"
     yield "];\n"
 
@@ -132,10 +213,18 @@ def main():
     args = command(__doc__, "0 written, or with --check none differs; 1 one differs")
     args.add_argument("--check", action="store_true", help="write nothing, and say which files differ")
     opt = args.parse_args()
-    g = generator()
-    files = {CRATES / "corrector_generator/src/rows.rt": "".join(rows(g)), CRATES / "corrector_syndromes/src/powers.rt": "".join(powers())}
-    for k, w in PARTS:
-        files[CRATES / f"corrector_generator/proofs/rows/row{k}/Proof.antt"] = "".join(proof(k, w))
+    own = CRATES / CRATE
+    files = {
+        CRATES / "corrector_syndromes/src/powers.rt": powers(),
+        CRATES / "corrector_remainder/src/raised.rt": raised_functions(),
+        own / "specs/Polynomials.antt": polynomials(),
+    }
+    for rows in (TWO_PARTS, ONE_NUMBER):
+        s = rows.strength
+        files[own / f"src/rows{s}.rt"] = functions(rows)
+        files[own / f"proofs/Bases{s}.antt"] = bases(rows)
+        files.update({own / f"proofs/rows{s}/row{k}/Proof.antt": proof(k, w, rows) for k, w in PARTS})
+    files = {path: "".join(text) for path, text in files.items()}
     bad = [path for path, text in files.items() if not path.exists() or path.read_text() != text]
     if opt.check:
         for path in bad:

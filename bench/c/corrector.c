@@ -15,11 +15,12 @@
  * where that bit is in use.
  */
 #include "corrector.h"
-#include "../../examples/c/encode.h"
 #include "../../tests/c/block_rules.h"
+#include "locator.h"
 #include "measure.h"
 #include <stdio.h>
 #include <stdlib.h>
+#include <string.h>
 
 enum { WORDS = 64, CHUNK = 8, FARTHEST = 12 };
 static const unsigned strengths[] = {1, 2, 4, 8};
@@ -84,13 +85,14 @@ static bool reached(const struct corrector *c, unsigned t, const uint8_t *word)
 }
 
 /* a codeword in the bits in use, with so many of them wrong */
-static void plant(const encoder *e, unsigned t, unsigned errors, struct sample *s)
+static void plant(unsigned t, unsigned errors, struct sample *s)
 {
     unsigned bits = bits_in_use(t);
     memset(s->sent, 0, BLOCK_BYTES);
     for (unsigned j = 11 * t; j < bits; j++)
-        encode_set(s->sent, j, draw(2));
-    encode(e, s->sent);
+        if (draw(2))
+            flip_bit(s->sent, j);
+    locator_encode((uint16_t)t, s->sent, BLOCK_BYTES);
     memcpy(s->word, s->sent, BLOCK_BYTES);
     while (apart(s->sent, s->word) < errors) {
         unsigned j = draw(bits);
@@ -110,12 +112,11 @@ static bool fits(unsigned t, unsigned errors, const uint8_t *word)
 /* the words of a set */
 static void make_set(unsigned t, unsigned errors, struct sample *all)
 {
-    encoder e = encode_for(t);
     draw_set(100 * t + errors);
     bch_usual.start(t);
     ours.start(t);
     for (size_t i = 0; i < WORDS;) {
-        plant(&e, t, errors, &all[i]);
+        plant(t, errors, &all[i]);
         i += fits(t, errors, all[i].word);
     }
 }
@@ -236,13 +237,12 @@ static void claims(unsigned t, unsigned errors, unsigned words)
 {
     unsigned claimed[CORRECTORS] = {0}, untrue[CORRECTORS] = {0};
     bool served[CORRECTORS];
-    encoder e = encode_for(t);
     for (size_t k = 0; k < CORRECTORS; k++)
         served[k] = correctors[k]->start(t);
     for (unsigned i = 0; i < words; i++) {
         struct sample s;
         uint8_t left[BLOCK_BYTES];
-        plant(&e, t, errors, &s);
+        plant(t, errors, &s);
         for (size_t k = 0; k < CORRECTORS; k++) {
             int flips = served[k] ? tried(correctors[k], s.word, left) : -1;
             claimed[k] += flips >= 0;

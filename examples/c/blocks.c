@@ -6,11 +6,13 @@
      of the tape may give a better one; its part of the text is lost.
    - under 22 the block is short, since the file was cut, and lost; or its last bit is set. That bit belongs to no
      word: it is cleared, and the block tried once more. */
-#include "encode.h"
+#include "locator.h"
 #include <stdio.h>
+#include <string.h>
 #include <unistd.h>
 
-enum { STRENGTH = 4, BLOCKS = 6, ROOM = 250, LINE = 50, TEXT = BLOCKS * ROOM };
+/* At strength 4 the check bits are bits 0 to 43; the 250 bytes of data stand behind them. */
+enum { STRENGTH = 4, CHECKS = 11 * STRENGTH, BLOCKS = 6, ROOM = 250, LINE = 50, TEXT = BLOCKS * ROOM };
 
 /* The bits that are damaged, and where the file is cut. */
 static const struct { unsigned block, bit; } damages[] = {
@@ -30,14 +32,25 @@ static void compose(char *text)
     }
 }
 
-/* Writes the text. */
-static void record(FILE *tape, const encoder *e, const char *text)
+/* Copies so many bits, from a bit of one memory to a bit of another. */
+static void copy_bits(uint8_t *to, unsigned at, const uint8_t *from, unsigned first, unsigned count)
 {
-    uint8_t word[LOCATOR_WORD];
+    for (unsigned k = 0; k < count; k++, at++, first++)
+        to[at / 8] = (uint8_t)((to[at / 8] & ~(1u << at % 8)) | (from[first / 8] >> first % 8 & 1u) << at % 8);
+}
+
+/* Writes the text: the data of each block, then its check bits. Returns whether every block was encoded. */
+static int record(FILE *tape, const char *text)
+{
+    int good = 1;
     for (size_t k = 0; k < BLOCKS; k++) {
-        encode_block(e, (const uint8_t *)text + k * ROOM, ROOM, word);
+        uint8_t word[LOCATOR_WORD] = {0};
+        copy_bits(word, CHECKS, (const uint8_t *)text + k * ROOM, 0, 8 * ROOM);
+        locator_encoded e = locator_encode(STRENGTH, word, sizeof word);
+        good &= e.outcome == 0 && e.checks == CHECKS;
         fwrite(word, sizeof word, 1, tape);
     }
+    return good;
 }
 
 /* Flips bits of the file and cuts it. Returns whether it could. */
@@ -73,7 +86,7 @@ static int mend(size_t number, uint8_t *word, size_t bytes)
 }
 
 /* Reads the file to its end. What is lost of the text is filled with question marks. */
-static void play(FILE *tape, const encoder *e, char *text)
+static void play(FILE *tape, char *text)
 {
     uint8_t word[LOCATOR_WORD];
     size_t bytes;
@@ -81,7 +94,7 @@ static void play(FILE *tape, const encoder *e, char *text)
     rewind(tape);
     for (size_t k = 0; k < BLOCKS && (bytes = fread(word, 1, sizeof word, tape)) > 0; k++)
         if (mend(k, word, bytes))
-            encode_data(e, word, (uint8_t *)text + k * ROOM, ROOM);
+            copy_bits((uint8_t *)text + k * ROOM, 0, word, CHECKS, 8 * ROOM);
 }
 
 /* Prints the first line of each block as it came back, and how much of the text is as it was written. */
@@ -100,17 +113,15 @@ static void compare(const char *written, const char *played)
 int main(int count, char **words)
 {
     char text[TEXT], played[TEXT];
-    encoder e = encode_for(STRENGTH);
     FILE *tape = count == 2 ? fopen(words[1], "w+b") : NULL;
-    if (tape == NULL || encode_room(&e) < ROOM) {
+    if (tape == NULL) {
         fprintf(stderr, "blocks: it needs a file that can be written\n");
         return 2;
     }
     compose(text);
-    record(tape, &e, text);
-    if (!damage(tape))
+    if (!record(tape, text) || !damage(tape))
         return 1;
-    play(tape, &e, played);
+    play(tape, played);
     compare(text, played);
     return fclose(tape) == 0 ? 0 : 1;
 }

@@ -7,10 +7,10 @@
 #include "locator.h"
 
 enum { PAGE = 65536, MOST = 512, LONGEST = 4096, GUARD = 64, GUARDED = 0xA5A5 };
-enum { PRODUCT, INVERSE, POSITION, QUADRATIC, SOLVE, SEARCH, BEGIN, STEP, FINISH, CORRECT, AFFINE, SALVAGE, WRITE, CALLS };
+enum { PRODUCT, INVERSE, POSITION, QUADRATIC, SOLVE, SEARCH, BEGIN, STEP, FINISH, CORRECT, AFFINE, SALVAGE, WRITE, ENCODE, CALLS };
 
 static const char *const name[CALLS] = {"product", "inverse", "position", "quadratic", "solve", "search", "begin", "step", "finish", "correct", "affine",
-                                        "salvage", "write"};
+                                        "salvage", "write", "encode"};
 #include "fuzz.h"
 
 /* ---- lent memory */
@@ -330,7 +330,7 @@ static void tables(void)
 
 #include "fuzz_affine.h"
 
-/* ---- the block corrector */
+/* ---- the block corrector and encoder */
 
 #include "fuzz_words.h"
 
@@ -354,8 +354,10 @@ int LLVMFuzzerTestOneInput(const uint8_t *data, size_t size)
     unsigned kind = byte();
     if (kind % 8 == 0)
         elements();
-    else if (kind % 8 == 1)
+    else if (kind % 16 == 1)
         correct_word();
+    else if (kind % 16 == 9)
+        encode_word();
     else if (kind % 8 == 2)
         affine();
     else if (kind % 8 == 3)

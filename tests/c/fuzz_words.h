@@ -1,7 +1,6 @@
-/* The block corrector's part of tests/c/fuzz.c: words that are any bytes, or codewords with errors planted. A word
-   stands against a page that cannot be touched, before it or behind it. Codewords come from examples/c/encode.h, and
-   block_rules.h judges them and what the corrector makes of them. */
-#include "../examples/c/encode.h"
+/* The part of tests/c/fuzz.c for the block corrector and encoder: words that are any bytes, or codewords with errors
+   planted. A word stands against a page that cannot be touched, before it or behind it. Codewords come from
+   locator_encode, and block_rules.h judges them and what the corrector makes of them. */
 #include "block_rules.h"
 
 enum { MARKED = 0xA5 };
@@ -60,20 +59,27 @@ static int near_by_trial(const uint8_t *word)
     return one == 0 && cube == 0;
 }
 
+/* an accepted word: a codeword with the data that it had */
+static void check_encoded(locator_encoded e, unsigned t, const uint8_t *word, const uint8_t *was)
+{
+    expect(e.outcome == 0 && e.checks == 11 * t, "another number of check bits");
+    expect(is_codeword(word, t), "an encoded word that is no codeword");
+    for (unsigned j = e.checks; j < BLOCK_BITS; j++)
+        expect(bit_of(word, j) == bit_of(was, j), "data that the encoder changed");
+}
+
 /* bytes of a word: any, or a codeword with bits flipped. Returns how many are wrong, of any bytes more than all */
 static unsigned write_word(uint8_t *to, size_t n, unsigned t, uint8_t *codeword)
 {
-    static encoder made[STRONGEST + 1];
     unsigned any = byte(), errors = byte() % (t + 5), spread = byte();
     for (size_t i = 0; i < n; i++)
         to[i] = (uint8_t)(any % 4 == 0 ? byte() : (spread = spread * 25173 + 13849) >> 7);
     if (n != BLOCK_BYTES || any % 4 == 0 || any % 4 == 1)
         return BLOCK_BITS;
-    if (made[t].check == 0)
-        made[t] = encode_for(t);
-    encode(&made[t], to);
-    expect(is_codeword(to, t), "an encoded word that is no codeword");
+    to[BLOCK_BYTES - 1] &= 127;
     memcpy(codeword, to, n);
+    check_encoded(locator_encode((uint16_t)t, codeword, n), t, codeword, to);
+    memcpy(to, codeword, n);
     for (unsigned k = 0; k < errors; k++)
         flip_bit(to, any % 8 < 4 ? (any + k) % BLOCK_BITS : word() % BLOCK_BITS);
     return apart(to, codeword);
@@ -101,10 +107,13 @@ static void check_corrected(locator_corrected c, unsigned t, int front, unsigned
     expect(again.outcome == 0 && again.flips == 0 && apart(lent_word.at, word) == 0, "a codeword that is changed");
 }
 
-/* one word, of any length, at any strength */
-static void correct_word(void)
+/* a word that is lent and a strength: whether both are of the right shape, and how many bits are wrong of a word that
+   was made for strength t */
+typedef struct { uint16_t strength; unsigned t, errors; int front, shaped, right; } question;
+
+static question ask(uint8_t *codeword)
 {
-    static uint8_t bytes[MOST], codeword[BLOCK_BYTES];
+    static uint8_t bytes[MOST];
     unsigned kind = byte(), t = byte() % STRONGEST + 1;
     uint16_t strength = (uint16_t)(kind % 16 == 0 ? word() : kind % 16 == 1 ? byte() % 12 : t);
     size_t n = length(BLOCK_BYTES);
@@ -113,12 +122,40 @@ static void correct_word(void)
     if (n == BLOCK_BYTES && kind % 16 != 2)
         bytes[BLOCK_BYTES - 1] &= 127;
     lend_bytes(&lent_word, bytes, n, front);
-    locator_corrected c = corrected(strength, front);
-    note(CORRECT, c.outcome, c.flips + strength % 10 * 10);
-    if (n != BLOCK_BYTES || bytes[BLOCK_BYTES - 1] > 127)
+    int shaped = n == BLOCK_BYTES && bytes[BLOCK_BYTES - 1] <= 127;
+    return (question){strength, right ? strength : t, errors, front, shaped, right};
+}
+
+/* one word, of any length, at any strength */
+static void correct_word(void)
+{
+    static uint8_t codeword[BLOCK_BYTES];
+    question q = ask(codeword);
+    locator_corrected c = corrected(q.strength, q.front);
+    note(CORRECT, c.outcome, c.flips + q.strength % 10 * 10);
+    if (!q.shaped)
         expect(c.outcome == 22, "a word of another shape let in");
-    else if (!right)
+    else if (!q.right)
         expect(c.outcome == 23, "another strength let in");
     else
-        check_corrected(c, strength, front, errors, codeword);
+        check_corrected(c, q.t, q.front, q.errors, codeword);
+}
+
+/* the same word, encoded */
+static void encode_word(void)
+{
+    static uint8_t codeword[BLOCK_BYTES];
+    question q = ask(codeword);
+    const block *b = &lent_word;
+    locator_encoded e = locator_encode(q.strength, b->n == 0 && q.front ? NULL : b->at, b->n);
+    guarded(b, q.front);
+    note(ENCODE, e.outcome, q.strength % 10);
+    if (e.outcome != 0)
+        expect(e.checks == 0 && memcmp(b->at, b->was, b->n) == 0, "a refusal of the encoder with a value or a write");
+    if (!q.shaped)
+        expect(e.outcome == 22, "a word of another shape encoded");
+    else if (!q.right)
+        expect(e.outcome == 23, "encoded at another strength");
+    else
+        check_encoded(e, q.t, b->at, b->was);
 }

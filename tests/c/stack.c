@@ -1,16 +1,17 @@
 /* Runs every call of the C face on a painted stack, in every field, on a polynomial of the highest degree that splits, and prints the most that was used.
-   The block corrector has eight wrong bits at strength 8, and then nine, which it turns away. The affine polynomials have one root, half of the elements
-   as roots, every element, and none. The record that is written has as many roots as a record can have. Fails where it is more than LOCATOR_STACK. */
+   The block corrector has eight wrong bits at strength 8, and then nine, which it turns away; the encoder has every strength. The affine polynomials have
+   one root, half of the elements as roots, every element, and none. The record that is written has as many roots as a record can have. Fails where it is
+   more than LOCATOR_STACK. */
 #define _GNU_SOURCE
 #include "locator.h"
 #include <stdio.h>
 #include <string.h>
 #include <ucontext.h>
 
-enum { CALLS = 13, WIDEST = 11, PAINT = 0xA5 };
+enum { CALLS = 14, WIDEST = 11, PAINT = 0xA5 };
 
 static const char *const name[CALLS] = {"product", "inverse", "position", "quadratic", "solve", "search", "begin", "step", "finish", "correct", "affine",
-                                        "salvage", "write"};
+                                        "salvage", "write", "encode"};
 static unsigned char stack[1 << 20];
 static ucontext_t home, there;
 static uint16_t field, f[LOCATOR_COEFFICIENTS], roots[LOCATOR_ROOTS], mults[LOCATOR_ROOTS], table[LOCATOR_SLOTS], elements[LOCATOR_ELEMENTS];
@@ -27,6 +28,15 @@ static void correct(void)
     word[0] ^= 16;
     locator_corrected c = locator_correct(8, word, LOCATOR_WORD);
     failed |= c.outcome != 0 || c.flips != 8;
+}
+
+/* A word with data at every strength. */
+static void encode(void)
+{
+    memset(word, 0x5A, sizeof word);
+    for (uint16_t t = 1; t <= 8; t++)
+        failed |= locator_encode(t, word, LOCATOR_WORD).outcome;
+    memset(word, 0, sizeof word);
 }
 
 /* One term alone, the trace, all zeros, and zeros beside a constant. */
@@ -77,6 +87,7 @@ static void go(void)
     case 10: affine(); break;
     case 11: salvage(); break;
     case 12: write_record(); break;
+    case 13: encode(); break;
     }
 }
 

@@ -1,7 +1,8 @@
-"""Cases and expected lines for the block corrector.
+"""Cases and expected lines for the block corrector and the block encoder.
 
     blocks.py cases --seed S --count N > cases.bin   (N words for each strength and number of errors)
     blocks.py lines < cases.bin > lines
+    blocks.py encoded < cases.bin > lines            (the same words, encoded: check bits in place of flips)
     blocks.py tally < lines
     blocks.py trial --count N < cases.bin            (strengths 1 and 2, and N words of 3, by trial too)
 
@@ -172,7 +173,7 @@ def compare_by_trial(cases, count):
 
 
 def main():
-    """One of the four commands."""
+    """One of the five commands."""
     parser = argparse.ArgumentParser(
         description=__doc__, epilog="Exit status: 0 done; 1 the words of a case, or trial, do not agree; 2 unknown words.", formatter_class=argparse.RawDescriptionHelpFormatter
     )
@@ -181,6 +182,7 @@ def main():
     cases.add_argument("--seed", type=int, default=1)
     cases.add_argument("--count", type=int, default=4)
     commands.add_parser("lines")
+    commands.add_parser("encoded")
     commands.add_parser("tally")
     trial = commands.add_parser("trial")
     trial.add_argument("--count", type=int, default=2)
@@ -193,8 +195,9 @@ def main():
     elif options.command == "trial":
         compare_by_trial(unpack(sys.stdin.buffer.read()), options.count)
     else:
+        call = C.correct if options.command == "lines" else C.encode
         for strength, word in unpack(sys.stdin.buffer.read()):
-            sys.stdout.write(line(strength, word, C.correct(strength, word)) + "\n")
+            sys.stdout.write(line(strength, word, call(strength, word)) + "\n")
 
 
 if __name__ == "__main__":

@@ -182,6 +182,16 @@ def correct(strength, word):
     return FAR, 0, word
 
 
+def encode(strength, word):
+    """The outcome, the number of check bits, and the word afterwards: the bits behind the check bits stay."""
+    word = bytes(word)
+    number = refusal(strength, word)
+    if number:
+        return number, 0, word
+    checks = BITS - data_bits(strength)
+    return 0, checks, codeword(strength, int.from_bytes(word, "little") >> checks)
+
+
 # By trial of places alone, for t up to 3.
 
 

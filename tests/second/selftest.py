@@ -734,6 +734,19 @@ def check_corrector(rng, count):
                 check("corrections by trial of places", corrector.by_trial(t, received) == answer, t, places)
 
 
+def check_encoder(rng):
+    """A codeword with the data of the word, whatever the check bits were; a codeword stays."""
+    for t in blocks.STRENGTHS:
+        word = blocks.any_word(rng)
+        outcome, checks, after = corrector.encode(t, word)
+        check("11 t check bits", (outcome, checks) == (0, 11 * t), t)
+        check("encoded words are codewords", corrector.is_codeword(after, t), t)
+        check("data stay", (int.from_bytes(after, "little") ^ int.from_bytes(word, "little")) >> checks == 0, t)
+        other = corrector.flipped(word, rng.sample(range(checks), 5))
+        check("check bits do not matter", corrector.encode(t, other) == (0, checks, after), t)
+        check("a codeword is encoded already", corrector.encode(t, after) == (0, checks, after), t)
+
+
 def check_block_refusals():
     """22 before 23 before 24; nothing is written."""
     zeros, last = bytes(256), bytes(255) + b"\x80"
@@ -795,6 +808,7 @@ def main():
     check_sheet(rng, options.count // 2)
     check_codewords(rng)
     check_corrector(rng, options.count // 8)
+    check_encoder(rng)
     check_block_refusals()
     check_formats(rng)
     for name, count in counts.items():

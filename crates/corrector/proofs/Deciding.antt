@@ -2,27 +2,29 @@
 -- there is none.
 --   none-within        no codeword is near where the places are not acceptable
 --   flipped-within     where they are, flipping them makes the codeword near;  flipped-distance  by so many flips
---   clean-within       a word whose syndromes are 0 is a codeword
+--   zero-within        a word whose values at a, a^3, .., a^(2t-1) are 0 is a codeword
+--   rest-zero-within   so one whose remainder at strength t is 0;  clean-within  so one whose syndromes are 0
 -- Assumes nothing.
 use mathlib.Core.Path.{_≡_, refl, sym, ap, ap₂, _∙_, subst}
-use mathlib.Core.Logic.{_↔_, ⊎-elim}
+use mathlib.Core.Logic.{⊎-elim}
 use mathlib.Core.Bool.{Bool, true, false}
 use mathlib.Core.List.{List, [], _∷_, map}
-use Prim.Native.Nat.{ℕ, zero, suc, _+_, _-_, _*_, _/_, _%_, _^_, _≤_, _<_}
+use Prim.Native.Nat.{ℕ, zero, suc, _+_, _-_, _*_, _^_, _≤_, _<_}
 use native.Mathlib.Nat.{pow-suc, mul-assoc as times-assoc, mul-le-mul-right}
 use native.Mathlib.Decide.{decLt}
 use native.Mathlib.Omega.{arith}
-use lib.Bits.{bitXor, xor-lt, xor-zero-r}
+use lib.Bits.{bitXor, xor-lt}
 use lib.ListN.{length, getD, length-map}
 use lib.Pow.{pow-lt, pow-pos}
 use Rattle.algebra.specs.Field.{power}
 use Rattle.algebra.specs.Polynomial.{coef, isRoot}
 use Rattle.algebra.specs.Trial.{All, upFrom}
-use Rattle.field.specs.Field.{fieldAt, mul, inverse, numbers, reduce}
-use Rattle.corrector_code.specs.Word.{difference, places, bitDistance, total, wordValue, locators, differs}
+use Rattle.field.specs.Field.{fieldAt, mul, inverse, reduce}
+use Rattle.field.proofs.Generator.{one-below}
+use Rattle.corrector_code.specs.Word.{difference, places, bitDistance, total, wordValue, locators}
 use Rattle.corrector_code.specs.Key.{register}
 use Rattle.corrector_code.specs.Correct.{syndromes, locatorOf, markedAt, flips, Passes}
-use Rattle.corrector_code.specs.Digits.{bytesNumber, digits}
+use Rattle.corrector_code.specs.Digits.{bytesNumber, digits, valueOfDigits}
 use Rattle.corrector_code.specs.Eleven.{F11}
 use Rattle.corrector_code.proofs.Eleven.{gen11}
 use Rattle.corrector_code.proofs.Odd.{half}
@@ -30,9 +32,12 @@ use Rattle.corrector_code.proofs.Same.{register-same}
 use Rattle.corrector_code.proofs.Complete.{map-upFrom-at, difference-difference}
 use Rattle.corrector_code.proofs.Flips.{digits-xor}
 use Rattle.corrector_code.proofs.Numbers.{syndrome-square, passes-within, passes-exactly}
-use Rattle.corrector_generator.specs.Rows.{generator}
-use Rattle.corrector_syndromes.specs.Remainder.{OddValues}
-use Rattle.corrector_syndromes.proofs.Zeros.{odd-syndromes}
+use Rattle.corrector_code.proofs.Values.{value-digits}
+use Rattle.corrector_generator.specs.Generators.{generatorAt, oddPower}
+use Rattle.corrector_remainder.specs.Remainder.{RestAt}
+use Rattle.corrector_remainder.proofs.Strengths.{zero-values}
+use Rattle.corrector_syndromes.specs.Syndromes.{OddValues}
+use Rattle.corrector_syndromes.proofs.Remainders.{odd-syndromes}
 use Rattle.corrector_locator.specs.Under.{PowerSums}
 use Rattle.corrector_locator.proofs.Fine.{register-fine}
 use Rattle.corrector.specs.Places.{xorOver, placesOf, sumAt, Acceptable, named, flipAll}
@@ -116,7 +121,34 @@ module _ (word : List ℕ) (t : ℕ) (b : IsBlock word) (st : IsStrength t) wher
   long-w : length w ≡ 2047
   long-w = ap length w-digits ∙ length-digits 2047 W
 
-  module _ {n : ℕ} {odd : List ℕ} (e : n ≡ reduce generator W) (v : OddValues n odd) where
+  -- a word whose odd syndromes are 0
+  silent-within : ((k : ℕ) → k < t → wordValue F11 w (power F11 2 (suc (2 * k))) ≡ 0) → Within t word word
+  unfolding w total
+  silent-within z =
+      within-block b (subst (Near t w) (none-both w) (passes-within (fieldAt 11) gen11 t w (none w) (length-none w) (few, sum)))
+    where
+      few : length (places 0 (none w)) ≤ t
+      few = subst (λ (l : List ℕ). length l ≤ t) (sym (places-none 0 w)) (omega arith)
+
+      sum : (i : ℕ) → i < t
+          → total F11 (λ x. power F11 x (suc (2 * i))) (locators F11 2 (none w)) ≡ wordValue F11 w (power F11 2 (suc (2 * i)))
+      sum i l =
+          ap (λ (m : List ℕ). total F11 (λ x. power F11 x (suc (2 * i))) (map (power F11 2) m)) (places-none 0 w)
+          ∙ sym (z i l)
+
+  -- A WORD WHOSE VALUES AT a, a^3, .., a^(2t-1) ARE 0 IS A CODEWORD
+  pub zero-within : ((k : ℕ) → k < t → valueOfDigits (fieldAt 11) (oddPower k) W ≡ 0) → Within t word word
+  unfolding oddPower
+  zero-within z =
+      silent-within
+      (λ k h. ap (λ (x : List Bool). wordValue F11 x (power F11 2 (suc (2 * k)))) w-digits
+      ∙ value-digits (fieldAt 11) (gen11 .monic) (one-below (fieldAt 11) gen11) (oddPower k) 2047 W small ∙ z k h)
+
+  -- SO IS ONE WHOSE REMAINDER AT STRENGTH t IS 0
+  pub rest-zero-within : RestAt t W 0 → Within t word word
+  rest-zero-within r = zero-within (zero-values r)
+
+  module _ {n : ℕ} {odd : List ℕ} (e : n ≡ reduce (generatorAt 8) W) (v : OddValues n odd) where
     odd-at : (k : ℕ) → k < 8 → getD odd k 0 ≡ wordValue F11 w (power F11 2 (suc (2 * k)))
     odd-at k h = odd-syndromes W small e v k h ∙ ap (λ (x : List Bool). wordValue F11 x (power F11 2 (suc (2 * k)))) (sym w-digits)
 
@@ -238,15 +270,6 @@ module _ (word : List ℕ) (t : ℕ) (b : IsBlock word) (st : IsStrength t) wher
           (distance-bits word after ∙ ap (bitDistance w) bits-after
           ∙ ap (λ (x : List Bool). length (places 0 x)) (difference-difference w f (long-f ∙ sym long-w)) ∙ count)
 
-    -- A WORD WHOSE SYNDROMES ARE 0 IS A CODEWORD
+    -- SO IS ONE WHOSE SYNDROMES ARE 0
     pub clean-within : ((k : ℕ) → k < t → getD odd k 0 ≡ 0) → Within t word word
-    unfolding w total
-    clean-within z = within-block b (subst (Near t w) (none-both w) (passes-within (fieldAt 11) gen11 t w (none w) (length-none w) (few, sum)))
-      where
-        few : length (places 0 (none w)) ≤ t
-        few = subst (λ (l : List ℕ). length l ≤ t) (sym (places-none 0 w)) (omega arith)
-
-        sum : (i : ℕ) → i < t → total F11 (λ x. power F11 x (suc (2 * i))) (locators F11 2 (none w)) ≡ wordValue F11 w (power F11 2 (suc (2 * i)))
-        sum i l =
-            ap (λ (m : List ℕ). total F11 (λ x. power F11 x (suc (2 * i))) (map (power F11 2) m)) (places-none 0 w)
-            ∙ sym (sym (odd-at i (let m = st .most in omega arith)) ∙ z i l)
+    clean-within z = silent-within (λ k h. sym (odd-at k (let m = st .most in omega arith)) ∙ z k h)

@@ -11,22 +11,24 @@ use mathlib.Core.List.{List, [], _∷_}
 use Prim.Native.Nat.{ℕ, zero, suc, _+_, _*_, _^_, _≤_, _<_}
 use native.Mathlib.Decide.{decLt}
 use native.Mathlib.Omega.{arith}
-use lib.ListN.{length, getD, replicate}
+use lib.ListN.{length, getD}
 use Rattle.field.specs.Field.{fieldAt, reduce}
 use Rattle.field.proofs.Generator.{one-below}
-use Rattle.corrector_code.specs.Digits.{bytesNumber, valueOfDigits}
+use Rattle.corrector_code.specs.Digits.{bytesNumber}
 use Rattle.corrector_code.proofs.Eleven.{gen11}
-use Rattle.corrector_code.proofs.Values.{valueOfDigits-lt, valueOfDigits-zero}
-use Rattle.corrector_generator.specs.Rows.{generator}
-use Rattle.corrector_syndromes.specs.Remainder.{restOf, oddPower, OddValues}
-use Rattle.corrector_syndromes.specs.declared.Rest.{Rest}
+use Rattle.corrector_code.proofs.Values.{valueOfDigits-lt}
+use Rattle.corrector_generator.specs.Generators.{generatorAt, oddPower}
+use Rattle.corrector_remainder.specs.Remainder.{restOf}
+use Rattle.corrector_remainder.specs.declared.Rest.{Rest}
+use Rattle.corrector_remainder.proofs.Strengths.{rest-own, zero-values}
+use Rattle.corrector_syndromes.specs.Syndromes.{OddValues}
 use Rattle.corrector_locator.specs.Under.{Under, PowerSums}
-use Rattle.corrector.specs.Places.{named, placesIn, flipAll, HoldsPlaces, Few8, Acceptable, Either, Located, Tells}
+use Rattle.corrector.specs.Places.{named, placesIn, flipAll, HoldsPlaces, Acceptable, Either, Located, Tells}
 use Rattle.corrector.specs.Correcting.{distance, IsBlock, IsStrength, Within, Corrects}
 use Rattle.corrector.specs.Correcting.Corrects.{none-near, mended}
 use Rattle.corrector.specs.declared.Places.{Places}
 use Rattle.corrector.proofs.Blocks.{distance-self}
-use Rattle.corrector.proofs.Deciding.{none-within, flipped-within, flipped-distance, clean-within}
+use Rattle.corrector.proofs.Deciding.{none-within, flipped-within, flipped-distance, zero-within, clean-within}
 
 pub tells-yes : (A : Type 0) (b : Bool) → Tells A b → b ≡ true → A
 tells-yes A b h e = subst (Tells A) e h
@@ -61,34 +63,19 @@ module _ (word : List ℕ) (t : ℕ) (b : IsBlock word) (st : IsStrength t) wher
   mended-by n after h e = subst (λ (m : ℕ). Corrects t word (0, m ∷ []) after) (sym e) (mended b st h)
 
   -- the first t syndromes are 0
-  pub spotless : {n : ℕ} {odd : List ℕ} → n ≡ reduce generator (bytesNumber word) → OddValues n odd
+  pub spotless : {n : ℕ} {odd : List ℕ} → n ≡ reduce (generatorAt 8) (bytesNumber word) → OddValues n odd
       → ((k : ℕ) → k < t → getD odd k 0 ≡ 0) → Corrects t word (0, 0 ∷ []) word
   spotless e v z = mended-by 0 word (clean-within word t b st e v z) (sym (distance-self word))
 
-  -- the remainder is 0
-  pub clean : (r : Rest) → restOf r ≡ reduce generator (bytesNumber word) → r .lo ≡ 0 → r .hi ≡ 0 → Corrects t word (0, 0 ∷ []) word
+  -- the remainder by the generator of strength 8 is 0
+  pub clean : (r : Rest) → restOf r ≡ reduce (generatorAt 8) (bytesNumber word) → r .lo ≡ 0 → r .hi ≡ 0 → Corrects t word (0, 0 ∷ []) word
   clean r e x y =
-      let z : 0 ≡ reduce generator (bytesNumber word) = sym (ap₂ (λ (h l : ℕ). h * 2 ^ 64 + l) y x) ∙ e in
-      spotless {n = 0} {odd = zeros} z (record { long = refl; value = λ k h. zero-at k ∙ sym (none-at k) }) (λ k h. zero-at k)
-    where
-      zeros : List ℕ
-      zeros = replicate 8 0
+      let z : 0 ≡ reduce (generatorAt 8) (bytesNumber word) = sym (ap₂ (λ (h l : ℕ). h * 2 ^ 64 + l) y x) ∙ e in
+      let m = st .most in
+      mended-by 0 word (zero-within word t b st (λ k h. zero-values (rest-own 8 (bytesNumber word) (omega arith) (omega arith) z) k (omega arith)))
+      (sym (distance-self word))
 
-      zero-at : (k : ℕ) → getD zeros k 0 ≡ 0
-      zero-at zero = refl
-      zero-at (suc zero) = refl
-      zero-at (suc (suc zero)) = refl
-      zero-at (suc (suc (suc zero))) = refl
-      zero-at (suc (suc (suc (suc zero)))) = refl
-      zero-at (suc (suc (suc (suc (suc zero))))) = refl
-      zero-at (suc (suc (suc (suc (suc (suc zero)))))) = refl
-      zero-at (suc (suc (suc (suc (suc (suc (suc zero))))))) = refl
-      zero-at (suc (suc (suc (suc (suc (suc (suc (suc k)))))))) = refl
-
-      none-at : (k : ℕ) → valueOfDigits (fieldAt 11) (oddPower k) 0 ≡ 0
-      none-at k = valueOfDigits-zero (fieldAt 11) (gen11 .monic) (one-below (fieldAt 11) gen11) (oddPower k)
-
-  module _ {n : ℕ} {odd : List ℕ} (e : n ≡ reduce generator (bytesNumber word)) (v : OddValues n odd) (p : Places) (l : Located odd t p) where
+  module _ {n : ℕ} {odd : List ℕ} (e : n ≡ reduce (generatorAt 8) (bytesNumber word)) (v : OddValues n odd) (p : Places) (l : Located odd t p) where
     -- good places, flipped
     pub flipped : (after : List ℕ) → p .good ≡ true → after ≡ flipAll (placesIn p) word → Corrects t word (0, p .n ∷ []) after
     flipped after g f =

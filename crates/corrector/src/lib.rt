@@ -18,6 +18,9 @@ ghost use Rattle.corrector_locator.specs.Under.{Under, Powers, Tables};
 ghost use Rattle.corrector.specs.Places.{placesOf, sumAt, placesIn, flipAll, Findable, Placing, Placed, Few8};
 ghost use Rattle.corrector.specs.Places.{Spotted, Located, Tells, Agrees};
 ghost use Rattle.corrector.specs.Correcting.{IsBlock, IsStrength, Corrects, toldCorrected};
+use corrector_code::LAST;
+use corrector_code::STRONGEST;
+use corrector_code::WORD;
 use corrector_locator::inverse_of;
 use corrector_locator::powers11;
 use corrector_locator::product;
@@ -263,7 +266,7 @@ fn mend_block(strength: u16, word: &mut [u8]) -> Corrected
     requires { ⌜ IsBlock (now word) × IsStrength strength ⌝ }
     ensures { λ r. ⌜ Corrects strength (now (word .entry)) (toldCorrected r) (now (word .exit)) ⌝ }
 {
-    let r = corrector_syndromes::word_rest(word);
+    let r = corrector_remainder::rest8(word);
     if r.lo == 0 && r.hi == 0 {
         return Corrected::Flips(0);
     }
@@ -285,16 +288,16 @@ fn mend_block(strength: u16, word: &mut [u8]) -> Corrected
 pub fn correct(strength: u16, word: &mut [u8]) -> Corrected
     ensures { λ r. ⌜ Corrects strength (now (word .entry)) (toldCorrected r) (now (word .exit)) ⌝ }
 {
-    if word.len() != 256 {
+    if word.len() != WORD {
         return Corrected::NotCorrected(Refusal::Block);
     }
-    if word[255] >= 128 {
+    if word[LAST] >= 128 {
         return Corrected::NotCorrected(Refusal::Block);
     }
     if strength == 0 {
         return Corrected::NotCorrected(Refusal::Strength);
     }
-    if strength > 8 {
+    if strength > STRONGEST {
         return Corrected::NotCorrected(Refusal::Strength);
     }
     mend_block(strength, word)

@@ -1,22 +1,22 @@
--- The rows, each by its key's digits: the remainder of c x^(88 + k) is the sum of those of 1, 2, 4, .. over the digits
--- of c.
+-- The rows of a generator G, each by its key's digits: the remainder of c x^(d + k), d the degree of G, is the sum of
+-- those of 1, 2, 4, .. over the digits of c.
 --   NotBelow n c           c is none of 0 to n - 1;  none-left  then it is not below n
+--   multiples              the sum of two multiples of 2^k
 --   backFromTop-additive   the remainder of a sum is the sum
---   sum0 ..                the sum of the basis of row0 .. over the digits of a number
---   arm0 ..                so an arm of row0 .. is the remainder of its key
+--   by-sum                 what a basis tells of the remainder of c x^(d + k)
 -- Assumes nothing.
-use mathlib.Core.Path.{_≡_, refl, sym, ap, ap₂, _∙_}
-use mathlib.Core.List.{List, [], _∷_}
-use Prim.Native.Nat.{ℕ, zero, suc, _+_, _*_, _^_, _≤_, _<_}
+use mathlib.Core.Path.{_≡_, sym, ap, ap₂, _∙_}
+use mathlib.Core.List.{List}
+use Prim.Native.Nat.{ℕ, zero, suc, _*_, _^_, _≤_, _<_}
 use native.Mathlib.Nat.{add-zero}
 use native.Mathlib.Decide.{decLt}
 use native.Mathlib.Omega.{arith}
 use lib.Bits.{bitXor, xor-block}
 use lib.Pow.{pow-pos}
-use Rattle.field.specs.Field.{reduce, horner, cut, size}
+use Rattle.field.specs.Field.{Field, reduce, size}
 use Rattle.field.proofs.Additive.{Additive, linearMap, basis, by-basis}
 use Rattle.field.proofs.Reduce.{reduce-xor}
-use Rattle.corrector_generator.specs.Rows.{generator, backFromTop}
+use Rattle.corrector_generator.specs.Generators.{backFromTop}
 
 -- none of 0 to n - 1
 unfoldable pub NotBelow : ℕ → ℕ → Type 0
@@ -38,99 +38,27 @@ pub none-left : {A : Type 0} (n c : ℕ) → NotBelow n c → c < n → A
 none-left n c h l = absurd (let g = not-below n c h in let z : ⊥ = omega arith in z)
 
 -- the sum of two multiples
-times : (k x y : ℕ) → bitXor (x * 2 ^ k) (y * 2 ^ k) ≡ bitXor x y * 2 ^ k
-times k x y =
+pub multiples : (k x y : ℕ) → bitXor (x * 2 ^ k) (y * 2 ^ k) ≡ bitXor x y * 2 ^ k
+multiples k x y =
     sym (ap₂ bitXor (add-zero (x * 2 ^ k)) (add-zero (y * 2 ^ k)))
     ∙ xor-block k x y 0 0 (pow-pos k) (pow-pos k) ∙ add-zero (bitXor x y * 2 ^ k)
 
--- the remainder of a sum is the sum
-pub backFromTop-additive : (k : ℕ) → Additive (λ c. backFromTop (c * 2 ^ k))
-unfolding backFromTop
-backFromTop-additive k x y =
-    ap (λ (n : ℕ). reduce generator (n * 2 ^ 88)) (sym (times k x y))
-    ∙ ap (reduce generator) (sym (times 88 (x * 2 ^ k) (y * 2 ^ k)))
-    ∙ reduce-xor generator (x * 2 ^ k * 2 ^ 88) (y * 2 ^ k * 2 ^ 88)
+module _ (G : Field) where
+  -- the remainder of a sum is the sum
+  pub backFromTop-additive : Additive (backFromTop G)
+  unfolding backFromTop
+  backFromTop-additive x y =
+      ap (reduce G) (sym (multiples (G .degree) x y)) ∙ reduce-xor G (x * size G) (y * size G)
 
--- what a basis tells of its sums
-by-sum : (k n : ℕ) (B : List ℕ) → basis (λ c. backFromTop (c * 2 ^ k)) n ≡ B → {c m v : ℕ} → c < 2 ^ n → c ≡ m → v ≡ linearMap B m
-    → v ≡ backFromTop (c * 2 ^ k)
-by-sum k n B e {c} {m} {v} h key f =
-    f ∙ ap (linearMap B) (sym key)
-    ∙ sym (by-basis n (λ x. backFromTop (x * 2 ^ k)) (backFromTop-additive k) c h ∙ ap (λ (l : List ℕ). linearMap l c) e)
+  -- and of the sum of two multiples
+  moved-additive : (k : ℕ) → Additive (λ c. backFromTop G (c * 2 ^ k))
+  moved-additive k x y =
+      ap (backFromTop G) (sym (multiples k x y)) ∙ backFromTop-additive (x * 2 ^ k) (y * 2 ^ k)
 
--- the remainders of x^88, x^89, ..
-basis0 : List ℕ
-basis0 = 8160614335732087325027795 ∷ 16321228671464174650055590 ∷ 32642457342928349300111180
-    ∷ 65284914685856698600222360 ∷ 130569829371713397200444720 ∷ 261139658743426794400889440
-    ∷ 220954238300703534131583251 ∷ []
-
--- their sum over the digits of a number
-unfoldable pub sum0 : ℕ → ℕ
-unfolding linearMap basis0
-sum0 c = linearMap basis0 c
-
--- an arm of row0
-pub arm0 : {c m v : ℕ} → c < 128 → c ≡ m → v ≡ sum0 m → v ≡ backFromTop (c * 1)
-unfolding sum0 basis0 basis backFromTop reduce horner cut
-arm0 h key f = by-sum 0 7 basis0 refl h key f
-
--- the remainders of x^95, x^96, ..
-basis7 : List ℕ
-basis7 = 129703656486576579590316021 ∷ 259407312973153159180632042 ∷ 207818785550453300775096839
-    ∷ 97992612467980199591234013 ∷ 195985224935960399182468026 ∷ 80974037644822370531691175
-    ∷ 161948075289644741063382350 ∷ []
-
--- their sum over the digits of a number
-unfoldable pub sum7 : ℕ → ℕ
-unfolding linearMap basis7
-sum7 c = linearMap basis7 c
-
--- an arm of row7
-pub arm7 : {c m v : ℕ} → c < 128 → c ≡ m → v ≡ sum7 m → v ≡ backFromTop (c * 128)
-unfolding sum7 basis7 basis backFromTop reduce horner cut
-arm7 h key f = by-sum 7 7 basis7 refl h key f
-
--- the remainders of x^102, x^103, ..
-basis14 : List ℕ
-basis14 = 15922607744525810283595599 ∷ 31845215489051620567191198 ∷ 63690430978103241134382396
-    ∷ 127380861956206482268764792 ∷ 254761723912412964537529584 ∷ 197923136755153356582126643 ∷ []
-
--- their sum over the digits of a number
-unfoldable pub sum14 : ℕ → ℕ
-unfolding linearMap basis14
-sum14 c = linearMap basis14 c
-
--- an arm of row14
-pub arm14 : {c m v : ℕ} → c < 64 → c ≡ m → v ≡ sum14 m → v ≡ backFromTop (c * 16384)
-unfolding sum14 basis14 basis backFromTop reduce horner cut
-arm14 h key f = by-sum 14 6 basis14 refl h key f
-
--- the remainders of x^108, x^109, ..
-basis20 : List ℕ
-basis20 = 79409667713778073347712437 ∷ 158819335427556146695424874 ∷ 597546790141526245964551
-    ∷ 1195093580283052491929102 ∷ 2390187160566104983858204 ∷ 4780374321132209967716408 ∷ []
-
--- their sum over the digits of a number
-unfoldable pub sum20 : ℕ → ℕ
-unfolding linearMap basis20
-sum20 c = linearMap basis20 c
-
--- an arm of row20
-pub arm20 : {c m v : ℕ} → c < 64 → c ≡ m → v ≡ sum20 m → v ≡ backFromTop (c * 1048576)
-unfolding sum20 basis20 basis backFromTop reduce horner cut
-arm20 h key f = by-sum 20 6 basis20 refl h key f
-
--- the remainders of x^114, x^115, ..
-basis26 : List ℕ
-basis26 = 9560748642264419935432816 ∷ 19121497284528839870865632 ∷ 38242994569057679741731264
-    ∷ 76485989138115359483462528 ∷ 152971978276230718966925056 ∷ 305943956552461437933850112 ∷ []
-
--- their sum over the digits of a number
-unfoldable pub sum26 : ℕ → ℕ
-unfolding linearMap basis26
-sum26 c = linearMap basis26 c
-
--- an arm of row26
-pub arm26 : {c m v : ℕ} → c < 64 → c ≡ m → v ≡ sum26 m → v ≡ backFromTop (c * 67108864)
-unfolding sum26 basis26 basis backFromTop reduce horner cut
-arm26 h key f = by-sum 26 6 basis26 refl h key f
+  -- what a basis tells of its sums
+  pub by-sum : (k n : ℕ) (B : List ℕ) → basis (λ c. backFromTop G (c * 2 ^ k)) n ≡ B → {c m v : ℕ} → c < 2 ^ n → c ≡ m
+      → v ≡ linearMap B m
+      → v ≡ backFromTop G (c * 2 ^ k)
+  by-sum k n B e {c} {m} {v} h key f =
+      f ∙ ap (linearMap B) (sym key)
+      ∙ sym (by-basis n (λ x. backFromTop G (x * 2 ^ k)) (moved-additive k) c h ∙ ap (λ (l : List ℕ). linearMap l c) e)

@@ -1,2 +1,3 @@
--- What is meant: the generator, and its rows.
-pub mod Rows
+-- What is meant: the generators, and what comes back from the top.
+pub mod Polynomials
+pub mod Generators

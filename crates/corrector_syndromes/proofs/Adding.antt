@@ -24,7 +24,8 @@ use Rattle.corrector_code.specs.Digits.{valueOfDigits}
 use Rattle.corrector_code.specs.Eleven.{F11}
 use Rattle.corrector_code.proofs.Eleven.{gen11}
 use Rattle.corrector_code.proofs.Values.{digit-turn, valueOfDigits-join, valueOfDigits-lt, valueOfDigits-zero}
-use Rattle.corrector_syndromes.specs.Remainder.{oddPower, RowTable, RowAdded, ValuesAdded, OddValues}
+use Rattle.corrector_generator.specs.Generators.{oddPower}
+use Rattle.corrector_syndromes.specs.Syndromes.{RowTable, RowAdded, ValuesAdded, OddValues}
 use Rattle.corrector_syndromes.proofs.Entries.{power-next, power-none}
 open RingLaws (ring (fieldAt 11) (gen11 .monic)) using (mul-comm, mul-zero-r, mul-one-r, mul-lt)
 

@@ -3,10 +3,10 @@
 --   rows-at    what it says of the table
 --   power-next, power-none   a power by the one below it; the power 0
 -- Assumes nothing.
-use mathlib.Core.Path.{_≡_, refl, sym, ap, ap₂, _∙_, subst}
+use mathlib.Core.Path.{_≡_, refl, sym, ap, ap₂, _∙_}
 use mathlib.Core.Bool.{Bool, true, false}
 use mathlib.Core.List.{List, [], _∷_, _++_}
-use Prim.Native.Nat.{ℕ, zero, suc, _+_, _*_, _≤_, _<_}
+use Prim.Native.Nat.{ℕ, zero, suc, _+_, _*_, _<_}
 use native.Mathlib.Nat.{add-zero, not-suc-le-zero, suc-add, add-suc, zero-add}
 use native.Mathlib.Omega.{arith}
 use lib.Dec.{T, eqb, eqb→eq}
@@ -14,10 +14,11 @@ use lib.ListN.{length, getD}
 use lib.Seq.{getD-append-add}
 use lib.ListN.{List·getD-append}
 use Rattle.algebra.specs.Field.{power}
-use Rattle.field.specs.Field.{fieldAt, numbers, size, reduce, cut, horner, mul, carryFree}
+use Rattle.field.specs.Field.{fieldAt, reduce, cut, horner, mul, carryFree}
 use Rattle.field.proofs.Table.{bothTrue, bothTrue-left, bothTrue-right}
 use Rattle.corrector_code.specs.Eleven.{F11}
-use Rattle.corrector_syndromes.specs.Remainder.{oddPower, RowTable}
+use Rattle.corrector_generator.specs.Generators.{oddPower}
+use Rattle.corrector_syndromes.specs.Syndromes.{RowTable}
 
 -- a power, by the one below it
 pub power-next : (x i : ℕ) → power F11 x (suc i) ≡ mul (fieldAt 11) x (power F11 x i)

@@ -1,5 +1,4 @@
--- Why: the remainder, the powers, and the values.
-pub mod Dividing
+-- Why: the powers, and the values.
 pub mod Adding
 pub mod Entries
-pub mod Zeros
+pub mod Remainders

@@ -1,2 +1,2 @@
--- What is meant: a remainder, and the odd syndromes.
-pub mod Remainder
+-- What is meant: the odd syndromes.
+pub mod Syndromes

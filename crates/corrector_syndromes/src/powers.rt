@@ -1,7 +1,8 @@
 // The constant table of the syndromes. Written by tools/generator_rows.py.
+use crate::POWERS;
 
 // x^j at a, a^3, .., a^15, for j below 88: eight in a row.
-pub const ODD_POWERS: [u16; 704] = [
+pub const ODD_POWERS: [u16; POWERS] = [
     1,
     1,
     1,

@@ -1,7 +1,7 @@
 -- DEMAND 1 holds: `Demand1` of specs/Demand1.antt is the one record to read.
 --   Numbered   each test stands behind a number from 1 on
 --   decides, spares   an outcome and a memory that tests decide
---   settles    the corrector's
+--   settles    the corrector's;  fixes  the encoder's
 --   demand-1   it holds of every entry
 -- Assumes nothing.
 use mathlib.Core.Path.{_≡_, refl, sym, ap, subst, _∙_}
@@ -34,6 +34,9 @@ use Rattle.job_lines.proofs.Coincide.{turned-once}
 use Rattle.corrector.specs.Correcting.{distance, Corrects}
 use Rattle.corrector.specs.Correcting.Corrects.{no-block, no-strength, none-near, mended}
 use Rattle.corrector.proofs.Coincide.{correct-coincide}
+use Rattle.corrector_encoder.specs.Encoding.{Encodes}
+use Rattle.corrector_encoder.specs.Encoding.Encodes.{no-block as no-word, no-strength as unknown, encoded}
+use Rattle.corrector_encoder.proofs.Coincide.{encode-coincide}
 use Rattle.job_salvage.specs.Calls.{salvageTests}
 use Rattle.job_salvage.proofs.Coincide.{salvage-coincide, next-coincide}
 use Rattle.job_writer.specs.Calls.{writeTests}
@@ -41,7 +44,7 @@ use Rattle.job_writer.proofs.Coincide.{write-coincide}
 use Rattle.job_records.specs.Reading.{Outcome, startTests, recordTests, HandsBack}
 use Rattle.job_records.proofs.Coincide.{read-coincide}
 use Rattle.job_records.proofs.Exactly.{ends-exactly, stops-exactly, refuses-exactly, accepts-exactly}
-use Rattle.demands.specs.Demand1.{Decides, Spares, Settles, Demand1}
+use Rattle.demands.specs.Demand1.{Decides, Spares, Settles, Fixes, Demand1}
 
 -- each test stands behind a number from 1 on
 abbrev Numbered : List (ℕ × Bool) → Type 0
@@ -132,6 +135,27 @@ settles (mended b s x) = record {
   unwritten = λ k e. clash e (λ (z : 0 ≡ suc k). omega arith);
 }
 
+-- whatever the encoder's contract admits is fixed by 22 and 23 in this order
+fixes : {t : ℕ} {word after : List ℕ} {o : ℕ × List ℕ} → Encodes t word o after → Fixes t word o after
+fixes (no-word x) = record {
+  block = (λ e. x, λ h. refl);
+  strength = (λ e. clash e (λ (z : 22 ≡ 23). omega arith), λ h. absurd (x (h .0)));
+  accepted = (λ e. clash e (λ (z : 22 ≡ 0). omega arith), λ h. absurd (x (h .0)));
+  unwritten = λ k e. refl;
+}
+fixes (unknown b x) = record {
+  block = (λ e. clash e (λ (z : 23 ≡ 22). omega arith), λ h. absurd (h b));
+  strength = (λ e. (b, x), λ h. refl);
+  accepted = (λ e. clash e (λ (z : 23 ≡ 0). omega arith), λ h. absurd (x (h .1)));
+  unwritten = λ k e. refl;
+}
+fixes (encoded b s x) = record {
+  block = (λ e. clash e (λ (z : 0 ≡ 22). omega arith), λ h. absurd (h b));
+  strength = (λ e. clash e (λ (z : 0 ≡ 23). omega arith), λ h. absurd (h .1 s));
+  accepted = (λ e. (b, s, x), λ h. refl);
+  unwritten = λ k e. clash e (λ (z : 0 ≡ suc k). omega arith);
+}
+
 -- eight tests, and fewer
 eight : Numbered ((1, true) ∷ (2, true) ∷ (3, true) ∷ (4, true) ∷ (5, true) ∷ (6, true) ∷ (7, true) ∷ (7, true) ∷ [])
 eight = (omega arith, (omega arith, (omega arith, (omega arith, (omega arith, (omega arith, (omega arith, (omega arith, tt))))))))
@@ -155,6 +179,7 @@ demand-1 = record {
   search = λ m cs roots mults r after beside h. listed (omega arith, (omega arith, (omega arith, (omega arith, (omega arith, (omega arith, (omega arith, tt))))))) h;
   affine = λ m cs constant list r after h. answered (affineTests m cs constant (length list)) _ _ list (omega arith, (omega arith, (omega arith, (omega arith, tt)))) h;
   correct = λ t word o after h. settles h;
+  encode = λ t word o after h. fixes h;
   salvage = λ file room r after h. answered (salvageTests file room) _ _ room (omega arith, tt) h;
   write = λ m c roots room r after h. answered (writeTests m c roots (length room)) _ _ room six h;
   ends = λ file at r h. of-told h (ends-exactly file at);
@@ -172,6 +197,7 @@ demand-1 = record {
   search-one = search-coincide;
   affine-one = affine-coincide;
   correct-one = λ t word r s x y h k. correct-coincide r s x y h k;
+  encode-one = λ t word r s x y h k. encode-coincide r s x y h k;
   salvage-one = salvage-coincide;
   write-one = write-coincide;
   next-one = λ file at start end start′ end′ h k. next-coincide h k;

@@ -1,5 +1,5 @@
--- The three demands, that the two ways agree, and what is promised of the block corrector, of salvage, of the writer of
--- records and of the monthly sheet.
+-- The three demands, that the two ways agree, and what is promised of the block corrector and encoder, of salvage, of the
+-- writer of records and of the monthly sheet.
 pub mod Agreement
 pub mod Demand1
 pub mod Demand2
@@ -7,6 +7,7 @@ pub mod Demand2Affine
 pub mod Demand3
 pub mod Cutoffs
 pub mod Corrector
+pub mod Encoder
 pub mod Salvage
 pub mod Writer
 pub mod Sheet

@@ -4,6 +4,7 @@
 --             0 with the values exactly when none holds
 --   Spares    lent memory afterwards: as it was where a test holds, and else what the entry writes
 --   Settles   the corrector's outcome and word, by its tests in their order; the last of them asks for a codeword
+--   Fixes     the encoder's outcome and word likewise
 --   Demand1   of whatever the contract of each entry admits, for every input: its tests in their order, its values,
 --             its memory; the record reader
 --             likewise; and that it admits one answer and one memory
@@ -13,7 +14,7 @@ use mathlib.Core.Path.{_≡_}
 use mathlib.Core.Bool.{Bool, cond}
 use mathlib.Core.List.{List, [], _∷_}
 use mathlib.Core.Logic.{_↔_}
-use Prim.Native.Nat.{ℕ, suc, _+_, _≤_, _<_}
+use Prim.Native.Nat.{ℕ, suc, _+_, _*_, _≤_, _<_}
 use lib.ListN.{length, drop}
 use Rattle.refusals.specs.Order.{Given, Passed}
 use Rattle.slices.specs.Lists.{copied}
@@ -49,6 +50,8 @@ use Rattle.job_lines.specs.Printing.{TurnedBy}
 use Rattle.job_lines.specs.declared.Turn.{Turn}
 use Rattle.corrector.specs.Correcting.{IsBlock, IsStrength, Within, distance, Corrects, toldCorrected}
 use Rattle.corrector.specs.declared.Corrected.{Corrected}
+use Rattle.corrector_encoder.specs.Encoding.{toldEncoded, Encoding, Encodes}
+use Rattle.corrector_encoder.specs.declared.Encoded.{Encoded}
 use Rattle.job_salvage.specs.Pieces.{keptRecords, keptFile}
 use Rattle.job_salvage.specs.Calls.{NextIs, salvageTests, toldSalvaged, Salvages}
 use Rattle.job_salvage.specs.declared.Salvaged.{Salvaged}
@@ -71,6 +74,14 @@ pub record Settles (t : ℕ) (word : List ℕ) (outcome : ℕ × List ℕ) (afte
   pub strength : (outcome ≡ (23, [])) ↔ (IsBlock word × (IsStrength t → ⊥))
   pub far : (outcome ≡ (24, [])) ↔ (IsBlock word × IsStrength t × ((v : List ℕ) → Within t word v → ⊥))
   pub accepted : (outcome ≡ (0, distance word after ∷ [])) ↔ (IsBlock word × IsStrength t × Within t word after)
+  pub unwritten : (k : ℕ) → outcome ≡ (suc k, []) → after ≡ word
+
+-- what refuses the encoder's word, in the order 22, 23, and that a refusal writes nothing; 0 with the number of check
+-- bits exactly when the word that is left is the codeword with its data
+pub record Fixes (t : ℕ) (word : List ℕ) (outcome : ℕ × List ℕ) (after : List ℕ) : Type 0 where
+  pub block : (outcome ≡ (22, [])) ↔ (IsBlock word → ⊥)
+  pub strength : (outcome ≡ (23, [])) ↔ (IsBlock word × (IsStrength t → ⊥))
+  pub accepted : (outcome ≡ (0, 11 * t ∷ [])) ↔ (IsBlock word × IsStrength t × Encoding t word after)
   pub unwritten : (k : ℕ) → outcome ≡ (suc k, []) → after ≡ word
 
 pub record Demand1 : Type 0 where
@@ -112,6 +123,9 @@ pub record Demand1 : Type 0 where
   -- correct: 22, 23, 24
   pub correct : (t : ℕ) (word : List ℕ) (outcome : ℕ × List ℕ) (after : List ℕ)
       → Corrects t word outcome after → Settles t word outcome after
+  -- encode: 22, 23
+  pub encode : (t : ℕ) (word : List ℕ) (outcome : ℕ × List ℕ) (after : List ℕ)
+      → Encodes t word outcome after → Fixes t word outcome after
   -- salvage: 7
   pub salvage : (file room : List ℕ) (r : Salvaged) (after : List ℕ) → Salvages file room r after
       → Decides (salvageTests file room) (length (keptFile file) ∷ length (keptRecords file) ∷ []) (toldSalvaged r)
@@ -153,6 +167,8 @@ pub record Demand1 : Type 0 where
       → Spans m cs constant list r x → Spans m cs constant list s y → (r ≡ s) × (x ≡ y)
   pub correct-one : (t : ℕ) (word : List ℕ) (r s : Corrected) (x y : List ℕ)
       → Corrects t word (toldCorrected r) x → Corrects t word (toldCorrected s) y → (r ≡ s) × (x ≡ y)
+  pub encode-one : (t : ℕ) (word : List ℕ) (r s : Encoded) (x y : List ℕ)
+      → Encodes t word (toldEncoded r) x → Encodes t word (toldEncoded s) y → (r ≡ s) × (x ≡ y)
   pub salvage-one : (file room : List ℕ) (r s : Salvaged) (x y : List ℕ)
       → Salvages file room r x → Salvages file room s y → (r ≡ s) × (x ≡ y)
   pub write-one : (m c : ℕ) (roots room : List ℕ) (r s : Written) (x y : List ℕ)

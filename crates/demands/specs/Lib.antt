@@ -4,6 +4,7 @@ pub mod Demand2Affine
 pub mod Demand3
 pub mod Cutoffs
 pub mod Corrector
+pub mod Encoder
 pub mod Salvage
 pub mod Writer
 pub mod Sheet

@@ -14,15 +14,17 @@ use Rattle.table_begin.proofs.Coincide.{begin-coincide}
 use Rattle.table_step.proofs.Coincide.{step-coincide}
 use Rattle.table_finish.proofs.Coincide.{finish-coincide}
 use Rattle.corrector.proofs.Coincide.{correct-coincide}
+use Rattle.corrector_encoder.proofs.Coincide.{encode-coincide}
 use Rattle.job_salvage.proofs.Coincide.{salvage-coincide}
 use Rattle.job_writer.proofs.Coincide.{write-coincide}
-use Rattle.locator.specs.Calls.{As, ProductAs, InverseAs, PositionAs, QuadraticAs, SolvesAs, SearchesAs, SpansAs, BeginsAs, StepsAs, FinishesAs, CorrectsAs, SalvagesAs, WritesAs}
+use Rattle.locator.specs.Calls.{As, ProductAs, InverseAs, PositionAs, QuadraticAs, SolvesAs, SearchesAs, SpansAs, BeginsAs, StepsAs, FinishesAs, CorrectsAs, EncodesAs, SalvagesAs, WritesAs}
 use Rattle.locator.specs.declared.LocatorValue.{LocatorValue}
 use Rattle.locator.specs.declared.LocatorPair.{LocatorPair}
 use Rattle.locator.specs.declared.LocatorFound.{LocatorFound}
 use Rattle.locator.specs.declared.LocatorSpace.{LocatorSpace}
 use Rattle.locator.specs.declared.LocatorStepped.{LocatorStepped}
 use Rattle.locator.specs.declared.LocatorCorrected.{LocatorCorrected}
+use Rattle.locator.specs.declared.LocatorEncoded.{LocatorEncoded}
 use Rattle.locator.specs.declared.LocatorSalvaged.{LocatorSalvaged}
 use Rattle.locator.specs.declared.LocatorWritten.{LocatorWritten}
 
@@ -85,6 +87,10 @@ finish-one table list r s x y h k = one-memory (finish-coincide table list) h k
 pub correct-one : (t : ℕ) (word : List ℕ) (r s : LocatorCorrected) (x y : List ℕ)
     → CorrectsAs t word r x → CorrectsAs t word s y → (r ≡ s) × (x ≡ y)
 correct-one t word r s x y h k = one-memory (λ a b x y. correct-coincide a b x y) h k
+
+pub encode-one : (t : ℕ) (word : List ℕ) (r s : LocatorEncoded) (x y : List ℕ)
+    → EncodesAs t word r x → EncodesAs t word s y → (r ≡ s) × (x ≡ y)
+encode-one t word r s x y h k = one-memory (λ a b x y. encode-coincide a b x y) h k
 
 pub salvage-one : (file room : List ℕ) (r s : LocatorSalvaged) (x y : List ℕ)
     → SalvagesAs file room r x → SalvagesAs file room s y → (r ≡ s) × (x ≡ y)

@@ -40,10 +40,13 @@ use Rattle.table_finish.specs.declared.Finished.the-variants.{Listed, NotFinish
 use Rattle.corrector.specs.Correcting.{toldCorrected}
 use Rattle.corrector.specs.declared.Corrected.{Corrected}
 use Rattle.corrector.specs.declared.Corrected.the-variants.{Flips, NotCorrected}
+use Rattle.corrector_encoder.specs.Encoding.{toldEncoded}
+use Rattle.corrector_encoder.specs.declared.Encoded.{Encoded}
+use Rattle.corrector_encoder.specs.declared.Encoded.the-variants.{Checks, NotEncoded}
 use Rattle.job_writer.specs.Calls.{toldWritten}
 use Rattle.job_writer.specs.declared.Written.{Written}
 use Rattle.job_writer.specs.declared.Written.the-variants.{Bytes, NotWritten}
-use Rattle.locator.specs.Calls.{asValue, asPair, asFound, asSpace, asStepped, asCorrected, asWritten}
+use Rattle.locator.specs.Calls.{asValue, asPair, asFound, asSpace, asStepped, asCorrected, asEncoded, asWritten}
 use Rattle.locator.specs.declared.LocatorPair.{LocatorPair}
 use Rattle.locator.specs.declared.LocatorSpace.{LocatorSpace}
 
@@ -144,3 +147,9 @@ stepped-by-struct = told-by (λ (a : Stepped). asStepped (toldStepped a)) (λ s.
 pub corrected-by-struct : (a b : Corrected) → asCorrected (toldCorrected a) ≡ asCorrected (toldCorrected b) → a ≡ b
 corrected-by-struct = told-by (λ (a : Corrected). asCorrected (toldCorrected a)) (λ c. c .outcome) NotCorrected (λ c. Flips (c .flips))
     (elim [ Flips n ↦ accepted-back NotCorrected (Flips n) | NotCorrected k ↦ refused-back NotCorrected (Flips 0) k ])
+
+-- ---- the block encoder
+
+pub encoded-by-struct : (a b : Encoded) → asEncoded (toldEncoded a) ≡ asEncoded (toldEncoded b) → a ≡ b
+encoded-by-struct = told-by (λ (a : Encoded). asEncoded (toldEncoded a)) (λ c. c .outcome) NotEncoded (λ c. Checks (c .checks))
+    (elim [ Checks n ↦ accepted-back NotEncoded (Checks n) | NotEncoded k ↦ refused-back NotEncoded (Checks 0) k ])

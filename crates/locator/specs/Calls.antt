@@ -8,6 +8,7 @@
 --   asSpace       outcome, how many roots, the dimension: the affine call. No root has 0 and 0
 --   asStepped     outcome, and 1 where the table is done
 --   asCorrected   outcome, and how many bits were flipped
+--   asEncoded     outcome, and how many check bits the word has
 --   asSalvaged    outcome, and how many bytes are kept; how many records is not told
 --   asWritten     outcome, and how many bytes the record has
 --   As            r is the struct of an answer that a contract admits
@@ -23,6 +24,7 @@ use Rattle.locator.specs.declared.LocatorFound.{LocatorFound}
 use Rattle.locator.specs.declared.LocatorSpace.{LocatorSpace}
 use Rattle.locator.specs.declared.LocatorStepped.{LocatorStepped}
 use Rattle.locator.specs.declared.LocatorCorrected.{LocatorCorrected}
+use Rattle.locator.specs.declared.LocatorEncoded.{LocatorEncoded}
 use Rattle.locator.specs.declared.LocatorSalvaged.{LocatorSalvaged}
 use Rattle.locator.specs.declared.LocatorWritten.{LocatorWritten}
 use Rattle.field_elements.specs.Calls.{toldAnswer, toldQuadratic, TellsProduct}
@@ -34,6 +36,7 @@ use Rattle.table_begin.specs.Calls.{toldBegun, Begins}
 use Rattle.table_step.specs.Calls.{toldStepped, Steps}
 use Rattle.table_finish.specs.Calls.{toldFinished, Finishes}
 use Rattle.corrector.specs.Correcting.{toldCorrected, Corrects}
+use Rattle.corrector_encoder.specs.Encoding.{toldEncoded, Encodes}
 use Rattle.job_salvage.specs.Calls.{toldSalvaged, Salvages}
 use Rattle.job_writer.specs.Calls.{toldWritten, Writes}
 
@@ -65,6 +68,10 @@ asStepped o = record { outcome = o .0; done = valueIn o 0 }
 -- outcome and flips
 abbrev pub asCorrected : ℕ × List ℕ → LocatorCorrected
 asCorrected o = record { outcome = o .0; flips = valueIn o 0 }
+
+-- outcome and check bits
+abbrev pub asEncoded : ℕ × List ℕ → LocatorEncoded
+asEncoded o = record { outcome = o .0; checks = valueIn o 0 }
 
 -- outcome and bytes
 abbrev pub asSalvaged : ℕ × List ℕ → LocatorSalvaged
@@ -115,6 +122,9 @@ FinishesAs table list r after = As (λ x. asFound (toldFinished x)) (λ x. Finis
 
 abbrev pub CorrectsAs : ℕ → List ℕ → LocatorCorrected → List ℕ → Type 0
 CorrectsAs t word r after = As (λ x. asCorrected (toldCorrected x)) (λ x. Corrects t word (toldCorrected x) after) r
+
+abbrev pub EncodesAs : ℕ → List ℕ → LocatorEncoded → List ℕ → Type 0
+EncodesAs t word r after = As (λ x. asEncoded (toldEncoded x)) (λ x. Encodes t word (toldEncoded x) after) r
 
 abbrev pub SalvagesAs : List ℕ → List ℕ → LocatorSalvaged → List ℕ → Type 0
 SalvagesAs file room r after = As (λ x. asSalvaged (toldSalvaged x)) (λ x. Salvages file room x after) r

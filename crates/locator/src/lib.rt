@@ -1,14 +1,15 @@
 // The C face (docs/RULES.md section 9): the element calls, the whole call, the plain search, the affine call, begin,
-// step and finish, the block corrector, salvage and the writer, as include/locator.h declares them. A slice is a
-// pointer, then a count. Each call answers every input; it neither allocates nor calls out, and keeps no state.
+// step and finish, the block corrector and encoder, salvage and the writer, as include/locator.h declares them. A slice
+// is a pointer, then a count. Each call answers every input; it neither allocates nor calls out, and keeps no state.
 ghost use Rattle.locator.specs.Calls.{ProductAs, InverseAs, PositionAs, QuadraticAs};
 ghost use Rattle.locator.specs.Calls.{SolvesAs, SearchesAs, SpansAs, BeginsAs, StepsAs, FinishesAs, CorrectsAs};
-ghost use Rattle.locator.specs.Calls.{SalvagesAs, WritesAs};
+ghost use Rattle.locator.specs.Calls.{EncodesAs, SalvagesAs, WritesAs};
 use answers::found;
 use answers::refused;
 use answers::roots_of;
 use answers::value_of;
 use corrector::Corrected;
+use corrector_encoder::Encoded;
 use field_elements::Element;
 use field_elements::Roots;
 use find_affine::Spanned;
@@ -68,6 +69,13 @@ pub struct LocatorStepped {
 pub struct LocatorCorrected {
     pub outcome: u16,
     pub flips: u16,
+}
+
+// The encoder's answer: how many check bits the word has.
+#[repr(C)]
+pub struct LocatorEncoded {
+    pub outcome: u16,
+    pub checks: u16,
 }
 
 // What salvage kept: how many bytes.
@@ -242,6 +250,20 @@ pub extern "C" fn locator_correct(strength: u16, word: &mut [u8]) -> LocatorCorr
         Corrected::NotCorrected(k) => LocatorCorrected {
             outcome: number(k),
             flips: 0,
+        },
+    }
+}
+
+// The block encoder.
+#[no_mangle]
+pub extern "C" fn locator_encode(strength: u16, word: &mut [u8]) -> LocatorEncoded
+    ensures { λ r. ⌜ EncodesAs strength (now (word .entry)) r (now (word .exit)) ⌝ }
+{
+    match corrector_encoder::encode(strength, word) {
+        Encoded::Checks(checks) => LocatorEncoded { outcome: 0, checks },
+        Encoded::NotEncoded(k) => LocatorEncoded {
+            outcome: number(k),
+            checks: 0,
         },
     }
 }

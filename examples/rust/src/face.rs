@@ -43,6 +43,12 @@ pub struct Corrected {
 }
 
 #[repr(C)]
+pub struct Encoded {
+    pub outcome: u16,
+    pub checks: u16,
+}
+
+#[repr(C)]
 pub struct Salvaged {
     pub outcome: u16,
     pub length: usize,
@@ -97,6 +103,7 @@ extern "C" {
     fn locator_step(table: *mut u16, slots: usize) -> Stepped;
     fn locator_finish(table: *const u16, slots: usize, roots: *mut u16, room: usize) -> Found;
     fn locator_correct(strength: u16, word: *mut u8, bytes: usize) -> Corrected;
+    fn locator_encode(strength: u16, word: *mut u8, bytes: usize) -> Encoded;
     fn locator_salvage(file: *const u8, n: usize, kept: *mut u8, room: usize) -> Salvaged;
     fn locator_write(
         m: u16,
@@ -195,6 +202,10 @@ pub fn finish(table: &[u16], roots: &mut [u16]) -> Found {
 
 pub fn correct(strength: u16, word: &mut [u8]) -> Corrected {
     unsafe { locator_correct(strength, word.as_mut_ptr(), word.len()) }
+}
+
+pub fn encode(strength: u16, word: &mut [u8]) -> Encoded {
+    unsafe { locator_encode(strength, word.as_mut_ptr(), word.len()) }
 }
 
 pub fn salvage(file: &[u8], kept: &mut [u8]) -> Salvaged {

@@ -1,11 +1,9 @@
 //! Safe calls of the proved root finder: the roots of polynomials over GF(2^m), m = 4, 8 or 11, of affine ones of any
-//! degree, the block corrector, salvage of job files, and a writer of their records.
+//! degree, the block corrector and encoder, salvage of job files, and a writer of their records.
 //! include/locator.h says what each call does; here a refusal is an error, a list is a slice, and what is given back is
-//! typed. No call allocates, calls out or keeps state. The module `encode` makes codewords for the corrector; it is
-//! tested and not proved.
+//! typed. No call allocates, calls out or keeps state.
 #![no_std]
 
-pub mod encode;
 mod face;
 
 /// The slots of a work table.
@@ -14,7 +12,7 @@ pub const SLOTS: usize = 100;
 pub const ROOTS: usize = 32;
 /// Slots that are enough for the roots of an affine polynomial in any field.
 pub const ELEMENTS: usize = 2048;
-/// The bytes of a block corrector's word.
+/// The bytes of a word of the block corrector and encoder.
 pub const WORD: usize = 256;
 /// The most bytes of a record that [`write`] makes.
 pub const RECORD: usize = 71;
@@ -283,6 +281,14 @@ pub fn finish<'a>(table: &[u16], roots: &'a mut [u16]) -> Result<&'a [u16], Refu
 pub fn correct(strength: u16, word: &mut [u8]) -> Result<u16, Refusal> {
     let corrected = face::correct(strength, word);
     accepted(corrected.outcome).map(|()| corrected.flips)
+}
+
+/// The block encoder: makes the word the codeword of this strength, 1 to 8, that has its data, the bits from 11 t on, and
+/// tells how many check bits it wrote in front of them, 11 t. There is exactly one such codeword, whatever the check bits
+/// held; a refusal writes nothing.
+pub fn encode(strength: u16, word: &mut [u8]) -> Result<u16, Refusal> {
+    let encoded = face::encode(strength, word);
+    accepted(encoded.outcome).map(|()| encoded.checks)
 }
 
 /// Salvage of a damaged job file: the records that can be kept, unaltered and in order, at the front of `kept`, which must

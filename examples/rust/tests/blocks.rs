@@ -1,22 +1,24 @@
-//! The block corrector through the safe crate, on codewords that `encode` makes: what is mended, what is turned away, and
-//! what is written.
-use locator::{correct, encode::Encoder, Refusal, WORD};
+//! The block corrector and encoder through the safe crate: what is encoded, what is mended, what is turned away, and what
+//! is written.
+use locator::{correct, encode, Refusal, WORD};
 
 const LAST: usize = 2047;
 
-/// Bytes that look like nothing.
+/// Bytes that look like nothing, the last bit 0.
 fn noise(seed: u32) -> [u8; WORD] {
     let mut x = seed;
-    core::array::from_fn(|_| {
+    let mut word = core::array::from_fn(|_| {
         x = x.wrapping_mul(1664525).wrapping_add(1013904223);
         (x >> 24) as u8
-    })
+    });
+    word[WORD - 1] &= 127;
+    word
 }
 
 /// A codeword of this strength.
 fn codeword(strength: u16, seed: u32) -> [u8; WORD] {
     let mut word = noise(seed);
-    Encoder::new(strength).unwrap().encode(&mut word);
+    assert_eq!(encode(strength, &mut word), Ok(11 * strength));
     word
 }
 
@@ -77,11 +79,9 @@ fn refusals_stand_in_their_order() {
         assert_eq!(correct(strength, &mut []), Err(Refusal::Block));
         assert_eq!(correct(strength, &mut [0; WORD + 1]), Err(Refusal::Block));
         assert_eq!(correct(strength, &mut last.clone()), Err(Refusal::Block));
-        let mut lent = flipped(far, (far[255] > 127).then_some(LAST));
-        let was = lent;
+        let mut lent = far;
         assert_eq!(correct(strength, &mut lent), Err(Refusal::Strength));
-        assert_eq!(lent, was);
-        assert_eq!(Encoder::new(strength), Err(Refusal::Strength));
+        assert_eq!(lent, far);
     }
     assert_eq!(correct(8, &mut [0; WORD - 1]), Err(Refusal::Block));
     let mut lent = last;
@@ -94,20 +94,32 @@ fn refusals_stand_in_their_order() {
 }
 
 #[test]
-fn data_come_back_through_damage() {
+fn the_encoder_refuses_likewise() {
+    let last = flipped(noise(1), [LAST]);
+    for strength in [0, 9, 65535] {
+        assert_eq!(encode(strength, &mut []), Err(Refusal::Block));
+        assert_eq!(encode(strength, &mut last.clone()), Err(Refusal::Block));
+        let mut lent = noise(1);
+        assert_eq!(encode(strength, &mut lent), Err(Refusal::Strength));
+        assert_eq!(lent, noise(1));
+    }
+    let mut lent = last;
+    assert_eq!(encode(8, &mut lent), Err(Refusal::Block));
+    assert_eq!(lent, last);
+}
+
+#[test]
+fn data_stay_and_check_bits_do_not_matter() {
     for strength in 1..=8u16 {
-        let encoder = Encoder::new(strength).unwrap();
-        let data = noise(77);
-        let data = &data[..encoder.room()];
-        let mut word = flipped(
-            encoder.block(data).unwrap(),
-            (0..usize::from(strength)).map(|k| 5 + 250 * k),
-        );
-        assert_eq!(correct(strength, &mut word), Ok(strength));
-        let mut back = [0; WORD];
-        encoder.data(&word, &mut back[..data.len()]).unwrap();
-        assert_eq!(&back[..data.len()], data);
-        assert_eq!(encoder.block(&[0; WORD][..=data.len()]), None);
-        assert_eq!(encoder.data(&word, &mut [0; WORD][..=data.len()]), None);
+        let checks = 11 * usize::from(strength);
+        let (word, made) = (noise(77), codeword(strength, 77));
+        let data = |w: &[u8; WORD]| -> Vec<u8> {
+            (checks..LAST).map(|j| w[j / 8] >> (j % 8) & 1).collect()
+        };
+        assert_eq!(data(&made), data(&word));
+        for mut other in [made, flipped(word, 0..checks)] {
+            assert_eq!(encode(strength, &mut other), Ok(11 * strength));
+            assert_eq!(other, made);
+        }
     }
 }

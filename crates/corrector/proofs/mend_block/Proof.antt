@@ -2,7 +2,8 @@
 -- Assumes nothing.
 use denote.Ref.{now}
 use borrow.Author.Tests.{eqb-true}
-use Rattle.corrector_syndromes.proofs.Dividing.{rest-small}
+use native.Mathlib.Omega.{arith}
+use Rattle.corrector_generator.proofs.Zeros.{rest-below}
 use Rattle.corrector.proofs.Outcomes.{odd-under, located-yes, clean, spotless, flipped, far-refused}
 use borrow.Author.Needs.{needs}
 use Rattle.corrector.proofs.mend_block.Statement.{statement}
@@ -11,10 +12,10 @@ use Rattle.corrector.proofs.flip.Reads as flip-reads
 use Rattle.corrector.proofs.locate.Reads as locate-reads
 use Rattle.corrector.proofs.none.Reads as none-reads
 use Rattle.corrector_syndromes.proofs.odd_values.Reads as odd-values-reads
-use Rattle.corrector_syndromes.proofs.word_rest.Reads as word-rest-reads
+use Rattle.corrector_remainder.proofs.rest8.Reads as rest8-reads
 
-word-rest-requires : tie.Need-word-rest-requires
-word-rest-requires c κs = search needs
+rest8-requires : tie.Need-rest8-requires
+rest8-requires c κs = search needs
 
 same-length : tie.Need-same-length
 same-length c = search needs
@@ -22,12 +23,12 @@ same-length c = search needs
 returns : tie.Need-returns
 returns c =
     let a = c .before .before .before .before .before .before .before in
-    let rest = c .before .before .before .before .word-rest .ensures in
+    let rest = c .before .before .before .before .rest8 .ensures in
     clean (now (a .args .word)) (a .args .strength) (a .pre .0) (a .pre .1) _ rest
     (c .before .before .if1 .taken) (eqb-true _ _ (c .if2 .taken))
 
 odd-values-requires : tie.Need-odd-values-requires
-odd-values-requires c κs = rest-small _ _ (c .before .before .word-rest .ensures)
+odd-values-requires c κs = rest-below 8 (omega arith) (omega arith) _ (c .before .before .rest8 .ensures)
 
 none-requires : tie.Need-none-requires
 none-requires c κs = search needs
@@ -38,7 +39,7 @@ same-length-2 c = search needs
 returns-2 : tie.Need-returns-2
 returns-2 c =
     let a = c .before .before .before .before .before .before .before .before in
-    let rest = c .before .before .before .before .before .word-rest .ensures in
+    let rest = c .before .before .before .before .before .rest8 .ensures in
     spotless (now (a .args .word)) (a .args .strength) (a .pre .0) (a .pre .1) rest
     (c .before .before .odd-values .ensures) (c .before .none .ensures (c .if3 .taken))
 
@@ -61,7 +62,7 @@ returns-3 c =
     let v = p .before .before .before in
     let rest = v .before .before .before in
     let a = rest .before .before .before in
-    flipped (now (a .args .word)) (a .args .strength) (a .pre .0) (a .pre .1) (rest .word-rest .ensures)
+    flipped (now (a .args .word)) (a .args .strength) (a .pre .0) (a .pre .1) (rest .rest8 .ensures)
     (v .odd-values .ensures) _ (p .locate .ensures) _ (c .before .before .before .before .if4 .taken) (c .before .before .flip .ensures)
 
 same-length-4 : tie.Need-same-length-4
@@ -72,14 +73,14 @@ returns-4 c =
     let v = c .before .before .before .before in
     let rest = v .before .before .before in
     let a = rest .before .before .before in
-    far-refused (now (a .args .word)) (a .args .strength) (a .pre .0) (a .pre .1) (rest .word-rest .ensures)
+    far-refused (now (a .args .word)) (a .args .strength) (a .pre .0) (a .pre .1) (rest .rest8 .ensures)
     (v .odd-values .ensures) _ (c .before .locate .ensures) (c .if4 .left)
 
 pub mend-block-spec : {M : Type 1} → statement M
 mend-block-spec =
     tie.close
     (tie.spec
-    word-rest-requires
+    rest8-requires
     same-length
     returns
     odd-values-requires

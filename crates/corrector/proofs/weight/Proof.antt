@@ -5,38 +5,28 @@ use Prim.Native.Nat.{ℕ, _^_}
 use native.Mathlib.Omega.{arith}
 use Rattle.corrector.proofs.weight.Statement.{statement}
 use Rattle.corrector.proofs.weight.Tie as tie
-use Rattle.corrector.proofs.weight.Reads as reads
-use Rattle.corrector.proofs.weight.Lts as lts
 
--- src/lib.rt:153:17
 returns : tie.Need-returns
 returns c = let h : c .before .before .before .args .k ≡ 0 = omega arith in sym (ap (λ (n : ℕ). 2 ^ n) h)
 
--- src/lib.rt:155:13
 returns-2 : tie.Need-returns-2
 returns-2 c = let h : c .before .before .before .args .k ≡ 1 = omega arith in sym (ap (λ (n : ℕ). 2 ^ n) h)
 
--- src/lib.rt:158:13
 returns-3 : tie.Need-returns-3
 returns-3 c = let h : c .before .before .before .args .k ≡ 2 = omega arith in sym (ap (λ (n : ℕ). 2 ^ n) h)
 
--- src/lib.rt:160:9
 returns-4 : tie.Need-returns-4
 returns-4 c = let h : c .before .before .before .args .k ≡ 3 = omega arith in sym (ap (λ (n : ℕ). 2 ^ n) h)
 
--- src/lib.rt:164:13
 returns-5 : tie.Need-returns-5
 returns-5 c = let h : c .before .before .before .args .k ≡ 4 = omega arith in sym (ap (λ (n : ℕ). 2 ^ n) h)
 
--- src/lib.rt:166:9
 returns-6 : tie.Need-returns-6
 returns-6 c = let h : c .before .before .before .args .k ≡ 5 = omega arith in sym (ap (λ (n : ℕ). 2 ^ n) h)
 
--- src/lib.rt:169:9
 returns-7 : tie.Need-returns-7
 returns-7 c = let h : c .before .before .before .args .k ≡ 6 = omega arith in sym (ap (λ (n : ℕ). 2 ^ n) h)
 
--- src/lib.rt:146:1
 returns-8 : tie.Need-returns-8
 returns-8 c = let h : c .before .before .before .args .k ≡ 7 = omega arith in sym (ap (λ (n : ℕ). 2 ^ n) h)
 

@@ -2,7 +2,7 @@
 -- Assumes nothing.
 use mathlib.Core.Logic.{⊎-elim, inl, inr}
 use mathlib.Core.Path.{sym, subst}
-use Rattle.corrector_syndromes.specs.Remainder.{RowAdded}
+use Rattle.corrector_syndromes.specs.Syndromes.{RowAdded}
 use native.Mathlib.Omega.{arith}
 use Rattle.corrector_syndromes.proofs.Adding.{AddingDigits, add-digits-from, add-digits-on, add-digits-end, place-fits}
 use borrow.Author.Needs.{needs}

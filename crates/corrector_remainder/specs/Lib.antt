@@ -1,0 +1,2 @@
+-- What is meant: the remainder at a strength.
+pub mod Remainder
