@@ -1,6 +1,6 @@
-/* blocks: drives the block corrector of the C face on the cases of tests/second/blocks.py from standard input, and prints
+/* corrected: drives the block corrector of the C face on the cases of tests/second/blocks.py from standard input, and prints
    their lines. A word is lent at every alignment, between margins; a refusal must leave it as it was. */
-#define DRIVER "blocks"
+#define DRIVER "corrected"
 #include "lent.h"
 #include "lent_bytes.h"
 #include "locator.h"
