@@ -1,16 +1,8 @@
 // What the program says: of words on standard error, and of itself.
 use libc::STDERR_FILENO;
 
-// The version of the program.
-const VERSION: [u8; 5] = *b"0.1.0";
-
 pub fn print_version() {
-    let version = VERSION;
-    if job_streams::print(b"blocks", b"blocks ") {
-        if job_streams::print(b"blocks", &version) {
-            job_streams::print(b"blocks", b"\n");
-        }
-    }
+    job_streams::print_version(b"blocks");
 }
 
 pub fn print_help() {

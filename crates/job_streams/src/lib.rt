@@ -79,6 +79,14 @@ fn refuse(program: &[u8], word: &[u8], usage: &[u8]) {
     io::write_all(STDERR_FILENO, b"\n");
 }
 
+// Prints the program's name and version.
+pub fn print_version(program: &[u8]) {
+    print(program, program);
+    print(program, b" ");
+    print(program, &VERSION);
+    print(program, b"\n");
+}
+
 // Does what the one word of a command line asks for; what is not known is refused.
 fn obey(program: &[u8], word: &[u8], usage: &[u8], help: &[u8]) {
     match word_of(word) {
@@ -88,12 +96,7 @@ fn obey(program: &[u8], word: &[u8], usage: &[u8], help: &[u8]) {
             print(program, b"\n");
             print(program, help);
         }
-        Word::Version => {
-            print(program, program);
-            print(program, b" ");
-            print(program, &VERSION);
-            print(program, b"\n");
-        }
+        Word::Version => print_version(program),
         Word::Unknown => refuse(program, word, usage),
     }
 }
