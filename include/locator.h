@@ -1,9 +1,9 @@
-/* locator.h: the roots of locator polynomials over GF(2^m), m = 4, 8 or 11, a corrector of blocks over m = 11, salvage of job files, and a writer of their
-   records. Link with liblocator.a (tools/library builds it, for x86-64 Linux).
+/* locator.h: the roots of locator polynomials over GF(2^m), m = 4, 8 or 11, a check of a partner's list of roots, a corrector and an encoder of blocks over
+   m = 11, salvage of job files, and a writer of their records. Link with liblocator.a (tools/library builds it, for x86-64 Linux).
 
    Every call is proved to do what stands over it, for every input (crates/locator/src/lib.rt has the contracts). docs/RULES.md has the rules in
-   full: fields and element calls are its sections 1 and 2, polynomials 3 (affine ones 3.6), work tables 4, the block corrector 7, refusals and their order 8,
-   salvage 11, writing records 12.
+   full: fields and element calls are its sections 1 and 2, polynomials 3 (affine ones 3.6), work tables 4, the block corrector and encoder 7, refusals and their
+   order 8, salvage 11, writing records 12, claims of roots 14.
 
    FIELDS. m is 4, 8 or 11, with the polynomials x^4+x+1, x^8+x^4+x^3+x^2+1 and x^11+x^2+1. An element is a number below 2^m whose bits are
    coefficients, bit 0 the constant; a is the element 2.
@@ -14,15 +14,15 @@
 
    OUTCOMES. 0: accepted. Any other is the number under which the input was turned away:
        1  there is no field of degree m          6  the cutoff is above 3
-       2  there are no coefficients              7  a list has under 32 slots (of an affine polynomial's
+       2  a polynomial has no coefficients       7  a list has under 32 slots (of an affine polynomial's
                                                     roots under 2^m), the table has not 100, or the room
                                                     for a salvaged file or a record is shorter than that
-       3  there are more than 33 coefficients,   8  the table is not sound
-          or more than 32 roots of a record
+       3  a polynomial has more than 33          8  the table is not sound
+          coefficients, or a record over 32 roots
        4  an element, a coefficient or a root    9  the table cannot be stepped: the first factor above the cutoff
           is 2^m or more                            has level m, or the steps are at their limit
-       5  every coefficient is 0                10  the table is not done
-                                                13  an inverse or a position of 0
+       5  every coefficient of the polynomial   10  the table is not done
+          is 0 (of a claim: of f)               13  an inverse or a position of 0
                                                 20  an affine polynomial has not m coefficients
                                                 21  the convention is neither 0 nor 1
                                                 22  the word has not 256 bytes, or its last bit is set
@@ -194,6 +194,31 @@ typedef struct { uint16_t outcome, length; } locator_written;
    Outcomes 0, 1, 3, 4, 25, 6, 7, in the order 1, 3, 4, 25, 6, 7: 3 where n is above 32; 4 where a root is 2^m or more; 25 where a root is not above the one
    before it; 6 where the cutoff is above 3; 7 where room is less than 7 + 2 n. examples/c/record.c has an example. */
 locator_written locator_write(uint16_t m, uint16_t cutoff, const uint16_t *roots, size_t n, uint8_t *record, size_t room);
+
+/* What the check of a claim gives: 1 where it is accepted, 0 for a plain "no" and where refused. */
+typedef struct { uint16_t outcome, accepted; } locator_claim;
+
+/* Checks a partner's list of roots of the polynomial f, without looking for roots. A claim is nr roots, beside each its multiplicity e, a cofactor h, and two
+   polynomials u and v; each polynomial has 1 to 33 coefficients, the constant first, and zeros at the top are ignored. It is accepted exactly if the roots are
+   strictly ascending, ne is nr and each e at least 1, the product of (z + r)^e over the roots and h is f, and u h + v w = 1, where w is the remainder of
+   z^(2^m) + z by h, or 0 if h is constant. Then roots and mults are what the whole call lists for f; and every f but 0 has a claim that is accepted. The work is
+   bounded, however long the lists are and whatever the multiplicities say.
+   Outcomes 0, 1, 2, 3, 4, 5: 2, then 3, where one of f, h, u and v has no coefficients, or too many; 4 where one of their coefficients or a root is 2^m or more,
+   whatever the multiplicities are; 5 where f is 0. Any other claim that is not accepted is a plain "no". examples/c/partner.c has an example. */
+locator_claim locator_check(uint16_t m, const uint16_t *f, size_t nf, const uint16_t *roots, size_t nr, const uint16_t *mults, size_t ne,
+                            const uint16_t *h, size_t nh, const uint16_t *u, size_t nu, const uint16_t *v, size_t nv);
+
+/* What the making of a claim gives: the number of roots. */
+typedef struct { uint16_t outcome, count; } locator_proved;
+
+/* Makes the claim about the polynomial f that locator_check accepts. The roots, ascending, and beside each its multiplicity fill the fronts of roots and mults,
+   count slots each, as the whole call fills them. The first LOCATOR_COEFFICIENTS slots of h, u and v take the coefficients, the constant first, zeros above the
+   top: h is f with z + r taken out as often as it divides, for every root r, and keeps the leading coefficient of f; v is the polynomial of a lower degree than h,
+   0 where h is constant, and u the one, with u h + v w = 1, where w is the remainder of z^(2^m) + z by h. There is one such claim. What is behind is not written.
+   Outcomes 0, 1, 2, 3, 4, 5, 7: as the whole call's, without the cutoff; 7 where roots or mults has fewer than LOCATOR_ROOTS slots, or h, u or v fewer than
+   LOCATOR_COEFFICIENTS. A refusal writes nothing. examples/c/partner.c has an example. */
+locator_proved locator_prove(uint16_t m, const uint16_t *f, size_t nf, uint16_t *roots, size_t nr, uint16_t *mults, size_t ne,
+                             uint16_t *h, size_t nh, uint16_t *u, size_t nu, uint16_t *v, size_t nv);
 
 #ifdef __cplusplus
 }

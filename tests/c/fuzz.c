@@ -2,15 +2,15 @@
    a page that cannot be touched, before it or behind it, with guards on its other side. What the calls give is compared with short functions of its own:
    the refusals and their order, soundness, products, values; a refusal writes nothing; begin, steps and finish give the roots of the whole call and of the search;
    an affine polynomial has the roots that its values say; planted errors come back, and what the corrector accepts is a codeword; salvage keeps what a plain walk keeps;
-   a record that is written is that of its roots, and is read back. tests/fuzz builds and runs it. */
+   a record that is written is that of its roots, and is read back; a claim that is made is accepted, and one with a slip exactly if it is right. tests/fuzz builds and runs it. */
 #define _GNU_SOURCE
 #include "locator.h"
 
 enum { PAGE = 65536, MOST = 512, LONGEST = 4096, GUARD = 64, GUARDED = 0xA5A5 };
-enum { PRODUCT, INVERSE, POSITION, QUADRATIC, SOLVE, SEARCH, BEGIN, STEP, FINISH, CORRECT, AFFINE, SALVAGE, WRITE, ENCODE, CALLS };
+enum { PRODUCT, INVERSE, POSITION, QUADRATIC, SOLVE, SEARCH, BEGIN, STEP, FINISH, CORRECT, AFFINE, SALVAGE, WRITE, ENCODE, CHECK, PROVE, CALLS };
 
 static const char *const name[CALLS] = {"product", "inverse", "position", "quadratic", "solve", "search", "begin", "step", "finish", "correct", "affine",
-                                        "salvage", "write", "encode"};
+                                        "salvage", "write", "encode", "check", "prove"};
 #include "fuzz.h"
 
 /* ---- lent memory */
@@ -342,6 +342,10 @@ static void tables(void)
 
 #include "fuzz_writer.h"
 
+/* ---- claims of roots */
+
+#include "fuzz_claims.h"
+
 int LLVMFuzzerInitialize(int *count, char ***words)
 {
     (void)count, (void)words;
@@ -364,6 +368,8 @@ int LLVMFuzzerTestOneInput(const uint8_t *data, size_t size)
         salvage();
     else if (kind % 16 == 5)
         write_one();
+    else if (kind % 16 == 13)
+        claims();
     else if (kind % 2 == 0)
         polynomials();
     else

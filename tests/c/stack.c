@@ -1,17 +1,17 @@
 /* Runs every call of the C face on a painted stack, in every field, on a polynomial of the highest degree that splits, and prints the most that was used.
-   The block corrector has eight wrong bits at strength 8, and then nine, which it turns away; the encoder has every strength. The affine polynomials have
-   one root, half of the elements as roots, every element, and none. The record that is written has as many roots as a record can have. Fails where it is
-   more than LOCATOR_STACK. */
+   The block corrector has eight wrong bits at strength 8, and then nine, which it turns away. The affine polynomials have one root, half of the elements
+   as roots, every element, and none. The record that is written has as many roots as a record can have. The claims that are checked and made are
+   about that polynomial, and one more is made about a polynomial that does not split. A word is encoded at every strength. Fails where it is more than LOCATOR_STACK. */
 #define _GNU_SOURCE
 #include "locator.h"
 #include <stdio.h>
 #include <string.h>
 #include <ucontext.h>
 
-enum { CALLS = 14, WIDEST = 11, PAINT = 0xA5 };
+enum { CALLS = 16, WIDEST = 11, PAINT = 0xA5 };
 
 static const char *const name[CALLS] = {"product", "inverse", "position", "quadratic", "solve", "search", "begin", "step", "finish", "correct", "affine",
-                                        "salvage", "write", "encode"};
+                                        "salvage", "write", "check", "encode", "prove"};
 static unsigned char stack[1 << 20];
 static ucontext_t home, there;
 static uint16_t field, f[LOCATOR_COEFFICIENTS], roots[LOCATOR_ROOTS], mults[LOCATOR_ROOTS], table[LOCATOR_SLOTS], elements[LOCATOR_ELEMENTS];
@@ -71,6 +71,31 @@ static void write_record(void)
     failed |= locator_write(field, 1, last, n, record, 6 + 2u * n).outcome != 7;
 }
 
+/* The polynomial of the highest degree is its roots' part, and the whole call left its roots: h is 1, u is 1 and v is 0. Then one root is left out, and h = z + r makes the longest way to "no". */
+static void check(void)
+{
+    uint16_t one[1] = {1}, zero[1] = {0}, h[2] = {0, 1}, size = (uint16_t)(1u << field), n = size < LOCATOR_ROOTS ? size : LOCATOR_ROOTS;
+    failed |= locator_check(field, f, LOCATOR_COEFFICIENTS, roots, n, mults, n, one, 1, one, 1, zero, 1).accepted != 1;
+    h[0] = roots[n - 1];
+    failed |= locator_check(field, f, LOCATOR_COEFFICIENTS, roots, n - 1u, mults, n - 1u, h, 2, one, 1, f, LOCATOR_COEFFICIENTS).accepted != 0;
+}
+
+/* The claim about that polynomial, and about one that does not split. */
+static void prove(void)
+{
+    static uint16_t h[LOCATOR_COEFFICIENTS], u[LOCATOR_COEFFICIENTS], v[LOCATOR_COEFFICIENTS], dense[LOCATOR_COEFFICIENTS];
+    failed |= locator_prove(field, f, LOCATOR_COEFFICIENTS, roots, LOCATOR_ROOTS, mults, LOCATOR_ROOTS, h, LOCATOR_COEFFICIENTS, u, LOCATOR_COEFFICIENTS, v,
+                            LOCATOR_COEFFICIENTS).outcome;
+    for (size_t i = 0; i < LOCATOR_COEFFICIENTS; i++)
+        dense[i] = (uint16_t)((i * i + 1) % (1u << field));
+    dense[LOCATOR_COEFFICIENTS - 1] = 1;
+    locator_proved c = locator_prove(field, dense, LOCATOR_COEFFICIENTS, roots, LOCATOR_ROOTS, mults, LOCATOR_ROOTS, h, LOCATOR_COEFFICIENTS, u,
+                                     LOCATOR_COEFFICIENTS, v, LOCATOR_COEFFICIENTS);
+    failed |= c.outcome != 0;
+    failed |= locator_check(field, dense, LOCATOR_COEFFICIENTS, roots, c.count, mults, c.count, h, LOCATOR_COEFFICIENTS, u, LOCATOR_COEFFICIENTS, v,
+                            LOCATOR_COEFFICIENTS).accepted != 1;
+}
+
 static void go(void)
 {
     switch (call) {
@@ -87,7 +112,9 @@ static void go(void)
     case 10: affine(); break;
     case 11: salvage(); break;
     case 12: write_record(); break;
-    case 13: encode(); break;
+    case 13: check(); break;
+    case 14: encode(); break;
+    case 15: prove(); break;
     }
 }
 

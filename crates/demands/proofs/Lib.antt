@@ -1,5 +1,5 @@
 -- The three demands, that the two ways agree, and what is promised of the block corrector and encoder, of salvage, of the
--- writer of records and of the monthly sheet.
+-- writer of records, of the monthly sheet and of the check and the making of a claim.
 pub mod Agreement
 pub mod Demand1
 pub mod Demand2
@@ -11,3 +11,4 @@ pub mod Encoder
 pub mod Salvage
 pub mod Writer
 pub mod Sheet
+pub mod Claims

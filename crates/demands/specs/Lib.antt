@@ -8,3 +8,4 @@ pub mod Encoder
 pub mod Salvage
 pub mod Writer
 pub mod Sheet
+pub mod Claims

@@ -72,7 +72,7 @@ fn count_each(
 }
 
 // The multiplicities over the field's lent tables, by division of a copy.
-fn multiplicities_lent(
+pub fn multiplicities_lent(
     m: u16,
     coeffs: &[u16],
     roots: &[u16],

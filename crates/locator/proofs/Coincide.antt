@@ -17,7 +17,10 @@ use Rattle.corrector.proofs.Coincide.{correct-coincide}
 use Rattle.corrector_encoder.proofs.Coincide.{encode-coincide}
 use Rattle.job_salvage.proofs.Coincide.{salvage-coincide}
 use Rattle.job_writer.proofs.Coincide.{write-coincide}
-use Rattle.locator.specs.Calls.{As, ProductAs, InverseAs, PositionAs, QuadraticAs, SolvesAs, SearchesAs, SpansAs, BeginsAs, StepsAs, FinishesAs, CorrectsAs, EncodesAs, SalvagesAs, WritesAs}
+use Rattle.claim_rules.specs.Claims.{Claim}
+use Rattle.claims.proofs.Coincide.{check-coincide}
+use Rattle.claim_maker.proofs.Coincide.{prove-coincide}
+use Rattle.locator.specs.Calls.{As, ProductAs, InverseAs, PositionAs, QuadraticAs, SolvesAs, SearchesAs, SpansAs, BeginsAs, StepsAs, FinishesAs, CorrectsAs, EncodesAs, SalvagesAs, WritesAs, ChecksAs, ProvesAs}
 use Rattle.locator.specs.declared.LocatorValue.{LocatorValue}
 use Rattle.locator.specs.declared.LocatorPair.{LocatorPair}
 use Rattle.locator.specs.declared.LocatorFound.{LocatorFound}
@@ -27,6 +30,8 @@ use Rattle.locator.specs.declared.LocatorCorrected.{LocatorCorrected}
 use Rattle.locator.specs.declared.LocatorEncoded.{LocatorEncoded}
 use Rattle.locator.specs.declared.LocatorSalvaged.{LocatorSalvaged}
 use Rattle.locator.specs.declared.LocatorWritten.{LocatorWritten}
+use Rattle.locator.specs.declared.LocatorClaim.{LocatorClaim}
+use Rattle.locator.specs.declared.LocatorProved.{LocatorProved}
 
 -- one answer, one struct
 one-struct : {A R : Type 0} {tell : A → R} {admits : A → Type 0} → ((a b : A) → admits a → admits b → a ≡ b)
@@ -34,9 +39,9 @@ one-struct : {A R : Type 0} {tell : A → R} {admits : A → Type 0} → ((a b :
 one-struct {tell = tell} one h k = h .told ∙ ap tell (one (h .answer) (k .answer) (h .admitted) (k .admitted)) ∙ sym (k .told)
 
 -- the same with lent memory
-one-memory : {A R : Type 0} {tell : A → R} {admits : A → List ℕ → Type 0}
-    → ((a b : A) (x y : List ℕ) → admits a x → admits b y → (a ≡ b) × (x ≡ y))
-    → {r s : R} {x y : List ℕ} → As tell (λ a. admits a x) r → As tell (λ a. admits a y) s → (r ≡ s) × (x ≡ y)
+one-memory : {A R S : Type 0} {tell : A → R} {admits : A → S → Type 0}
+    → ((a b : A) (x y : S) → admits a x → admits b y → (a ≡ b) × (x ≡ y))
+    → {r s : R} {x y : S} → As tell (λ a. admits a x) r → As tell (λ a. admits a y) s → (r ≡ s) × (x ≡ y)
 one-memory {tell = tell} one {x = x} {y = y} h k =
     let e = one (h .answer) (k .answer) x y (h .admitted) (k .admitted) in
     (h .told ∙ ap tell (e .0) ∙ sym (k .told), e .1)
@@ -99,3 +104,9 @@ salvage-one file room r s x y h k = one-memory (salvage-coincide file room) h k
 pub write-one : (m c : ℕ) (roots room : List ℕ) (r s : LocatorWritten) (x y : List ℕ)
     → WritesAs m c roots room r x → WritesAs m c roots room s y → (r ≡ s) × (x ≡ y)
 write-one m c roots room r s x y h k = one-memory (write-coincide m c roots room) h k
+
+pub check-one : (m : ℕ) (f : List ℕ) (c : Claim) (r s : LocatorClaim) → ChecksAs m f c r → ChecksAs m f c s → r ≡ s
+check-one m f c r s h k = one-struct (check-coincide m f c) h k
+
+pub prove-one : (m : ℕ) (f : List ℕ) (b : Claim) (r s : LocatorProved) (x y : Claim) → ProvesAs m f b r x → ProvesAs m f b s y → (r ≡ s) × (x ≡ y)
+prove-one m f b r s x y h k = one-memory (prove-coincide m f b) h k

@@ -46,9 +46,16 @@ use Rattle.corrector_encoder.specs.declared.Encoded.the-variants.{Checks, NotEn
 use Rattle.job_writer.specs.Calls.{toldWritten}
 use Rattle.job_writer.specs.declared.Written.{Written}
 use Rattle.job_writer.specs.declared.Written.the-variants.{Bytes, NotWritten}
-use Rattle.locator.specs.Calls.{asValue, asPair, asFound, asSpace, asStepped, asCorrected, asEncoded, asWritten}
+use Rattle.claims.specs.Calls.{toldChecked}
+use Rattle.claims.specs.declared.Checked.{Checked}
+use Rattle.claim_maker.specs.Calls.{toldProved}
+use Rattle.claim_maker.specs.declared.Proved.{Proved}
+use Rattle.claim_maker.specs.declared.Proved.the-variants.{Proven, NotProven}
+use Rattle.claims.specs.declared.Checked.the-variants.{Accepted, No, NotChecked}
+use Rattle.locator.specs.Calls.{asValue, asPair, asFound, asSpace, asStepped, asCorrected, asEncoded, asWritten, asClaim, asProved}
 use Rattle.locator.specs.declared.LocatorPair.{LocatorPair}
 use Rattle.locator.specs.declared.LocatorSpace.{LocatorSpace}
+use Rattle.locator.specs.declared.LocatorClaim.{LocatorClaim}
 
 -- ---- element calls
 
@@ -153,3 +160,20 @@ corrected-by-struct = told-by (λ (a : Corrected). asCorrected (toldCorrected a)
 pub encoded-by-struct : (a b : Encoded) → asEncoded (toldEncoded a) ≡ asEncoded (toldEncoded b) → a ≡ b
 encoded-by-struct = told-by (λ (a : Encoded). asEncoded (toldEncoded a)) (λ c. c .outcome) NotEncoded (λ c. Checks (c .checks))
     (elim [ Checks n ↦ accepted-back NotEncoded (Checks n) | NotEncoded k ↦ refused-back NotEncoded (Checks 0) k ])
+
+-- ---- the check: 1 tells an accepted claim from a plain "no"
+
+verdictBack : ℕ → Checked
+verdictBack zero = No
+verdictBack (suc n) = Accepted
+
+pub checked-by-struct : (a b : Checked) → asClaim (toldChecked a) ≡ asClaim (toldChecked b) → a ≡ b
+unfolding verdictBack
+checked-by-struct = told-by (λ (a : Checked). asClaim (toldChecked a)) (λ c. c .outcome) NotChecked (λ c. verdictBack (c .accepted))
+    (elim [ Accepted ↦ accepted-back NotChecked Accepted | No ↦ accepted-back NotChecked No | NotChecked k ↦ refused-back NotChecked No k ])
+
+-- ---- the making: the number of roots
+
+pub proved-by-struct : (a b : Proved) → asProved (toldProved a) ≡ asProved (toldProved b) → a ≡ b
+proved-by-struct = told-by (λ (a : Proved). asProved (toldProved a)) (λ c. c .outcome) NotProven (λ c. Proven (c .count))
+    (elim [ Proven n ↦ accepted-back NotProven (Proven n) | NotProven k ↦ refused-back NotProven (Proven 0) k ])

@@ -11,6 +11,8 @@
 --   asEncoded     outcome, and how many check bits the word has
 --   asSalvaged    outcome, and how many bytes are kept; how many records is not told
 --   asWritten     outcome, and how many bytes the record has
+--   asClaim       outcome, and 1 where the claim is accepted
+--   asProved      outcome, and how many roots the claim that was made has
 --   As            r is the struct of an answer that a contract admits
 --   ProductAs ..  THE CONTRACT of each export, by that of the call
 -- Assumes nothing.
@@ -27,6 +29,8 @@ use Rattle.locator.specs.declared.LocatorCorrected.{LocatorCorrected}
 use Rattle.locator.specs.declared.LocatorEncoded.{LocatorEncoded}
 use Rattle.locator.specs.declared.LocatorSalvaged.{LocatorSalvaged}
 use Rattle.locator.specs.declared.LocatorWritten.{LocatorWritten}
+use Rattle.locator.specs.declared.LocatorClaim.{LocatorClaim}
+use Rattle.locator.specs.declared.LocatorProved.{LocatorProved}
 use Rattle.field_elements.specs.Calls.{toldAnswer, toldQuadratic, TellsProduct}
 use Rattle.field_elements.specs.Calls.{TellsInverse, TellsPosition, TellsQuadratic}
 use Rattle.find_solve.specs.Calls.{toldSolved, Solves}
@@ -39,6 +43,9 @@ use Rattle.corrector.specs.Correcting.{toldCorrected, Corrects}
 use Rattle.corrector_encoder.specs.Encoding.{toldEncoded, Encodes}
 use Rattle.job_salvage.specs.Calls.{toldSalvaged, Salvages}
 use Rattle.job_writer.specs.Calls.{toldWritten, Writes}
+use Rattle.claim_rules.specs.Claims.{Claim}
+use Rattle.claims.specs.Calls.{toldChecked, Checks}
+use Rattle.claim_maker.specs.Calls.{toldProved, Proves}
 
 -- the value at place i of an outcome, or 0
 abbrev pub valueIn : ℕ × List ℕ → ℕ → ℕ
@@ -80,6 +87,14 @@ asSalvaged o = record { outcome = o .0; length = valueIn o 0 }
 -- outcome and length
 abbrev pub asWritten : ℕ × List ℕ → LocatorWritten
 asWritten o = record { outcome = o .0; length = valueIn o 0 }
+
+-- outcome, and 1 or 0
+abbrev pub asClaim : ℕ × List ℕ → LocatorClaim
+asClaim o = record { outcome = o .0; accepted = valueIn o 0 }
+
+-- outcome, and how many roots
+abbrev pub asProved : ℕ × List ℕ → LocatorProved
+asProved o = record { outcome = o .0; count = valueIn o 0 }
 
 -- THE CONTRACTS of the exports: r is the struct of an answer that the contract of the call admits
 pub record As {A R : Type 0} (tell : A → R) (admits : A → Type 0) (r : R) : Type 0 where
@@ -131,3 +146,11 @@ SalvagesAs file room r after = As (λ x. asSalvaged (toldSalvaged x)) (λ x. Sal
 
 abbrev pub WritesAs : ℕ → ℕ → List ℕ → List ℕ → LocatorWritten → List ℕ → Type 0
 WritesAs m c roots room r after = As (λ x. asWritten (toldWritten x)) (λ x. Writes m c roots room x after) r
+
+-- nothing is lent to write to
+abbrev pub ChecksAs : ℕ → List ℕ → Claim → LocatorClaim → Type 0
+ChecksAs m f c = As (λ x. asClaim (toldChecked x)) (Checks m f c)
+
+-- what the five buffers hold before and afterwards is told as a claim
+abbrev pub ProvesAs : ℕ → List ℕ → Claim → LocatorProved → Claim → Type 0
+ProvesAs m f before r after = As (λ x. asProved (toldProved x)) (λ x. Proves m f before x after) r

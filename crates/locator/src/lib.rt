@@ -1,13 +1,17 @@
 // The C face (docs/RULES.md section 9): the element calls, the whole call, the plain search, the affine call, begin,
-// step and finish, the block corrector and encoder, salvage and the writer, as include/locator.h declares them. A slice
-// is a pointer, then a count. Each call answers every input; it neither allocates nor calls out, and keeps no state.
+// step and finish, the block corrector and encoder, salvage, the writer, the check and the making of a claim, as
+// include/locator.h declares them. A slice is a pointer, then a count. Each call answers every input; it neither
+// allocates nor calls out, and keeps no state.
 ghost use Rattle.locator.specs.Calls.{ProductAs, InverseAs, PositionAs, QuadraticAs};
 ghost use Rattle.locator.specs.Calls.{SolvesAs, SearchesAs, SpansAs, BeginsAs, StepsAs, FinishesAs, CorrectsAs};
-ghost use Rattle.locator.specs.Calls.{EncodesAs, SalvagesAs, WritesAs};
+ghost use Rattle.claim_rules.specs.Claims.{claimOf};
+ghost use Rattle.locator.specs.Calls.{EncodesAs, SalvagesAs, WritesAs, ChecksAs, ProvesAs};
 use answers::found;
 use answers::refused;
 use answers::roots_of;
 use answers::value_of;
+use claim_maker::Proved;
+use claims::Checked;
 use corrector::Corrected;
 use corrector_encoder::Encoded;
 use field_elements::Element;
@@ -90,6 +94,20 @@ pub struct LocatorSalvaged {
 pub struct LocatorWritten {
     pub outcome: u16,
     pub length: u16,
+}
+
+// The check's answer: 1 where the claim is accepted, 0 for a plain "no".
+#[repr(C)]
+pub struct LocatorClaim {
+    pub outcome: u16,
+    pub accepted: u16,
+}
+
+// What was made: how many roots the claim has.
+#[repr(C)]
+pub struct LocatorProved {
+    pub outcome: u16,
+    pub count: u16,
 }
 
 // The product of a and b in the field of degree m.
@@ -303,6 +321,63 @@ pub extern "C" fn locator_write(
         Written::NotWritten(k) => LocatorWritten {
             outcome: number(k),
             length: 0,
+        },
+    }
+}
+
+// The check of a claim: the roots of f with their multiplicities, a cofactor h, and u and v.
+#[no_mangle]
+pub extern "C" fn locator_check(
+    m: u16,
+    f: &[Element],
+    roots: &[Element],
+    mults: &[u16],
+    h: &[Element],
+    u: &[Element],
+    v: &[Element],
+) -> LocatorClaim
+    ensures { λ r. ⌜ ChecksAs m (now (f .entry)) (claimOf (now (roots .entry)) (now (mults .entry))
+        (now (h .entry)) (now (u .entry)) (now (v .entry))) r ⌝ }
+{
+    match claims::check(m, f, roots, mults, h, u, v) {
+        Checked::Accepted => LocatorClaim {
+            outcome: 0,
+            accepted: 1,
+        },
+        Checked::No => LocatorClaim {
+            outcome: 0,
+            accepted: 0,
+        },
+        Checked::NotChecked(k) => LocatorClaim {
+            outcome: number(k),
+            accepted: 0,
+        },
+    }
+}
+
+// The making of a claim about f: fills its roots, their multiplicities, the cofactor h, and u and v.
+#[no_mangle]
+pub extern "C" fn locator_prove(
+    m: u16,
+    f: &[Element],
+    roots: &mut [Element],
+    mults: &mut [u16],
+    h: &mut [Element],
+    u: &mut [Element],
+    v: &mut [Element],
+) -> LocatorProved
+    ensures { λ r. ⌜ ProvesAs m (now (f .entry))
+        (claimOf (now (roots .entry)) (now (mults .entry)) (now (h .entry)) (now (u .entry)) (now (v .entry))) r
+        (claimOf (now (roots .exit)) (now (mults .exit)) (now (h .exit)) (now (u .exit)) (now (v .exit))) ⌝ }
+{
+    match claim_maker::prove(m, f, roots, mults, h, u, v) {
+        Proved::Proven(n) => LocatorProved {
+            outcome: 0,
+            count: n,
+        },
+        Proved::NotProven(k) => LocatorProved {
+            outcome: number(k),
+            count: 0,
         },
     }
 }

@@ -30,7 +30,7 @@ pub fn inverse_by_logs(m: u16, logs: &[u16], antilogs: &[u16], x: u16) -> u16
 }
 
 // Multiplies each coefficient of r by v.
-fn scale(m: u16, logs: &[u16], antilogs: &[u16], v: u16, r: &mut [u16])
+pub fn scale(m: u16, logs: &[u16], antilogs: &[u16], v: u16, r: &mut [u16])
     requires { ⌜ Scalable m (now logs) (now antilogs) v (now r) ⌝ }
     ensures { λ _. ⌜ now (r .exit) ≡ map (G m .mul v) (now (r .entry)) ⌝ }
 {

@@ -49,6 +49,18 @@ pub struct Encoded {
 }
 
 #[repr(C)]
+pub struct Checked {
+    pub outcome: u16,
+    pub accepted: u16,
+}
+
+#[repr(C)]
+pub struct Proved {
+    pub outcome: u16,
+    pub count: u16,
+}
+
+#[repr(C)]
 pub struct Salvaged {
     pub outcome: u16,
     pub length: usize,
@@ -104,6 +116,36 @@ extern "C" {
     fn locator_finish(table: *const u16, slots: usize, roots: *mut u16, room: usize) -> Found;
     fn locator_correct(strength: u16, word: *mut u8, bytes: usize) -> Corrected;
     fn locator_encode(strength: u16, word: *mut u8, bytes: usize) -> Encoded;
+    fn locator_check(
+        m: u16,
+        f: *const u16,
+        nf: usize,
+        roots: *const u16,
+        nr: usize,
+        mults: *const u16,
+        ne: usize,
+        h: *const u16,
+        nh: usize,
+        u: *const u16,
+        nu: usize,
+        v: *const u16,
+        nv: usize,
+    ) -> Checked;
+    fn locator_prove(
+        m: u16,
+        f: *const u16,
+        nf: usize,
+        roots: *mut u16,
+        nr: usize,
+        mults: *mut u16,
+        ne: usize,
+        h: *mut u16,
+        nh: usize,
+        u: *mut u16,
+        nu: usize,
+        v: *mut u16,
+        nv: usize,
+    ) -> Proved;
     fn locator_salvage(file: *const u8, n: usize, kept: *mut u8, room: usize) -> Salvaged;
     fn locator_write(
         m: u16,
@@ -206,6 +248,46 @@ pub fn correct(strength: u16, word: &mut [u8]) -> Corrected {
 
 pub fn encode(strength: u16, word: &mut [u8]) -> Encoded {
     unsafe { locator_encode(strength, word.as_mut_ptr(), word.len()) }
+}
+
+pub fn check(m: u16, f: &[u16], claim: crate::Claim) -> Checked {
+    unsafe {
+        locator_check(
+            m,
+            f.as_ptr(),
+            f.len(),
+            claim.roots.as_ptr(),
+            claim.roots.len(),
+            claim.multiplicities.as_ptr(),
+            claim.multiplicities.len(),
+            claim.h.as_ptr(),
+            claim.h.len(),
+            claim.u.as_ptr(),
+            claim.u.len(),
+            claim.v.as_ptr(),
+            claim.v.len(),
+        )
+    }
+}
+
+pub fn prove(m: u16, f: &[u16], buffers: &mut crate::Buffers) -> Proved {
+    unsafe {
+        locator_prove(
+            m,
+            f.as_ptr(),
+            f.len(),
+            buffers.roots.as_mut_ptr(),
+            buffers.roots.len(),
+            buffers.multiplicities.as_mut_ptr(),
+            buffers.multiplicities.len(),
+            buffers.h.as_mut_ptr(),
+            buffers.h.len(),
+            buffers.u.as_mut_ptr(),
+            buffers.u.len(),
+            buffers.v.as_mut_ptr(),
+            buffers.v.len(),
+        )
+    }
 }
 
 pub fn salvage(file: &[u8], kept: &mut [u8]) -> Salvaged {

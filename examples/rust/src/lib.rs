@@ -1,5 +1,6 @@
 //! Safe calls of the proved root finder: the roots of polynomials over GF(2^m), m = 4, 8 or 11, of affine ones of any
-//! degree, the block corrector and encoder, salvage of job files, and a writer of their records.
+//! degree, claims of roots checked and made, the block corrector and encoder, salvage of job files, and a writer of their
+//! records.
 //! include/locator.h says what each call does; here a refusal is an error, a list is a slice, and what is given back is
 //! typed. No call allocates, calls out or keeps state.
 #![no_std]
@@ -10,6 +11,8 @@ mod face;
 pub const SLOTS: usize = 100;
 /// The fewest slots of a root list.
 pub const ROOTS: usize = 32;
+/// The most coefficients of a polynomial.
+pub const COEFFICIENTS: usize = 33;
 /// Slots that are enough for the roots of an affine polynomial in any field.
 pub const ELEMENTS: usize = 2048;
 /// The bytes of a word of the block corrector and encoder.
@@ -153,6 +156,27 @@ impl<'a> Space<'a> {
     }
 }
 
+/// A claim about a polynomial f: its roots, ascending, and beside each its multiplicity; the cofactor h that is left of f
+/// without them; and u and v with u h + v w = 1, where w is the remainder of z^(2^m) + z by h, or 0 if h is constant.
+#[derive(Clone, Copy, Debug, PartialEq, Eq)]
+pub struct Claim<'a> {
+    pub roots: &'a [u16],
+    pub multiplicities: &'a [u16],
+    pub h: &'a [u16],
+    pub u: &'a [u16],
+    pub v: &'a [u16],
+}
+
+/// Room for a claim: lists of at least [`ROOTS`] slots, and polynomials of at least [`COEFFICIENTS`].
+#[derive(Debug)]
+pub struct Buffers<'a> {
+    pub roots: &'a mut [u16],
+    pub multiplicities: &'a mut [u16],
+    pub h: &'a mut [u16],
+    pub u: &'a mut [u16],
+    pub v: &'a mut [u16],
+}
+
 /// What a step does.
 #[derive(Clone, Copy, Debug, PartialEq, Eq)]
 pub enum Step {
@@ -289,6 +313,34 @@ pub fn correct(strength: u16, word: &mut [u8]) -> Result<u16, Refusal> {
 pub fn encode(strength: u16, word: &mut [u8]) -> Result<u16, Refusal> {
     let encoded = face::encode(strength, word);
     accepted(encoded.outcome).map(|()| encoded.checks)
+}
+
+/// Whether a partner's claim about f is right: what is accepted is the complete list of the roots of f, with their
+/// multiplicities. Nothing is searched, and the partner need not be trusted.
+pub fn check(m: u16, f: &[u16], claim: Claim) -> Result<bool, Refusal> {
+    let checked = face::check(m, f, claim);
+    accepted(checked.outcome).map(|()| checked.accepted != 0)
+}
+
+/// Makes the claim about f, which [`check`] accepts: the fronts of the buffers. What is behind them is not written.
+pub fn prove<'a>(m: u16, f: &[u16], mut buffers: Buffers<'a>) -> Result<Claim<'a>, Refusal> {
+    let proved = face::prove(m, f, &mut buffers);
+    accepted(proved.outcome)?;
+    let Buffers {
+        roots,
+        multiplicities,
+        h,
+        u,
+        v,
+    } = buffers;
+    let count: usize = proved.count.into();
+    Ok(Claim {
+        roots: &roots[..count],
+        multiplicities: &multiplicities[..count],
+        h: &h[..COEFFICIENTS],
+        u: &u[..COEFFICIENTS],
+        v: &v[..COEFFICIENTS],
+    })
 }
 
 /// Salvage of a damaged job file: the records that can be kept, unaltered and in order, at the front of `kept`, which must

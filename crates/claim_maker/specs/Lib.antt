@@ -1,0 +1,3 @@
+-- What is meant: the call, and its parts.
+pub mod Calls
+pub mod Making
