@@ -10,7 +10,7 @@ import tempfile
 TOP = pathlib.Path(__file__).resolve().parent.parent
 CRATES = TOP / "crates"
 # The sources that scripts of tools/ write.
-GENERATED = {"field_tables/halves.rt", "field_tables/logtables.rt", "field_tables/antilogs.rt", "poly_values/tables.rt", "corrector_generator/rows8.rt", "corrector_generator/rows5.rt", "corrector_remainder/raised.rt", "corrector_syndromes/powers.rt", "corrector_locator/powers.rt"}
+GENERATED = {"field_tables/halves.rt", "field_tables/logtables.rt", "field_tables/antilogs.rt", "poly_values/tables.rt", "corrector_generator/rows8.rt", "corrector_generator/rows5.rt", "corrector_remainder/raised.rt", "corrector_syndromes/powers.rt", "corrector_locator/powers.rt", "field_constants/words.rt"}
 
 
 def command(text, status):

@@ -6,6 +6,7 @@ A new field costs a row in crates/field, these tables, and a few lines that name
 import sys
 
 sys.dont_write_bytecode = True
+from field_numbers import halves, logs, powers
 from repository import command
 
 args = command(__doc__, "0 printed")
@@ -18,39 +19,17 @@ if poly >> m != 1:
 size = 1 << m
 order = size - 1
 
-
-def double(x):
-    x <<= 1
-    return x ^ poly if x >> m else x
-
-
-def times(a, b):
-    r = 0
-    while a:
-        if a & 1:
-            r ^= b
-        a >>= 1
-        b = double(b)
-    return r
-
-
-half = [65535] * size
-for j in range(0, size, 2):
-    half[times(j, j) ^ j] = j
-powers = [1]
-while len(powers) < order:
-    powers.append(double(powers[-1]))
-# the log of an element is twice its position, that of 0 is odd: zeros stand between the powers, never in a run (crates/field/specs/Tables.antt)
-log = [1] + [0] * order
-for j in range(order):
-    log[powers[j]] = 2 * j
-antilog = [x for power in powers + powers for x in (power, 0)]
+half = halves(m, poly)
+power = powers(m, poly, order)
+log = logs(m, poly)
+# zeros stand between the powers, never in a run
+antilog = [x for y in power + power for x in (y, 0)]
 
 tables = (
     ("HALF", half, f"SIZE{m}"),
     ("LOG", log, f"SIZE{m}"),
     ("ANTILOG", antilog, f"4 * (SIZE{m} - 1)"),
-    ("POWER", powers + [1], "POWERS"),
+    ("POWER", power + [1], "POWERS"),
 )
 for name, entries, length in tables:
     print(f"pub const {name}{m}: [u16; {length}] = [")

@@ -3,4 +3,5 @@ pub mod Running
 pub mod Tracing
 pub mod Admitting
 pub mod Lowest
+pub mod Direct
 pub mod Coincide

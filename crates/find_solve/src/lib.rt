@@ -9,11 +9,14 @@
 // parts a factor P by the roots' next trace bit: gcd(P, Tr(a^i z)), and the rest. Factors of degree at most the cutoff
 // are solved. A step divides by the trace of its level modulo the polynomial, not modulo the factor: the powers of z
 // on begin's way to z^(2^m) are kept, and Tr(a^i z) is a sum of their multiples, taken once a level.
+// In field 11 degrees 1 to 4 take no table and no lent memory (crate find_direct): a quotient, the quadratic's formula,
+// or a guess that is tried. The steps that a table would take are then counted from the roots' trace bits.
 ghost use Prim.Native.Nat.{_≤_};
 ghost use lib.ListN.{length};
 ghost use Rattle.table_rules.specs.Cutoff.{highestCutoff};
 ghost use Rattle.table_rules.specs.Limit.{limit};
 ghost use Rattle.table_rules.specs.Polynomials.{PolynomialIn};
+ghost use Rattle.find_direct.specs.Listing.{Leading};
 ghost use Rattle.find_solve.specs.Calls.{Solves};
 ghost use Rattle.find_solve.specs.Solving.{Traceable, TracedTo, Advancing, Advanced};
 ghost use Rattle.find_solve.specs.Solving.{Running, RunOut, Solvable, SolvedOut, SolvedAtAny, AtMostLinear};
@@ -30,6 +33,9 @@ use field_tables::field_types::inverse_in;
 use field_tables::field_types::product_in;
 use find_admit::admit;
 use find_admit::in_force;
+use find_direct::Direct;
+use find_direct::direct_roots;
+use find_direct::steps::steps_of;
 use find_multiplicities::multiplicities_in;
 use poly::monic::top;
 use poly_powers::add_trace;
@@ -189,21 +195,53 @@ fn solve_low(m: u16, n: usize, coeffs: &[u16], roots: &mut [u16]) -> Counts
     Counts { s: 1, steps: 0 }
 }
 
-// The roots and steps of an accepted polynomial, at a cutoff from 1 to 3. From degree 2 on the field's tables are lent
-// here.
-pub fn solve_in(m: u16, c: u16, coeffs: &[u16], roots: &mut [u16]) -> Counts
+// The roots and steps of an accepted polynomial, at a cutoff from 1 to 3, by traces. The field's tables are lent here.
+fn solve_traced(m: u16, c: u16, coeffs: &[u16], roots: &mut [u16]) -> Counts
     requires { ⌜ PolynomialIn m (now coeffs) × (1 ≤ c) × (c ≤ highestCutoff) × (limit ≤ length (now roots)) ⌝ }
     ensures { λ r. ⌜ SolvedOut m c (now (coeffs .entry)) (now (roots .entry)) r (now (roots .exit)) ⌝ }
 {
-    let n = top(coeffs);
-    if n <= 2 {
-        return solve_low(m, n, coeffs, roots);
-    }
     match m {
         4 => solve_lent(m, c, coeffs, &logs4(), &antilogs4(), &halves4(), roots),
         8 => solve_lent(m, c, coeffs, &logs8(), &antilogs8(), &halves8(), roots),
         _ => solve_lent(m, c, coeffs, &logs11(), &antilogs11(), &halves11(), roots),
     }
+}
+
+// The roots and steps of an accepted polynomial of field 11 with n coefficients up to its leading one, of degree 1 to
+// 4, at a cutoff from 1 to 3. Its roots tell the steps; where a guess fails the table is begun and stepped.
+fn solve_direct(n: usize, c: u16, coeffs: &[u16], roots: &mut [u16]) -> Counts
+    requires { ⌜ Leading n (now coeffs) × (2 ≤ n) × (n ≤ 5)
+        × (1 ≤ c) × (c ≤ highestCutoff) × (limit ≤ length (now roots)) ⌝ }
+    ensures { λ r. ⌜ SolvedOut 11 c (now (coeffs .entry)) (now (roots .entry)) r (now (roots .exit)) ⌝ }
+{
+    match direct_roots(n, coeffs, roots) {
+        Direct::Written(k) => {
+            let e = k as usize;
+            let steps = steps_of(c, &roots[..e]);
+            Counts { s: k, steps: steps }
+        }
+        Direct::Missed => solve_traced(11, c, coeffs, roots),
+    }
+}
+
+// The roots and steps of an accepted polynomial, at a cutoff from 1 to 3. In field 11 degrees 1 to 4 are solved
+// directly.
+pub fn solve_in(m: u16, c: u16, coeffs: &[u16], roots: &mut [u16]) -> Counts
+    requires { ⌜ PolynomialIn m (now coeffs) × (1 ≤ c) × (c ≤ highestCutoff) × (limit ≤ length (now roots)) ⌝ }
+    ensures { λ r. ⌜ SolvedOut m c (now (coeffs .entry)) (now (roots .entry)) r (now (roots .exit)) ⌝ }
+{
+    let n = top(coeffs);
+    if m == 11 {
+        if 2 <= n {
+            if n <= 5 {
+                return solve_direct(n, c, coeffs, roots);
+            }
+        }
+    }
+    if n <= 2 {
+        return solve_low(m, n, coeffs, roots);
+    }
+    solve_traced(m, c, coeffs, roots)
 }
 
 // The whole call: all distinct roots, ascending, at the front of the first list, their multiplicities at the front of

@@ -1,7 +1,8 @@
 -- Numbers tried from the last on, each below the one before.
 --   Trying                        what holds at each turn: those passed are roots, ascending
---   try-from, try-asks, try-on    the start, what a turn asks, and its going on
+--   try-from, try-on              the start, and a turn
 --   try-end                       all passed: as many roots as the degree are all
+--   try-asks, try-size, try-all   what a turn asks over lent tables, where it starts, and its end
 --   lead-front                    low coefficients with 1 behind them are the monic polynomial
 --   check-asks, check-out         what the trial asks, and what it gives
 --   check-none                    nothing is said where the answer is no
@@ -15,6 +16,7 @@ use Prim.Native.Nat.{ℕ, zero, suc, _+_, _-_, _^_, _≤_, _<_}
 use native.Mathlib.Omega.{arith}
 use lib.ListN.{length, getD, take, drop}
 use lib.Seq.{drop-cons, drop-length, take-append-add}
+use Rattle.algebra.specs.Field.{OnNumbers}
 use Rattle.algebra.specs.Trial.{All, Ascending}
 use Rattle.algebra.specs.Polynomial.{Below, eval}
 use Rattle.algebra.specs.Routines.{monic}
@@ -38,28 +40,14 @@ pub record Trying (m : ℕ) (f xs : List ℕ) (bound i : ℕ) : Type 0 where
   pub above : All (λ y. bound ≤ y) (drop i xs)
   pub zeros : All (λ y. (y < 2 ^ m) × (eval (G m) f y ≡ 0)) (drop i xs)
 
-module _ {m : ℕ} {ls ts f xs : List ℕ} (t : Triable m ls ts f xs) where
+module _ {m : ℕ} {f xs : List ℕ} where
   -- before the first none is passed
-  pub try-from : Trying m f xs (length ls) (length xs)
-  try-from =
+  pub try-from : {bound : ℕ} → bound ≤ 2 ^ m → Trying m f xs bound (length xs)
+  try-from h =
       let e : drop (length xs) xs ≡ [] = drop-length xs in
-      record {
-        within = omega arith;
-        limit = omega (arith, t .tables .logs .entries);
-        ascends = rw e tt;
-        above = rw e tt;
-        zeros = rw e tt;
-      }
-
-  -- the polynomial's coefficients are elements
-  pub try-below : Below (2 ^ m) f
-  try-below = subst (Below (2 ^ m)) (sym (t .whole)) (monic-below (numbers-of (t .tables)) (t .low) (t .small))
+      record { within = omega arith; limit = h; ascends = rw e tt; above = rw e tt; zeros = rw e tt }
 
   module _ {bound i : ℕ} (s : Trying m f xs bound i) where
-    -- what a turn asks
-    pub try-asks : {x : ℕ} → x < bound → Lent m ls ts × Below (2 ^ m) f × (x < 2 ^ m)
-    try-asks h = (t .tables, try-below, omega (arith, s .limit))
-
     -- one more root
     pub try-on : 0 < i → getD xs (i - 1) 0 < bound → eval (G m) f (getD xs (i - 1) 0) ≡ 0 → Trying m f xs (getD xs (i - 1) 0) (i - 1)
     try-on h l z =
@@ -74,13 +62,28 @@ module _ {m : ℕ} {ls ts f xs : List ℕ} (t : Triable m ls ts f xs) where
           zeros = rw e ((omega (arith, s .limit), z), s .zeros);
         }
 
-    -- all passed
-    pub try-end : i ≡ 0 → rootsAt m f ≡ xs
-    try-end e =
+    -- all passed, as many as the degree
+    pub try-end : OnNumbers (G m) (2 ^ m) → (p : List ℕ) → Below (2 ^ m) p → f ≡ monic (G m) p → length p ≡ length xs → i ≡ 0 → rootsAt m f ≡ xs
+    try-end N p small whole many e =
         let a : Ascending xs = subst (λ k. Ascending (drop k xs)) e (s .ascends) in
         let z : All (λ y. (y < 2 ^ m) × (eval (G m) f y ≡ 0)) xs = subst (λ k. All (λ y. (y < 2 ^ m) × (eval (G m) f y ≡ 0)) (drop k xs)) e (s .zeros) in
-        let w : All (λ y. (y < 2 ^ m) × (eval (G m) (monic (G m) (t .low)) y ≡ 0)) xs = subst (λ g. All (λ y. (y < 2 ^ m) × (eval (G m) g y ≡ 0)) xs) (t .whole) z in
-        ap (rootsAt m) (t .whole) ∙ rootsOf-whole (numbers-of (t .tables)) (t .low) xs (t .small) a w (omega (arith, t .many))
+        let w : All (λ y. (y < 2 ^ m) × (eval (G m) (monic (G m) p) y ≡ 0)) xs = subst (λ g. All (λ y. (y < 2 ^ m) × (eval (G m) g y ≡ 0)) xs) whole z in
+        ap (rootsAt m) whole ∙ rootsOf-whole N p xs small a w (omega arith)
+
+module _ {m : ℕ} {ls ts f xs : List ℕ} (t : Triable m ls ts f xs) where
+  -- the polynomial's coefficients are elements
+  try-below : Below (2 ^ m) f
+  try-below = subst (Below (2 ^ m)) (sym (t .whole)) (monic-below (numbers-of (t .tables)) (t .low) (t .small))
+
+  -- what a turn asks over lent tables
+  pub try-asks : {bound i x : ℕ} → Trying m f xs bound i → x < bound → Lent m ls ts × Below (2 ^ m) f × (x < 2 ^ m)
+  try-asks s h = (t .tables, try-below, omega (arith, s .limit))
+
+  pub try-size : length ls ≤ 2 ^ m
+  try-size = omega (arith, t .tables .logs .entries)
+
+  pub try-all : {bound i : ℕ} → Trying m f xs bound i → i ≡ 0 → rootsAt m f ≡ xs
+  try-all s = try-end s (numbers-of (t .tables)) (t .low) (t .small) (t .whole) (t .many)
 
 -- ---- low coefficients, and a list of numbers
 

@@ -10,6 +10,7 @@ pub mod checked; // degrees 3 and 4, by a guess that is tried
 pub mod guess; // the guesses
 pub mod low; // degrees 0 to 2
 pub mod parting; // degree 3, by traces
+pub mod planes; // what guesses are made of
 
 // Writes the roots of the monic polynomial with the low coefficients p, at most 3 of them, to the front of out, each
 // once. Returns how many there are.

@@ -10,11 +10,6 @@ use Rattle.find_solve.proofs.Admitting.{admitted, both-rooms, solved-wi
 use borrow.Author.Needs.{needs}
 use Rattle.find_solve.proofs.solve.Statement.{statement}
 use Rattle.find_solve.proofs.solve.Tie as tie
-use Rattle.find_admit.proofs.admit.Reads as admit-reads
-use Rattle.find_admit.proofs.in_force.Reads as in-force-reads
-use Rattle.find_multiplicities.proofs.multiplicities_in.Reads as multiplicities-in-reads
-use Rattle.find_solve.proofs.solve_in.Reads as solve-in-reads
-use Rattle.refusals.proofs.also.Reads as also-reads
 
 admit-requires : tie.Need-admit-requires
 admit-requires c κs = search needs

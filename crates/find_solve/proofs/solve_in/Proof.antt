@@ -1,113 +1,36 @@
--- `find_solve::solve_in` meets its contract: low degrees by themselves, and in each arm the tables are those of the
--- field.
+-- `find_solve::solve_in` meets its contract: the field and the degree say which way is gone.
 -- Assumes nothing.
-use Rattle.field.proofs.Known.{last-row}
-use Rattle.find_solve.proofs.Admitting.{solvable}
+use native.Mathlib.Omega.{arith}
+use Rattle.find_solve.proofs.Direct.{leading-at, direct-at}
 use borrow.Author.Needs.{needs}
 use Rattle.find_solve.proofs.solve_in.Statement.{statement}
 use Rattle.find_solve.proofs.solve_in.Tie as tie
-use Rattle.field_tables.proofs.constants.antilogs11.Reads as antilogs11-reads
-use Rattle.field_tables.proofs.constants.antilogs4.Reads as antilogs4-reads
-use Rattle.field_tables.proofs.constants.antilogs8.Reads as antilogs8-reads
-use Rattle.field_tables.proofs.constants.halves11.Reads as halves11-reads
-use Rattle.field_tables.proofs.constants.halves4.Reads as halves4-reads
-use Rattle.field_tables.proofs.constants.halves8.Reads as halves8-reads
-use Rattle.field_tables.proofs.constants.logs11.Reads as logs11-reads
-use Rattle.field_tables.proofs.constants.logs4.Reads as logs4-reads
-use Rattle.field_tables.proofs.constants.logs8.Reads as logs8-reads
-use Rattle.find_solve.proofs.solve_lent.Reads as solve-lent-reads
-use Rattle.find_solve.proofs.solve_low.Reads as solve-low-reads
-use Rattle.poly.proofs.monic.top.Reads as top-reads
 
 top-requires : tie.Need-top-requires
 top-requires c κs = search needs
 
-solve-low-requires : tie.Need-solve-low-requires
-solve-low-requires c κs = search needs
+solve-direct-requires : tie.Need-solve-direct-requires
+solve-direct-requires c κs =
+    let start = c .before .before .before .before .before .before .before in
+    (leading-at (c .before .before .before .if1 .taken) (start .pre .0) (c .before .before .before .before .top .ensures), search needs, search needs, start .pre .1, start .pre .2, search needs)
 
 same-length : tie.Need-same-length
 same-length c = search needs
 
 returns : tie.Need-returns
-returns c = c .before .before .solve-low .ensures _ (c .before .before .before .before .before .before .before .before .pre .1)
+returns c = direct-at (c .before .before .before .before .before .before .if1 .taken) (c .before .before .solve-direct .ensures)
 
-logs4-requires : tie.Need-logs4-requires
-logs4-requires c κs = search needs
-
-slice-aggregate-solve-lent : tie.Need-slice-aggregate-solve-lent
-slice-aggregate-solve-lent c = search needs
-
-antilogs4-requires : tie.Need-antilogs4-requires
-antilogs4-requires c κs = search needs
-
-slice-aggregate-solve-lent-2 : tie.Need-slice-aggregate-solve-lent-2
-slice-aggregate-solve-lent-2 c = search needs
-
-halves4-requires : tie.Need-halves4-requires
-halves4-requires c κs = search needs
-
-slice-aggregate-solve-lent-3 : tie.Need-slice-aggregate-solve-lent-3
-slice-aggregate-solve-lent-3 c = search needs
-
-solve-lent-requires : tie.Need-solve-lent-requires
-solve-lent-requires c κs =
-    let p = c .before .before .before .before .before .before .before .before .before .before .before .before .pre in
-    solvable p (c .before .before .before .before .before .before .before .match .keys1)
-    (c .before .before .before .before .before .before .logs4 .ensures) (c .before .before .before .before .antilogs4 .ensures) (c .before .before .halves4 .ensures)
-
-logs8-requires : tie.Need-logs8-requires
-logs8-requires c κs = search needs
-
-slice-aggregate-solve-lent-4 : tie.Need-slice-aggregate-solve-lent-4
-slice-aggregate-solve-lent-4 c = search needs
-
-antilogs8-requires : tie.Need-antilogs8-requires
-antilogs8-requires c κs = search needs
-
-slice-aggregate-solve-lent-5 : tie.Need-slice-aggregate-solve-lent-5
-slice-aggregate-solve-lent-5 c = search needs
-
-halves8-requires : tie.Need-halves8-requires
-halves8-requires c κs = search needs
-
-slice-aggregate-solve-lent-6 : tie.Need-slice-aggregate-solve-lent-6
-slice-aggregate-solve-lent-6 c = search needs
-
-solve-lent-requires-2 : tie.Need-solve-lent-requires-2
-solve-lent-requires-2 c κs =
-    let p = c .before .before .before .before .before .before .before .before .before .before .before .before .pre in
-    solvable p (c .before .before .before .before .before .before .before .match .keys2)
-    (c .before .before .before .before .before .before .logs8 .ensures) (c .before .before .before .before .antilogs8 .ensures) (c .before .before .halves8 .ensures)
-
-logs11-requires : tie.Need-logs11-requires
-logs11-requires c κs = search needs
-
-slice-aggregate-solve-lent-7 : tie.Need-slice-aggregate-solve-lent-7
-slice-aggregate-solve-lent-7 c = search needs
-
-antilogs11-requires : tie.Need-antilogs11-requires
-antilogs11-requires c κs = search needs
-
-slice-aggregate-solve-lent-8 : tie.Need-slice-aggregate-solve-lent-8
-slice-aggregate-solve-lent-8 c = search needs
-
-halves11-requires : tie.Need-halves11-requires
-halves11-requires c κs = search needs
-
-slice-aggregate-solve-lent-9 : tie.Need-slice-aggregate-solve-lent-9
-slice-aggregate-solve-lent-9 c = search needs
-
-solve-lent-requires-3 : tie.Need-solve-lent-requires-3
-solve-lent-requires-3 c κs =
-    let p = c .before .before .before .before .before .before .before .before .before .before .before .before .pre in
-    solvable p (last-row _ (p .0 .field) (c .before .before .before .before .before .before .before .match .rest .0 .1) (c .before .before .before .before .before .before .before .match .rest .1))
-    (c .before .before .before .before .before .before .logs11 .ensures) (c .before .before .before .before .antilogs11 .ensures) (c .before .before .halves11 .ensures)
+solve-low-requires : tie.Need-solve-low-requires
+solve-low-requires c κs = search needs
 
 same-length-2 : tie.Need-same-length-2
 same-length-2 c = search needs
 
 returns-2 : tie.Need-returns-2
-returns-2 c = search needs
+returns-2 c = c .before .before .solve-low .ensures _ (c .before .before .before .before .before .before .before .before .before .pre .1)
+
+solve-traced-requires : tie.Need-solve-traced-requires
+solve-traced-requires c κs = search needs
 
 same-length-3 : tie.Need-same-length-3
 same-length-3 c = search needs
@@ -115,44 +38,17 @@ same-length-3 c = search needs
 returns-3 : tie.Need-returns-3
 returns-3 c = search needs
 
-same-length-4 : tie.Need-same-length-4
-same-length-4 c = search needs
-
-returns-4 : tie.Need-returns-4
-returns-4 c = search needs
-
 pub solve-in-spec : {M : Type 1} → statement M
 solve-in-spec =
     tie.close
     (tie.spec
     top-requires
-    solve-low-requires
+    solve-direct-requires
     same-length
     returns
-    logs4-requires
-    slice-aggregate-solve-lent
-    antilogs4-requires
-    slice-aggregate-solve-lent-2
-    halves4-requires
-    slice-aggregate-solve-lent-3
-    solve-lent-requires
-    logs8-requires
-    slice-aggregate-solve-lent-4
-    antilogs8-requires
-    slice-aggregate-solve-lent-5
-    halves8-requires
-    slice-aggregate-solve-lent-6
-    solve-lent-requires-2
-    logs11-requires
-    slice-aggregate-solve-lent-7
-    antilogs11-requires
-    slice-aggregate-solve-lent-8
-    halves11-requires
-    slice-aggregate-solve-lent-9
-    solve-lent-requires-3
+    solve-low-requires
     same-length-2
     returns-2
+    solve-traced-requires
     same-length-3
-    returns-3
-    same-length-4
-    returns-4)
+    returns-3)

@@ -6,8 +6,6 @@ use Rattle.find_solve.proofs.Lowest.{low-some, low-inverts, low-multipl
 use borrow.Author.Needs.{needs}
 use Rattle.find_solve.proofs.solve_low.Statement.{statement}
 use Rattle.find_solve.proofs.solve_low.Tie as tie
-use Rattle.field_tables.proofs.field_types.inverse_in.Reads as inverse-in-reads
-use Rattle.field_tables.proofs.field_types.product_in.Reads as product-in-reads
 
 returns : tie.Need-returns
 returns c =

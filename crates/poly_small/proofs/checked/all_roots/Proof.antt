@@ -4,7 +4,7 @@ use mathlib.Core.Path.{sym, _∙_}
 use Prim.Native.Nat.{_-_}
 use mathlib.Core.Bool.{true≢false}
 use native.Mathlib.Omega.{arith}
-use Rattle.poly_small.proofs.Trials.{Trying, try-from, try-asks, try-on, try-end}
+use Rattle.poly_small.proofs.Trials.{Trying, try-from, try-on, try-asks, try-size, try-all}
 use borrow.Author.Needs.{needs}
 use Rattle.poly_small.proofs.checked.all_roots.Statement.{statement}
 use Rattle.poly_small.proofs.checked.all_roots.Tie as tie
@@ -17,7 +17,7 @@ abbrev μ-loop : tie.MeasureT-loop
 μ-loop m logs antilogs f xs bound₀ i₀ bound i = i
 
 loop-holds : tie.Need-loop-holds Inv-loop μ-loop
-loop-holds c = try-from (c .before .before .before .before .pre)
+loop-holds c = try-from (try-size (c .before .before .before .before .pre))
 
 sub-i : tie.Need-sub-i Inv-loop μ-loop
 sub-i c = search needs
@@ -47,10 +47,10 @@ loop-less : tie.Need-loop-less Inv-loop μ-loop
 loop-less c = search needs
 
 loop-again : tie.Need-loop-again Inv-loop μ-loop
-loop-again c = try-on (c .before .before .before .before .before .before .before .before .before .before .pre) (c .before .before .before .before .before .loop .inv) (omega arith) (omega arith) (sym (c .before .evaluate .ensures) ∙ c .if2 .left)
+loop-again c = try-on (c .before .before .before .before .before .loop .inv) (omega arith) (omega arith) (sym (c .before .evaluate .ensures) ∙ c .if2 .left)
 
 returns-3 : tie.Need-returns-3 Inv-loop μ-loop
-returns-3 c = λ e. try-end (c .before .before .before .before .before .before .pre) (c .before .loop .inv) (omega arith)
+returns-3 c = λ e. try-all (c .before .before .before .before .before .before .pre) (c .before .loop .inv) (omega arith)
 
 pub all-roots-spec : {M : Type 1} → statement M
 all-roots-spec =

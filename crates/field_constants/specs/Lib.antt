@@ -1,0 +1,3 @@
+-- What is meant: the words of the tables, and the entry that a word holds.
+pub mod Words
+pub mod Entries
