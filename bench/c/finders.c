@@ -1,6 +1,6 @@
 /*
- * The root finders beside each other, for bench/peers: the proved whole call and plain search, Linux lib/bch.c, FLINT,
- * and a Chien search in C. All of them get the same polynomials, drawn from a fixed seed.
+ * The root finders beside each other, for bench/peers: the proved whole call, plain search and successive resultants,
+ * Linux lib/bch.c, FLINT, and a Chien search in C. All of them get the same polynomials, drawn from a fixed seed.
  *
  *   finders check SETS [FINDER..]  every list against a plain search; a line for each set and finder: set, finder, right lists, lists
  *   finders time SETS [FINDER..]   a line for each set and finder whose lists are all right: set, finder, nanoseconds a polynomial
@@ -12,6 +12,7 @@
 #include <stdio.h>
 #include <stdlib.h>
 #include <string.h>
+#include "../../tests/c/resultants_face.h"
 #include "finder.h"
 #include "locator.h"
 #include "measure.h"
@@ -62,6 +63,13 @@ static void search(void *of)
 {
     struct job *job = of;
     job->count = locator_search(job->m, job->coeffs, job->n, job->found, MOST, job->mults, MOST).count;
+}
+
+/* roots alone, without their multiplicities */
+static void resultants(void *of)
+{
+    struct job *job = of;
+    job->count = resultants_find(job->m, job->coeffs, job->n, job->found, MOST);
 }
 
 /* ---- Chien search: at the i-th power of a the term of degree j is the antilog of log c_j + i j. The steps stand in a loop of their own
@@ -119,6 +127,7 @@ static const struct finder finders[] = {
     {"solve1", true, start_ours, prepare_job, solve_1, job_roots},
     {"solve3", true, start_ours, prepare_job, solve_3, job_roots},
     {"search", true, start_ours, prepare_job, search, job_roots},
+    {"resultants", true, start_ours, prepare_job, resultants, job_roots},
     {"chien", true, start_chien, prepare_job, chien, job_roots},
 };
 

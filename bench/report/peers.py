@@ -8,7 +8,8 @@ import page
 from page import NO_REP, figure, put, ratio, read, short, table
 from peers_plot import draw
 
-FINDERS = [("solve", "whole call"), ("search", "plain search"), ("bch", "lib/bch.c"), ("flint", "FLINT"), ("chien", "Chien in C")]
+FINDERS = [("solve", "whole call"), ("search", "plain search"), ("resultants", "resultants"), ("bch", "lib/bch.c"), ("flint", "FLINT"),
+           ("chien", "Chien in C")]
 MEASURES = ("count", "vector", "time")
 RATIOS = [("solve", "bch", "whole / bch"), ("solve", "flint", "whole / FLINT"), ("search", "chien", "search / Chien")]
 TARGETS = [
@@ -103,6 +104,7 @@ made this page and benchmark.svg on {about['date']}.
 - Everything is compiled for x86-64 and runs in one process, on the same 64 polynomials of each kind, drawn from a fixed seed. Split ones have as many
   distinct nonzero roots as their degree; dense ones have random coefficients.
 - The whole call is at cutoff 2 where no other is named; the house default is 3. Peers hold their tables in memory; each of our calls copies its own.
+- Resultants are the third way to the roots, which the block corrector takes (crate find_resultants): roots alone, where the two calls tell multiplicities too.
 
 ![instructions a polynomial, by field and degree](benchmark.svg)
 
@@ -139,7 +141,7 @@ def main():
     if run["count"]:
         print(f"thousand instructions a polynomial ({about['counter']})\n{main_table(run['count'])}\n")
     print(f"microseconds a polynomial\n{main_table(run['time'])}\n\n{cutoff_table(run)}\n\n{target_table(run)}")
-    if any(right != all for _, f, right, all in run["checks"] if f.startswith("solve") or f in ("search", "chien")):
+    if any(right != all for _, f, right, all in run["checks"] if f.startswith("solve") or f in ("search", "resultants", "chien")):
         sys.exit("peers: a list of our own is wrong")
 
 

@@ -1,10 +1,11 @@
 /* A libFuzzer target over the C face: arbitrary field degrees, elements, coefficients, affine polynomials, cutoffs, tables, words, lists of roots and lengths. Each list that is lent stands against
    a page that cannot be touched, before it or behind it, with guards on its other side. What the calls give is compared with short functions of its own:
-   the refusals and their order, soundness, products, values; a refusal writes nothing; begin, steps and finish give the roots of the whole call and of the search;
+   the refusals and their order, soundness, products, values; a refusal writes nothing; begin, steps and finish give the roots of the whole call, of the search and of successive resultants;
    an affine polynomial has the roots that its values say; planted errors come back, and what the corrector accepts is a codeword; salvage keeps what a plain walk keeps;
    a record that is written is that of its roots, and is read back; a claim that is made is accepted, and one with a slip exactly if it is right. tests/fuzz builds and runs it. */
 #define _GNU_SOURCE
 #include "locator.h"
+#include "resultants_face.h"
 
 enum { PAGE = 65536, MOST = 512, LONGEST = 4096, GUARD = 64, GUARDED = 0xA5A5 };
 enum { PRODUCT, INVERSE, POSITION, QUADRATIC, SOLVE, SEARCH, BEGIN, STEP, FINISH, CORRECT, AFFINE, SALVAGE, WRITE, ENCODE, CHECK, PROVE, CALLS };
@@ -160,6 +161,15 @@ static void check_both(const job *j, locator_found found)
     kept_from(&mults, found.count);
 }
 
+/* successive resultants on a polynomial that the whole call accepts: its roots, and the rest of the list as it was */
+static void by_resultants(const job *j, locator_found a, const uint16_t *found)
+{
+    lend(&roots, j->room, j->old, j->front);
+    unsigned count = resultants_find(j->m, coefficients.at, j->n, roots.at, j->room);
+    expect(count == a.count && memcmp(found, roots.at, count * sizeof *found) == 0, "the whole call and successive resultants differ");
+    kept_from(&roots, count);
+}
+
 /* the whole call, and the search beside it. The roots are put where they can be compared */
 static locator_found engines(const job *j, uint16_t *found)
 {
@@ -176,8 +186,10 @@ static locator_found engines(const job *j, uint16_t *found)
     note(SEARCH, b.outcome, b.count);
     expect(b.outcome == (j->searched ? j->searched : full ? 0 : 7) && b.steps == 0, "another outcome of the search");
     check_both(j, b);
-    if (a.outcome == 0)
+    if (a.outcome == 0) {
         expect(a.count == b.count && memcmp(found, roots.at, a.count * sizeof *found) == 0, "the whole call and the search differ");
+        by_resultants(j, a, found);
+    }
     return a;
 }
 

@@ -1,8 +1,9 @@
--- The three demands, that the two ways agree, and what is promised of the block corrector and encoder, of salvage, of the
+-- The three demands, that the three ways agree, and what is promised of the block corrector and encoder, of salvage, of the
 -- writer of records, of the monthly sheet and of the check and the making of a claim.
 pub mod Agreement
 pub mod Demand1
 pub mod Demand2
+pub mod Engines
 pub mod Demand2Affine
 pub mod Demand3
 pub mod Cutoffs
