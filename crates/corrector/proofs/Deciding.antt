@@ -3,7 +3,7 @@
 --   none-within        no codeword is near where the places are not acceptable
 --   flipped-within     where they are, flipping them makes the codeword near;  flipped-distance  by so many flips
 --   zero-within        a word whose values at a, a^3, .., a^(2t-1) are 0 is a codeword
---   rest-zero-within   so one whose remainder at strength t is 0;  clean-within  so one whose syndromes are 0
+--   rest-zero-within   so one whose remainder at strength t is 0
 -- Assumes nothing.
 use mathlib.Core.Path.{_≡_, refl, sym, ap, ap₂, _∙_, subst}
 use mathlib.Core.Logic.{⊎-elim}
@@ -19,7 +19,7 @@ use lib.Pow.{pow-lt, pow-pos}
 use Rattle.algebra.specs.Field.{power}
 use Rattle.algebra.specs.Polynomial.{coef, isRoot}
 use Rattle.algebra.specs.Trial.{All, upFrom}
-use Rattle.field.specs.Field.{fieldAt, mul, inverse, reduce}
+use Rattle.field.specs.Field.{fieldAt, mul, inverse}
 use Rattle.field.proofs.Generator.{one-below}
 use Rattle.corrector_code.specs.Word.{difference, places, bitDistance, total, wordValue, locators}
 use Rattle.corrector_code.specs.Key.{register}
@@ -33,7 +33,7 @@ use Rattle.corrector_code.proofs.Complete.{map-upFrom-at, difference-difference
 use Rattle.corrector_code.proofs.Flips.{digits-xor}
 use Rattle.corrector_code.proofs.Numbers.{syndrome-square, passes-within, passes-exactly}
 use Rattle.corrector_code.proofs.Values.{value-digits}
-use Rattle.corrector_generator.specs.Generators.{generatorAt, oddPower}
+use Rattle.corrector_generator.specs.Generators.{oddPower}
 use Rattle.corrector_remainder.specs.Remainder.{RestAt}
 use Rattle.corrector_remainder.proofs.Strengths.{zero-values}
 use Rattle.corrector_syndromes.specs.Syndromes.{OddValues}
@@ -148,29 +148,30 @@ module _ (word : List ℕ) (t : ℕ) (b : IsBlock word) (st : IsStrength t) wher
   pub rest-zero-within : RestAt t W 0 → Within t word word
   rest-zero-within r = zero-within (zero-values r)
 
-  module _ {n : ℕ} {odd : List ℕ} (e : n ≡ reduce (generatorAt 8) W) (v : OddValues n odd) where
-    odd-at : (k : ℕ) → k < 8 → getD odd k 0 ≡ wordValue F11 w (power F11 2 (suc (2 * k)))
-    odd-at k h = odd-syndromes W small e v k h ∙ ap (λ (x : List Bool). wordValue F11 x (power F11 2 (suc (2 * k)))) (sym w-digits)
+  module _ {n : ℕ} {odd : List ℕ} (r : RestAt t W n) (v : OddValues n odd) where
+    -- the first t odd syndromes
+    odd-at : (k : ℕ) → k < t → getD odd k 0 ≡ wordValue F11 w (power F11 2 (suc (2 * k)))
+    odd-at k h = odd-syndromes W (st .most) small r v k h ∙ ap (λ (x : List Bool). wordValue F11 x (power F11 2 (suc (2 * k)))) (sym w-digits)
 
     module _ (s : List ℕ) (ps : PowerSums odd s) where
-      sum-at : (f k : ℕ) → k ≤ f → 0 < k → k ≤ 16 → getD s k 0 ≡ wordValue F11 w (power F11 2 k)
+      sum-at : (f k : ℕ) → k ≤ f → 0 < k → k ≤ 2 * t → getD s k 0 ≡ wordValue F11 w (power F11 2 k)
       sum-at zero k l p q = absurd (omega arith)
       sum-at (suc f) k l p q =
           ⊎-elim (λ h. even (h .0) (h .1) (sum-at f (h .0) (omega (arith, h .1)) (omega (arith, h .1)) (omega (arith, h .1))))
-          (λ h. ap (λ (m : ℕ). getD s m 0) (h .1) ∙ ps .odd-is (h .0) (omega (arith, h .1)) ∙ odd-at (h .0) (omega (arith, h .1)) ∙ ap (λ (m : ℕ). wordValue F11 w (power F11 2 m)) (sym (h .1))) (half k)
+          (λ h. ap (λ (m : ℕ). getD s m 0) (h .1) ∙ ps .odd-is (h .0) (omega (arith, h .1, st .most)) ∙ odd-at (h .0) (omega (arith, h .1)) ∙ ap (λ (m : ℕ). wordValue F11 w (power F11 2 m)) (sym (h .1))) (half k)
         where
           even : (i : ℕ) → k ≡ 2 * i → getD s i 0 ≡ wordValue F11 w (power F11 2 i) → getD s k 0 ≡ wordValue F11 w (power F11 2 k)
           even i h ih =
               let m : k ≡ suc (suc (2 * (i - 1))) = omega arith in
               let c : suc (i - 1) ≡ i = omega arith in
-              ap (λ (m : ℕ). getD s m 0) m ∙ ps .even-is (i - 1) (omega arith) ∙ ap (λ (m : ℕ). mul (fieldAt 11) (getD s m 0) (getD s m 0)) c
+              ap (λ (m : ℕ). getD s m 0) m ∙ ps .even-is (i - 1) (omega (arith, st .most)) ∙ ap (λ (m : ℕ). mul (fieldAt 11) (getD s m 0) (getD s m 0)) c
               ∙ ap (λ (x : ℕ). mul (fieldAt 11) x x) ih ∙ sym (syndrome-square (fieldAt 11) gen11 w i) ∙ ap (λ (m : ℕ). wordValue F11 w (power F11 2 m)) (sym h)
 
       coef-at : (k : ℕ) → k ≤ 2 * t → getD s k 0 ≡ coef F11 (syndromes F11 2 t w) k
       unfolding syndromes
       coef-at zero h = ps .first
       coef-at (suc k) h =
-          sum-at 16 (suc k) (let m = st .most in omega arith) (omega arith) (let m = st .most in omega arith)
+          sum-at 16 (suc k) (let m = st .most in omega arith) (omega arith) h
           ∙ sym (map-upFrom-at 0 (λ i. wordValue F11 w (power F11 2 i)) 1 (2 * t) k h ∙ ap (λ (m : ℕ). wordValue F11 w (power F11 2 m)) (let z : 1 + k ≡ suc k = omega arith in z))
 
       p : List ℕ
@@ -219,13 +220,13 @@ module _ (word : List ℕ) (t : ℕ) (b : IsBlock word) (st : IsStrength t) wher
       passes : Acceptable odd t js → Passes F11 2 t w f
       passes a = (
         (let c = count in let h = a .few in omega arith),
-        λ i l. power-sum (suc (2 * i)) ∙ a .sums i l ∙ odd-at i (let m = st .most in omega arith),
+        λ i l. power-sum (suc (2 * i)) ∙ a .sums i l ∙ odd-at i l,
       )
 
       acceptable : Passes F11 2 t w f → Acceptable odd t js
       acceptable h = record {
         few = (let c = count in let l = h .0 in omega arith);
-        sums = λ i l. sym (power-sum (suc (2 * i))) ∙ h .1 i l ∙ sym (odd-at i (let m = st .most in omega arith));
+        sums = λ i l. sym (power-sum (suc (2 * i))) ∙ h .1 i l ∙ sym (odd-at i l);
       }
 
       -- THERE IS NONE WHERE THE PLACES ARE NOT ACCEPTABLE
@@ -269,7 +270,3 @@ module _ (word : List ℕ) (t : ℕ) (b : IsBlock word) (st : IsStrength t) wher
       flipped-distance = sym
           (distance-bits word after ∙ ap (bitDistance w) bits-after
           ∙ ap (λ (x : List Bool). length (places 0 x)) (difference-difference w f (long-f ∙ sym long-w)) ∙ count)
-
-    -- SO IS ONE WHOSE SYNDROMES ARE 0
-    pub clean-within : ((k : ℕ) → k < t → getD odd k 0 ≡ 0) → Within t word word
-    clean-within z = silent-within (λ k h. sym (odd-at k (let m = st .most in omega arith)) ∙ z k h)

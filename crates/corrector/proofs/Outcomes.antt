@@ -2,25 +2,27 @@
 --   tells-yes, tells-no      what a test's answer says
 --   odd-under                the odd syndromes are elements
 --   located-yes, located-no  good places, and none
---   clean, spotless          nothing to flip: by the remainder, and by the syndromes
+--   rest-88                  a remainder at a strength has at most 88 digits
+--   clean                    nothing to flip where the remainder is 0
 --   flipped, far-refused     the places flipped;  no codeword near
 -- Assumes nothing.
 use mathlib.Core.Path.{_≡_, refl, sym, ap, ap₂, _∙_, subst}
 use mathlib.Core.Bool.{Bool, true, false}
 use mathlib.Core.List.{List, [], _∷_}
 use Prim.Native.Nat.{ℕ, zero, suc, _+_, _*_, _^_, _≤_, _<_}
+use native.Mathlib.Nat.{lt-of-lt-of-le}
 use native.Mathlib.Decide.{decLt}
 use native.Mathlib.Omega.{arith}
 use lib.ListN.{length, getD}
-use Rattle.field.specs.Field.{fieldAt, reduce}
+use lib.Pow.{pow-mono}
+use Rattle.field.specs.Field.{fieldAt}
 use Rattle.field.proofs.Generator.{one-below}
 use Rattle.corrector_code.specs.Digits.{bytesNumber}
 use Rattle.corrector_code.proofs.Eleven.{gen11}
 use Rattle.corrector_code.proofs.Values.{valueOfDigits-lt}
-use Rattle.corrector_generator.specs.Generators.{generatorAt, oddPower}
-use Rattle.corrector_remainder.specs.Remainder.{restOf}
+use Rattle.corrector_generator.specs.Generators.{oddPower}
+use Rattle.corrector_remainder.specs.Remainder.{restOf, RestAt}
 use Rattle.corrector_remainder.specs.declared.Rest.{Rest}
-use Rattle.corrector_remainder.proofs.Strengths.{rest-own, zero-values}
 use Rattle.corrector_syndromes.specs.Syndromes.{OddValues}
 use Rattle.corrector_locator.specs.Under.{Under, PowerSums}
 use Rattle.corrector.specs.Places.{named, placesIn, flipAll, HoldsPlaces, Acceptable, Either, Located, Tells}
@@ -28,7 +30,7 @@ use Rattle.corrector.specs.Correcting.{distance, IsBlock, IsStrength, Wi
 use Rattle.corrector.specs.Correcting.Corrects.{none-near, mended}
 use Rattle.corrector.specs.declared.Places.{Places}
 use Rattle.corrector.proofs.Blocks.{distance-self}
-use Rattle.corrector.proofs.Deciding.{none-within, flipped-within, flipped-distance, zero-within, clean-within}
+use Rattle.corrector.proofs.Deciding.{none-within, flipped-within, flipped-distance, rest-zero-within}
 
 pub tells-yes : (A : Type 0) (b : Bool) → Tells A b → b ≡ true → A
 tells-yes A b h e = subst (Tells A) e h
@@ -48,6 +50,10 @@ odd-under {n} {odd} v k = go (decLt k 8)
     go (yes h) = subst (λ (x : ℕ). x < 2048) (sym (v .value k h)) (valueOfDigits-lt (fieldAt 11) (gen11 .monic) (one-below (fieldAt 11) gen11) (oddPower k) n)
     go (no h) = subst (λ (x : ℕ). x < 2048) (sym (past-end odd k (let l = v .long in omega arith))) (omega arith)
 
+-- the remainder fits the table of syndromes
+pub rest-88 : {t W n : ℕ} → t ≤ 8 → RestAt t W n → n < 2 ^ 88
+rest-88 {t} h r = let l : 11 * t ≤ 88 = omega arith in lt-of-lt-of-le (r .below) (pow-mono l)
+
 -- good places
 pub located-yes : (odd : List ℕ) (t : ℕ) (p : Places) → Located odd t p → p .good ≡ true → (s : List ℕ) × PowerSums odd s × HoldsPlaces (named s t) p × Acceptable odd t (named s t)
 located-yes odd t p l e =
@@ -62,20 +68,16 @@ module _ (word : List ℕ) (t : ℕ) (b : IsBlock word) (st : IsStrength t) wher
   mended-by : (n : ℕ) (after : List ℕ) → Within t word after → n ≡ distance word after → Corrects t word (0, n ∷ []) after
   mended-by n after h e = subst (λ (m : ℕ). Corrects t word (0, m ∷ []) after) (sym e) (mended b st h)
 
-  -- the first t syndromes are 0
-  pub spotless : {n : ℕ} {odd : List ℕ} → n ≡ reduce (generatorAt 8) (bytesNumber word) → OddValues n odd
-      → ((k : ℕ) → k < t → getD odd k 0 ≡ 0) → Corrects t word (0, 0 ∷ []) word
-  spotless e v z = mended-by 0 word (clean-within word t b st e v z) (sym (distance-self word))
-
-  -- the remainder by the generator of strength 8 is 0
-  pub clean : (r : Rest) → restOf r ≡ reduce (generatorAt 8) (bytesNumber word) → r .lo ≡ 0 → r .hi ≡ 0 → Corrects t word (0, 0 ∷ []) word
+  -- the remainder is 0
+  pub clean : (r : Rest) → RestAt t (bytesNumber word) (restOf r) → r .lo ≡ 0 → r .hi ≡ 0
+      → Corrects t word (0, 0 ∷ []) word
   clean r e x y =
-      let z : 0 ≡ reduce (generatorAt 8) (bytesNumber word) = sym (ap₂ (λ (h l : ℕ). h * 2 ^ 64 + l) y x) ∙ e in
-      let m = st .most in
-      mended-by 0 word (zero-within word t b st (λ k h. zero-values (rest-own 8 (bytesNumber word) (omega arith) (omega arith) z) k (omega arith)))
+      let z : restOf r ≡ 0 = ap₂ (λ (h l : ℕ). h * 2 ^ 64 + l) y x in
+      mended-by 0 word (rest-zero-within word t b st (subst (RestAt t (bytesNumber word)) z e))
       (sym (distance-self word))
 
-  module _ {n : ℕ} {odd : List ℕ} (e : n ≡ reduce (generatorAt 8) (bytesNumber word)) (v : OddValues n odd) (p : Places) (l : Located odd t p) where
+  module _ {n : ℕ} {odd : List ℕ} (e : RestAt t (bytesNumber word) n) (v : OddValues n odd) (p : Places)
+      (l : Located odd t p) where
     -- good places, flipped
     pub flipped : (after : List ℕ) → p .good ≡ true → after ≡ flipAll (placesIn p) word → Corrects t word (0, p .n ∷ []) after
     flipped after g f =

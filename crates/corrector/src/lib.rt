@@ -1,46 +1,39 @@
-// The block corrector (docs/RULES.md section 7): words of 2047 bits in field 11, in 256 bytes. A word is divided by
-// the generator of strength 8; where the remainder is 0 it is a codeword of every strength, and nothing more is done.
+// The block corrector (docs/RULES.md section 7): words of 2047 bits in field 11, in 256 bytes. Where the remainder of a
+// word at its strength is 0 it is a codeword of that strength, and nothing more is done.
 // Else the remainder gives the odd syndromes, Berlekamp's register the locator polynomial, the root finder its roots
-// by the engine that is cheapest at its degree, and their positions under the recorders' convention the wrong bits.
+// by the engine that is fastest at its degree, and their positions under the recorders' convention the wrong bits.
 // They are flipped where there are at most t of them and their odd power sums are the syndromes: that decides exactly
 // whether a codeword lies within t bits.
 ghost use mathlib.Core.Path.{_≡_};
 ghost use mathlib.Core.Bool.{true, false};
-ghost use Prim.Native.Nat.{ℕ, _<_, _≤_, _^_};
+ghost use Prim.Native.Nat.{_<_, _≤_, _^_};
 ghost use lib.ListN.{getD, length};
-ghost use Rattle.algebra.specs.Polynomial.{Below};
 ghost use Rattle.field.specs.Field.{fieldAt, rootsAt};
 ghost use Rattle.field.specs.Tables.{Logs};
 ghost use Rattle.field_elements.specs.Calls.{positionUnder};
-ghost use Rattle.poly.specs.Monic.{TopIs, MadeMonic};
+ghost use Rattle.poly.specs.Monic.{TopIs};
 ghost use Rattle.poly_small.specs.Roots.{Front};
-ghost use Rattle.corrector_locator.specs.Under.{Under, Powers, Tables};
+ghost use Rattle.corrector_locator.specs.Under.{Under, Powers};
 ghost use Rattle.corrector.specs.Places.{placesOf, sumAt, placesIn, flipAll, Findable, Placing, Placed, Few8};
 ghost use Rattle.corrector.specs.Places.{Spotted, Located, Tells, Agrees};
 ghost use Rattle.corrector.specs.Correcting.{IsBlock, IsStrength, Corrects, toldCorrected};
 use corrector_code::LAST;
 use corrector_code::STRONGEST;
 use corrector_code::WORD;
-use corrector_locator::inverse_of;
 use corrector_locator::powers11;
-use corrector_locator::product;
 use field::arithmetic::position_of;
 use field_tables::constants::antilogs11;
-use field_tables::constants::halves11;
 use field_tables::constants::logs11;
 use field_tables::field_types::F11;
-use find_solve::solve_lent;
+use find_direct::Direct;
+use find_direct::direct_roots;
+use find_resultants::find11;
 use poly::monic::top;
-use poly_small::checked::guessed_roots;
-use poly_small::low::low_roots;
 use refusals::Refusal;
 use table_rules::LIMIT;
 
-// Up to this degree roots have closed forms.
-const CLOSED: u16 = 2;
-
-// The trace engine's cutoff: its cubics are guessed and tried.
-const CUTOFF: u16 = 3;
+// With so many coefficients, and degree 1 to 4, roots are found directly.
+const DIRECT: usize = 5;
 
 // What the corrector answers: the number of flips, or what is turned away.
 pub enum Corrected {
@@ -67,46 +60,42 @@ fn nowhere() -> Places
     }
 }
 
-// The locator polynomial divided by its leading coefficient, that before place j.
-fn monic_of(logs: &[u16], powers: &[u16], locator: [u16; 9], j: usize) -> [u16; 9]
-    requires { ⌜ Tables (now logs) (now powers) × Below 2048 locator × TopIs locator j × (0 < j) ⌝ }
-    ensures { λ r. ⌜ MadeMonic 11 locator j r ⌝ }
-{
-    let k = j - 1;
-    let v = inverse_of(logs, powers, locator[k]);
-    let mut r = locator;
-    let mut i: usize = 0;
-    while i < k {
-        r[i] = product(logs, powers, v, r[i]);
-        i += 1;
-    }
-    r
-}
-
-// Writes the roots of a locator polynomial to the front of the list, by the engine that is cheapest at its degree:
-// closed forms, guesses at degrees 3 and 4, and where they do not serve the trace engine (the plain search costs more
-// at every degree up to 8). Only above the closed forms is the wide table made. Returns how many there are.
-fn roots_of(logs: &[u16], powers: &[u16], locator: [u16; 9], roots: &mut [u16]) -> u16
-    requires { ⌜ Tables (now logs) (now powers) × Findable locator (now roots) ⌝ }
+// Writes the roots of a locator polynomial to the front of the list by successive resultants, for which the wide table
+// is made. Returns how many there are.
+fn resulted_roots(logs: &[u16], locator: [u16; 9], roots: &mut [u16]) -> u16
+    requires { ⌜ Logs (fieldAt 11) (now logs) × Findable locator (now roots) ⌝ }
     ensures { λ k. ⌜ Front (rootsAt 11 locator) k (now (roots .exit)) ⌝ }
 {
-    let j = top(&locator);
-    let monic = monic_of(logs, powers, locator, j);
-    let d = j - 1;
-    if d == 1 {
-        roots[0] = monic[0];
-        return 1;
-    }
-    if d <= CLOSED as usize {
-        return low_roots(11, &halves11(), &monic[..d], roots) as u16;
-    }
     let antilogs = antilogs11();
-    if guessed_roots(11, logs, &antilogs, &monic[..d], roots) {
-        return d as u16;
+    find11(&locator, logs, &antilogs, roots)
+}
+
+// Writes the roots of a locator polynomial with n coefficients up to its leading one, of degree 1 to 4, to the front of
+// the list: directly, without a table; by resultants where a guess fails. Returns how many there are.
+fn low_roots(n: usize, logs: &[u16], locator: [u16; 9], roots: &mut [u16]) -> u16
+    requires { ⌜ Logs (fieldAt 11) (now logs) × Findable locator (now roots)
+        × TopIs locator n × (2 ≤ n) × (n ≤ 5) ⌝ }
+    ensures { λ k. ⌜ Front (rootsAt 11 locator) k (now (roots .exit)) ⌝ }
+{
+    match direct_roots(n, &locator, roots) {
+        Direct::Written(k) => k,
+        Direct::Missed => resulted_roots(logs, locator, roots),
     }
-    let halves = halves11();
-    let found = solve_lent(11, CUTOFF, &locator, logs, &antilogs, &halves, roots);
-    found.s
+}
+
+// Writes the roots of a locator polynomial to the front of the list, by the engine that is fastest at its degree (the
+// trace engine and the plain search take longer at degrees 5 to 8). Returns how many there are.
+fn roots_of(logs: &[u16], locator: [u16; 9], roots: &mut [u16]) -> u16
+    requires { ⌜ Logs (fieldAt 11) (now logs) × Findable locator (now roots) ⌝ }
+    ensures { λ k. ⌜ Front (rootsAt 11 locator) k (now (roots .exit)) ⌝ }
+{
+    let n = top(&locator);
+    if 2 <= n {
+        if n <= DIRECT {
+            return low_roots(n, logs, locator, roots);
+        }
+    }
+    resulted_roots(logs, locator, roots)
 }
 
 // The place of a root: its position under the recorders' convention.
@@ -136,12 +125,12 @@ fn places_of(logs: &[u16], roots: &[u16], n: u16) -> Places
 }
 
 // The places that a locator polynomial names, unless there are more than t.
-fn spots_of(logs: &[u16], powers: &[u16], locator: [u16; 9], t: u16) -> Places
-    requires { ⌜ Tables (now logs) (now powers) × Under locator × (getD locator 0 0 ≡ 1) × (t ≤ 8) ⌝ }
+fn spots_of(logs: &[u16], locator: [u16; 9], t: u16) -> Places
+    requires { ⌜ Logs (fieldAt 11) (now logs) × Under locator × (getD locator 0 0 ≡ 1) × (t ≤ 8) ⌝ }
     ensures { λ r. ⌜ Spotted (placesOf locator) t r ⌝ }
 {
     let mut roots = [0u16; LIMIT];
-    let s = roots_of(logs, powers, locator, &mut roots);
+    let s = roots_of(logs, locator, &mut roots);
     if t < s {
         return nowhere();
     }
@@ -190,7 +179,7 @@ fn locate(odd: [u16; 8], t: u16) -> Places
     let s = corrector_locator::all_sums(&logs, &powers, odd);
     let r = corrector_locator::key(&logs, &powers, &s, t as usize);
     let locator = r.locator;
-    let p = spots_of(&logs, &powers, locator, t);
+    let p = spots_of(&logs, locator, t);
     let good = p.good;
     if good {
         if agree(&powers, p, odd, t as u32) {
@@ -199,21 +188,6 @@ fn locate(odd: [u16; 8], t: u16) -> Places
         return nowhere();
     }
     nowhere()
-}
-
-// Are the first t odd syndromes 0?
-fn none(odd: [u16; 8], t: u16) -> bool
-    requires { ⌜ t ≤ 8 ⌝ }
-    ensures { λ r. ⌜ (r ≡ true → (k : ℕ) → k < t → getD odd k 0 ≡ 0) ⌝ }
-{
-    let mut i: usize = 0;
-    while i < t as usize {
-        if odd[i] != 0 {
-            return false;
-        }
-        i += 1;
-    }
-    true
 }
 
 // The weight of bit k of a byte.
@@ -266,14 +240,11 @@ fn mend_block(strength: u16, word: &mut [u8]) -> Corrected
     requires { ⌜ IsBlock (now word) × IsStrength strength ⌝ }
     ensures { λ r. ⌜ Corrects strength (now (word .entry)) (toldCorrected r) (now (word .exit)) ⌝ }
 {
-    let r = corrector_remainder::rest8(word);
+    let r = corrector_remainder::remainder_of(strength, word);
     if r.lo == 0 && r.hi == 0 {
         return Corrected::Flips(0);
     }
     let odd = corrector_syndromes::odd_values(r);
-    if none(odd, strength) {
-        return Corrected::Flips(0);
-    }
     let p = locate(odd, strength);
     let good = p.good;
     if good {

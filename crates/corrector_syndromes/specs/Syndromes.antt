@@ -1,4 +1,4 @@
--- The odd syndromes: the values at a, a^3, .., a^15 of a word, and of its remainder by the generator of strength 8.
+-- The odd syndromes: the values at a, a^3, .., a^15 of a remainder. At strength t the first t are those of the word.
 -- Inner contracts alone cite it: what the corrector promises does not speak of it.
 --   RowTable rows        entry 8 j + k is the j-th power of a^(2k+1)
 --   OddValues n s        s holds the values at a, a^3, .., a^15 of the polynomial with the binary digits of n

@@ -1,5 +1,5 @@
-// The odd syndromes of a word: the values of its remainder by the generator of strength 8 at a, a^3, .., a^15. Each
-// digit of the remainder adds its row of powers.
+// The odd syndromes: the values of a remainder at a, a^3, .., a^15, of which the first t are those of the word at
+// strength t. Each digit of the remainder adds its row of powers.
 ghost use Prim.Native.Nat.{_*_, _^_, _<_};
 ghost use Rattle.corrector_remainder.specs.Remainder.{restOf};
 ghost use Rattle.corrector_syndromes.specs.Syndromes.{RowTable, RowAdded, ValuesAdded, OddValues};

@@ -47,32 +47,29 @@ key-requires c κs =
 slice-aggregate-spots-of : tie.Need-slice-aggregate-spots-of
 slice-aggregate-spots-of c = search needs
 
-slice-aggregate-spots-of-2 : tie.Need-slice-aggregate-spots-of-2
-slice-aggregate-spots-of-2 c = search needs
-
 spots-of-requires : tie.Need-spots-of-requires
 spots-of-requires c κs =
-    let a = c .before .before .before .before .before .before .before .before .before .before .before .before in
-    let g = c .before .before .before .key in
-    let k = keyed (c .before .before .before .before .before .before .before .all-sums .result) (a .args .t) (g .result) (g .ensures) in
-    (record { logs = c .before .before .before .before .before .before .before .before .before .before .before .logs11 .ensures; powers = c .before .before .before .before .before .before .before .before .before .before .powers11 .ensures }, k .below, k .first, a .pre .1)
+    let a = c .before .before .before .before .before .before .before .before .before .before .before in
+    let g = c .before .before .key in
+    let k = keyed (c .before .before .before .before .before .before .all-sums .result) (a .args .t) (g .result) (g .ensures) in
+    (c .before .before .before .before .before .before .before .before .before .before .logs11 .ensures, k .below, k .first, a .pre .1)
 
 slice-aggregate-agree : tie.Need-slice-aggregate-agree
 slice-aggregate-agree c = search needs
 
 agree-requires : tie.Need-agree-requires
 agree-requires c κs =
-    let a = c .before .before .before .before .before .before .before .before .before .before .before .before .before .before .before in
-    let v = c .before .before .before .before .before .before .before .before .before .before .all-sums in
-    let g = c .before .before .before .before .before .before .key in
+    let a = c .before .before .before .before .before .before .before .before .before .before .before .before .before .before in
+    let v = c .before .before .before .before .before .before .before .before .before .all-sums in
+    let g = c .before .before .before .before .before .key in
     let p = c .before .before .spots-of in
-    (c .before .before .before .before .before .before .before .before .before .before .before .before .before .powers11 .ensures, places-fit (a .args .odd) (v .result) (a .args .t) (v .ensures) (g .result .locator) (keyed (v .result) (a .args .t) (g .result) (g .ensures)) (p .result) (p .ensures) (c .before .if1 .taken), a .pre .1)
+    (c .before .before .before .before .before .before .before .before .before .before .before .before .powers11 .ensures, places-fit (a .args .odd) (v .result) (a .args .t) (v .ensures) (g .result .locator) (keyed (v .result) (a .args .t) (g .result) (g .ensures)) (p .result) (p .ensures) (c .before .if1 .taken), a .pre .1)
 
 returns : tie.Need-returns
 returns c =
-    let a = c .before .before .before .before .before .before .before .before .before .before .before .before .before .before .before .before .before in
-    let v = c .before .before .before .before .before .before .before .before .before .before .before .before .all-sums in
-    let g = c .before .before .before .before .before .before .before .before .key in
+    let a = c .before .before .before .before .before .before .before .before .before .before .before .before .before .before .before .before in
+    let v = c .before .before .before .before .before .before .before .before .before .before .before .all-sums in
+    let g = c .before .before .before .before .before .before .before .key in
     let p = c .before .before .before .before .spots-of in
     located-few (a .args .odd) (v .result) (a .args .t) (v .ensures) (g .result .locator) (keyed (v .result) (a .args .t) (g .result) (g .ensures)) (p .result) (p .ensures) (c .before .before .before .if1 .taken) (tells-yes _ _ (c .before .agree .ensures) (c .if2 .taken))
 
@@ -81,9 +78,9 @@ nowhere-requires c κs = search needs
 
 returns-2 : tie.Need-returns-2
 returns-2 c =
-    let a = c .before .before .before .before .before .before .before .before .before .before .before .before .before .before .before .before .before .before in
-    let v = c .before .before .before .before .before .before .before .before .before .before .before .before .before .all-sums in
-    let g = c .before .before .before .before .before .before .before .before .before .key in
+    let a = c .before .before .before .before .before .before .before .before .before .before .before .before .before .before .before .before .before in
+    let v = c .before .before .before .before .before .before .before .before .before .before .before .before .all-sums in
+    let g = c .before .before .before .before .before .before .before .before .key in
     let p = c .before .before .before .before .before .spots-of in
     located-other (a .args .odd) (v .result) (a .args .t) (v .ensures) (g .result .locator) (keyed (v .result) (a .args .t) (g .result) (g .ensures)) (p .result) (p .ensures) _ (c .nowhere .ensures) (c .before .before .before .before .if1 .taken) (tells-no _ _ (c .before .before .agree .ensures) (c .before .if2 .left))
 
@@ -92,9 +89,9 @@ nowhere-requires-2 c κs = search needs
 
 returns-3 : tie.Need-returns-3
 returns-3 c =
-    let a = c .before .before .before .before .before .before .before .before .before .before .before .before .before .before .before in
-    let v = c .before .before .before .before .before .before .before .before .before .before .all-sums in
-    let g = c .before .before .before .before .before .before .key in
+    let a = c .before .before .before .before .before .before .before .before .before .before .before .before .before .before in
+    let v = c .before .before .before .before .before .before .before .before .before .all-sums in
+    let g = c .before .before .before .before .before .key in
     let p = c .before .before .spots-of in
     located-many (a .args .odd) (v .result) (a .args .t) (v .ensures) (g .result .locator) (keyed (v .result) (a .args .t) (g .result) (g .ensures)) (p .result) (p .ensures) _ (c .nowhere2 .ensures) (c .before .if1 .left)
 
@@ -112,7 +109,6 @@ locate-spec =
     slice-aggregate-key-3
     key-requires
     slice-aggregate-spots-of
-    slice-aggregate-spots-of-2
     spots-of-requires
     slice-aggregate-agree
     agree-requires
