@@ -1,5 +1,5 @@
-/* locator.h: the roots of locator polynomials over GF(2^m), m = 4, 8 or 11, a check of a partner's list of roots, a corrector and an encoder of blocks over
-   m = 11, salvage of job files, and a writer of their records. Link with liblocator.a (tools/library builds it, for x86-64 Linux).
+/* locator.h: the roots of locator polynomials over GF(2^m), m = 4, 8 or 11, a check of a partner's list of roots and the making of one, a corrector and
+   an encoder of blocks over m = 11, salvage of job files, and a writer of their records. Link with liblocator.a (tools/library builds it, for x86-64 Linux).
 
    Every call is proved to do what stands over it, for every input (crates/locator/src/lib.rt has the contracts). docs/RULES.md has the rules in
    full: fields and element calls are its sections 1 and 2, polynomials 3 (affine ones 3.6), work tables 4, the block corrector and encoder 7, refusals and their
@@ -15,7 +15,8 @@
    OUTCOMES. 0: accepted. Any other is the number under which the input was turned away:
        1  there is no field of degree m          6  the cutoff is above 3
        2  a polynomial has no coefficients       7  a list has under 32 slots (of an affine polynomial's
-                                                    roots under 2^m), the table has not 100, or the room
+                                                    roots under 2^m, of h, u and v of a claim under 33), the
+                                                    table has not 100, or the room
                                                     for a salvaged file or a record is shorter than that
        3  a polynomial has more than 33          8  the table is not sound
           coefficients, or a record over 32 roots
