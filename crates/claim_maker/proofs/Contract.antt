@@ -10,7 +10,7 @@ use lib.ListN.{length, take}
 use Rattle.field.specs.Field.{multiplicitiesAt, rootsAt}
 use Rattle.slices.specs.Lists.{copied}
 use Rattle.slices.proofs.Lists.{copied-front}
-use Rattle.table_rules.specs.Limit.{limit}
+use Rattle.input.specs.Limit.{limit}
 use Rattle.claim_rules.specs.Claims.{Claim, claimOf}
 use Rattle.claim_rules.proofs.Complete.{claim-complete}
 use Rattle.claims.specs.Calls.{Checks}

@@ -21,7 +21,7 @@ use Rattle.field.specs.Field.{G}
 use Rattle.slices.specs.Lists.{copied}
 use Rattle.slices.proofs.Lists.{copied-front, length-copied}
 use Rattle.poly.proofs.Logs.{numbers-of}
-use Rattle.table_rules.specs.Limit.{limit}
+use Rattle.input.specs.Limit.{limit}
 use Rattle.claim_rules.specs.Links.{Linked}
 use Rattle.claim_rules.proofs.Links.{link-one, link-zero}
 use Rattle.claim_maker.specs.Making.{Euclidean, Inverted, Invertible}

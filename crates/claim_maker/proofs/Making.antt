@@ -31,10 +31,10 @@ use Rattle.slices.proofs.Lists.{copied-front, length-copied}
 use Rattle.poly.proofs.Lending.{lent-at}
 use Rattle.poly.proofs.Logs.{numbers-of}
 use Rattle.poly_product.proofs.RootProducts.{product-below}
-use Rattle.table_rules.specs.Cutoff.{houseDefault}
-use Rattle.table_rules.specs.Limit.{limit, widest}
-use Rattle.table_rules.specs.Polynomials.{PolynomialIn, polynomialTests}
-use Rattle.table_rules.proofs.Polynomials.{passed-rest, polynomial-told, roots-few}
+use Rattle.input.specs.Cutoff.{houseDefault}
+use Rattle.input.specs.Limit.{limit, widest}
+use Rattle.input.specs.Polynomials.{PolynomialIn, polynomialTests}
+use Rattle.input.proofs.Polynomials.{passed-rest, polynomial-told, roots-few}
 use Rattle.find_multiplicities.specs.Counting.{CountableLent}
 use Rattle.find_multiplicities.proofs.Asking.{countable}
 use Rattle.find_solve.specs.Solving.{Solvable}

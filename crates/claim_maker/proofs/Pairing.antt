@@ -24,8 +24,8 @@ use Rattle.field.specs.Tables.{logOf}
 use Rattle.poly.specs.Lent.{Lent, LogRow, Loggable, held, logRow}
 use Rattle.poly.specs.Monic.{Scalable}
 use Rattle.poly.proofs.Logs.{held-row, numbers-of, row-is-row}
-use Rattle.table_rules.specs.Limit.{limit}
-use Rattle.table_rules.proofs.Fields.{known-field}
+use Rattle.input.specs.Limit.{limit}
+use Rattle.input.proofs.Fields.{known-field}
 use Rattle.claim_rules.specs.Claims.{Lower, claimOf, combined, fieldRemainder}
 use Rattle.claim_rules.specs.Admitting.{Sent}
 use Rattle.claim_rules.proofs.Claimable.{rootless-coprime}

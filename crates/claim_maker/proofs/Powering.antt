@@ -40,11 +40,12 @@ use Rattle.poly.specs.Monic.{MadeMonic}
 use Rattle.poly.proofs.Logs.{held-row, numbers-of, row-is-row}
 use Rattle.poly.proofs.Sums.{add-nil}
 use Rattle.poly_powers.specs.Powers.{Squarable, powerRows}
-use Rattle.table_rules.specs.Cutoff.{houseDefault}
+use Rattle.input.specs.Cutoff.{houseDefault}
+use Rattle.input.specs.Limit.{limit, widest}
+use Rattle.input.proofs.Polynomials.{nonzero-place}
 use Rattle.table_rules.specs.Layout.{byFactor}
-use Rattle.table_rules.specs.Limit.{limit, slots, widest}
+use Rattle.table_rules.specs.Sizes.{slots}
 use Rattle.table_rules.specs.Splitting.{slotsBegun, slotsRoots}
-use Rattle.table_rules.proofs.Polynomials.{nonzero-place}
 use Rattle.table_begin.specs.SplitPart.{Powered}
 use Rattle.find_solve.specs.Solving.{RunOut, Running, Solvable}
 use Rattle.table_finish.specs.Finishing.{Listable}

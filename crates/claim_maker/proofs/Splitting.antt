@@ -33,8 +33,8 @@ use Rattle.poly.proofs.Divisions.{divided-behind, length-divided}
 use Rattle.poly.proofs.Logs.{held-long, held-row, numbers-of, row-is-row}
 use Rattle.poly_product.specs.Products.{Multipliable}
 use Rattle.poly_product.proofs.RootProducts.{product-below}
-use Rattle.table_rules.specs.Limit.{limit}
-use Rattle.table_rules.proofs.Polynomials.{nonzero-place}
+use Rattle.input.specs.Limit.{limit}
+use Rattle.input.proofs.Polynomials.{nonzero-place}
 use Rattle.claim_rules.specs.Claims.{spreadOut}
 use Rattle.claim_rules.proofs.Claimable.{spread-same, total-within}
 use Rattle.claim_rules.proofs.Links.{quo-cut}

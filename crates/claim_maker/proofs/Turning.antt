@@ -29,7 +29,7 @@ use Rattle.poly.specs.Monic.{Scalable, TopIs}
 use Rattle.poly.proofs.Divisions.{divided-behind, divided-front, length-divided}
 use Rattle.poly.proofs.Logs.{held-row, numbers-of, row-is-row}
 use Rattle.poly.proofs.Monics.{lead-pos, lead-small, made-asks, norm-lead, norm-skip}
-use Rattle.table_rules.specs.Limit.{limit}
+use Rattle.input.specs.Limit.{limit}
 use Rattle.claim_rules.specs.Links.{Linked}
 use Rattle.claim_rules.proofs.Links.{link-same, link-scale, link-turn, product-ends, quo-cut}
 use Rattle.claim_rules.proofs.TheRemainder.{add-same, mul-same}

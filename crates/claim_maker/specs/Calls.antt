@@ -17,8 +17,8 @@ use lib.ListN.{length, take}
 use Rattle.refusals.specs.Order.{Given, Passed}
 use Rattle.refusals.specs.Numbers.{numberOf}
 use Rattle.slices.specs.Lists.{copied}
-use Rattle.table_rules.specs.Limit.{limit}
-use Rattle.table_rules.specs.Polynomials.{polynomialTests}
+use Rattle.input.specs.Limit.{limit}
+use Rattle.input.specs.Polynomials.{polynomialTests}
 use Rattle.claim_rules.specs.Claims.{Acceptable, Claim, claimOf}
 use Rattle.claim_rules.specs.Admitting.{ClaimIn, Full}
 use Rattle.claim_maker.specs.declared.Proved.{Proved}

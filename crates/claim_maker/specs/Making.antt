@@ -31,8 +31,8 @@ use Rattle.field.specs.Tables.{Halves}
 use Rattle.poly.specs.Lent.{Lent, LogRow, logRow}
 use Rattle.slices.specs.Lists.{copied}
 use Rattle.table_begin.specs.SplitPart.{Powered}
-use Rattle.table_rules.specs.Limit.{limit}
-use Rattle.table_rules.specs.Polynomials.{PolynomialIn}
+use Rattle.input.specs.Limit.{limit}
+use Rattle.input.specs.Polynomials.{PolynomialIn}
 use Rattle.claims.specs.Checking.{productRoom}
 use Rattle.claim_rules.specs.Claims.{Claim, Lower, claimOf, combined, spreadOut}
 use Rattle.claim_rules.specs.Admitting.{Sent}

@@ -33,10 +33,10 @@ use Rattle.algebra.proofs.NumberSteps.{begin-gcd}
 use Rattle.algebra.proofs.RootList.{rootsOf-ascending, rootsOf-distinct, rootsOf-empty, rootsOf-exactly, rootsOf-norm}
 use Rattle.algebra.proofs.StaysBelow.{append-below, fieldPoly-below, rem-below, replicate-below, rootsOf-below}
 use Rattle.field.specs.Field.{G, multiplicitiesAt, rootsAt}
-use Rattle.table_rules.specs.Limit.{limit}
-use Rattle.table_rules.specs.Polynomials.{PolynomialIn}
-use Rattle.table_rules.proofs.Fields.{known-field}
-use Rattle.table_rules.proofs.Polynomials.{nonzero-place}
+use Rattle.input.specs.Limit.{limit}
+use Rattle.input.specs.Polynomials.{PolynomialIn}
+use Rattle.input.proofs.Fields.{known-field}
+use Rattle.input.proofs.Polynomials.{nonzero-place}
 use Rattle.claim_rules.specs.Claims.{Acceptable, Claim, claimOf, fieldRemainder, spreadOut}
 use Rattle.claim_rules.specs.Admitting.{ClaimIn, Sent}
 use Rattle.claim_rules.proofs.ShortBezout.{Pair, fit, fit-length, fit-same, pair-of}

@@ -25,9 +25,9 @@ use Rattle.algebra.proofs.NumberMultiplicity.{multiplicity-only, multiplicity-r
 use Rattle.algebra.proofs.RootList.{rootsOf-only}
 use Rattle.algebra.proofs.Trial.{all-at, ascending-distinct}
 use Rattle.field.specs.Field.{G, multiplicitiesAt, rootsAt}
-use Rattle.table_rules.specs.Polynomials.{PolynomialIn}
-use Rattle.table_rules.proofs.Fields.{known-field}
-use Rattle.table_rules.proofs.Polynomials.{nonzero-place}
+use Rattle.input.specs.Polynomials.{PolynomialIn}
+use Rattle.input.proofs.Fields.{known-field}
+use Rattle.input.proofs.Polynomials.{nonzero-place}
 use Rattle.claim_rules.specs.Claims.{Acceptable, Claim, fieldRemainder, spreadOut}
 use Rattle.claim_rules.specs.Admitting.{ClaimIn}
 use Rattle.claim_rules.proofs.Products.{product-root, product-times}

@@ -14,7 +14,7 @@ use Rattle.algebra.specs.Routines.{norm, quotientDigit, rem, shiftIn}
 use Rattle.algebra.proofs.NumberEvaluation.{top-coef}
 use Rattle.field.specs.Rows.{knownIn, polyIn}
 use Rattle.field.specs.Field.{G, carryFree, cut, horner, hornerIn, inverse, mul as product, reduce}
-use Rattle.table_rules.proofs.Fields.{known-field}
+use Rattle.input.proofs.Fields.{known-field}
 use Rattle.claim_rules.specs.Claims.{Acceptable, Claim, claimOf, claimed, combined, fieldRemainder, spreadOut}
 
 -- the root 0 once, and the cofactor z^2 + z + 8

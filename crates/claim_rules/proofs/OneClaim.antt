@@ -27,7 +27,7 @@ use Rattle.algebra.proofs.Signs.{Signs, signs}
 use Rattle.algebra.proofs.StaysBelow.{append-below, replicate-below}
 use Rattle.field.specs.Rows.{known}
 use Rattle.field.specs.Field.{G}
-use Rattle.table_rules.proofs.Fields.{known-field}
+use Rattle.input.proofs.Fields.{known-field}
 use Rattle.claim_rules.specs.Claims.{Acceptable, Claim, claimOf, fieldRemainder, spreadOut}
 use Rattle.claim_rules.specs.Admitting.{ClaimIn, Full}
 use Rattle.claim_rules.proofs.Complete.{claim-complete}

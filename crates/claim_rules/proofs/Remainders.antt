@@ -25,7 +25,7 @@ use Rattle.algebra.proofs.NumberMonic.{Made, norm-made}
 use Rattle.algebra.proofs.StaysBelow.{add-below, eval-below, fieldPoly-below, monic-below, mul-below, rem-below, scale-below}
 use Rattle.field.specs.Rows.{known}
 use Rattle.field.specs.Field.{G}
-use Rattle.table_rules.proofs.Fields.{known-field}
+use Rattle.input.proofs.Fields.{known-field}
 use Rattle.claim_rules.specs.Claims.{fieldRemainder}
 
 -- w by the monic multiple of h

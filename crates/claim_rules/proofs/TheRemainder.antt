@@ -30,7 +30,7 @@ use Rattle.algebra.proofs.Signs.{Signs, signs}
 use Rattle.algebra.proofs.StaysBelow.{fieldPoly-below}
 use Rattle.field.specs.Rows.{known}
 use Rattle.field.specs.Field.{G}
-use Rattle.table_rules.proofs.Fields.{known-field}
+use Rattle.input.proofs.Fields.{known-field}
 use Rattle.claim_rules.specs.Claims.{IsFieldRemainder, fieldRemainder}
 use Rattle.claim_rules.proofs.Remainders.{remainder-below, remainder-of}
 

@@ -18,7 +18,7 @@ use Rattle.algebra.proofs.NumberEvaluation.{eval-same}
 use Rattle.algebra.proofs.NumberMonic.{Made, made-degree, norm-made, norm-none}
 use Rattle.algebra.proofs.StaysBelow.{mul-below}
 use Rattle.field.specs.Field.{G}
-use Rattle.table_rules.proofs.Fields.{known-field}
+use Rattle.input.proofs.Fields.{known-field}
 use Rattle.claim_rules.specs.Claims.{Acceptable, Claim, SameClaim, fieldRemainder, spreadOut}
 use Rattle.claim_rules.specs.Admitting.{ClaimIn}
 use Rattle.claim_rules.proofs.Products.{spread-below}

@@ -16,7 +16,7 @@ use lib.ListN.{length}
 use Rattle.field.specs.Rows.{known}
 use Rattle.slices.specs.Bounded.{anyFrom, allZero}
 use Rattle.algebra.specs.Polynomial.{Below}
-use Rattle.table_rules.specs.Limit.{limit}
+use Rattle.input.specs.Limit.{limit}
 use Rattle.claim_rules.specs.Claims.{Claim, Lower}
 
 -- one after the other

@@ -19,7 +19,7 @@ use Rattle.field.specs.declared.rows.Row.{Row}
 use Rattle.field.proofs.Known.{listed-on}
 use Rattle.slices.specs.Bounded.{allBelow, allZero, anyFrom}
 use Rattle.slices.proofs.Bounded.{allBelow-exactly}
-use Rattle.table_rules.specs.Limit.{limit}
+use Rattle.input.specs.Limit.{limit}
 use Rattle.claim_rules.specs.Claims.{Claim}
 use Rattle.claim_rules.specs.Admitting.{ClaimIn, Sent, claimTests, polynomialsOf, someOf}
 

@@ -21,8 +21,8 @@ use Rattle.algebra.specs.Trial.{All}
 use Rattle.slices.specs.Bounded.{anyFrom}
 use Rattle.slices.proofs.Bounded.{allBelow-exactly}
 use Rattle.field.specs.Field.{multiplicitiesAt, rootsAt}
-use Rattle.table_rules.specs.Limit.{limit}
-use Rattle.table_rules.specs.Polynomials.{PolynomialIn}
+use Rattle.input.specs.Limit.{limit}
+use Rattle.input.specs.Polynomials.{PolynomialIn}
 use Rattle.claim_rules.specs.Claims.{Claim, SameClaim}
 use Rattle.claim_rules.specs.Admitting.{ClaimIn, Sent, claimTests, polynomialsOf, someOf}
 use Rattle.claim_rules.proofs.Complete.{claim-complete}

@@ -23,9 +23,9 @@ use Rattle.field.specs.Tables.{Antilogs, Logs}
 use Rattle.poly.specs.Lent.{Lent}
 use Rattle.poly.specs.Monic.{TopIs}
 use Rattle.poly.proofs.Lending.{lent-at}
-use Rattle.table_rules.specs.Limit.{limit}
-use Rattle.table_rules.proofs.Fields.{known-field}
-use Rattle.table_rules.proofs.Polynomials.{nonzero-place}
+use Rattle.input.specs.Limit.{limit}
+use Rattle.input.proofs.Fields.{known-field}
+use Rattle.input.proofs.Polynomials.{nonzero-place}
 use Rattle.claim_rules.specs.Claims.{Acceptable, Claim, claimOf, combined, spreadOut}
 use Rattle.claim_rules.specs.Admitting.{ClaimIn}
 use Rattle.claim_rules.proofs.Complete.{given-in}

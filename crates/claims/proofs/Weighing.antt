@@ -29,7 +29,7 @@ use Rattle.poly.proofs.Sums.{add-assoc}
 use Rattle.poly_powers.specs.Powers.{Startable}
 use Rattle.poly_product.specs.Products.{Multipliable}
 use Rattle.poly_product.proofs.RootProducts.{product-below, product-long}
-use Rattle.table_rules.specs.Limit.{limit}
+use Rattle.input.specs.Limit.{limit}
 use Rattle.claim_rules.specs.Claims.{claimOf, combined, fieldRemainder}
 use Rattle.claim_rules.proofs.Remainders.{remainder-below, remainder-of}
 use Rattle.claims.specs.Checking.{Combinable, Decides, Expandable, Productive, Residual, Residue, productRoom}

@@ -24,7 +24,7 @@ use Rattle.algebra.specs.Routines.{norm}
 use Rattle.field.specs.Rows.{known}
 use Rattle.field.specs.Field.{G}
 use Rattle.poly.specs.Lent.{Lent, LogRow}
-use Rattle.table_rules.specs.Limit.{limit}
+use Rattle.input.specs.Limit.{limit}
 use Rattle.claim_rules.specs.Claims.{claimOf, combined, fieldRemainder}
 use Rattle.claim_rules.specs.Admitting.{Sent}
 

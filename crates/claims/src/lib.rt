@@ -17,7 +17,7 @@ ghost use Rattle.algebra.specs.Routines.{rem};
 ghost use Rattle.field.specs.Field.{G};
 ghost use Rattle.poly.specs.Lent.{Lent, held};
 ghost use Rattle.poly_powers.specs.Powers.{Startable};
-ghost use Rattle.table_rules.specs.Limit.{limit};
+ghost use Rattle.input.specs.Limit.{limit};
 ghost use Rattle.claim_rules.specs.Claims.{Acceptable, claimOf, combined, spreadOut};
 ghost use Rattle.claim_rules.specs.Admitting.{ClaimIn, claimTests, someOf};
 ghost use Rattle.claims.specs.Calls.{Checks};
@@ -31,6 +31,8 @@ use field_tables::constants::antilogs11;
 use field_tables::constants::logs4;
 use field_tables::constants::logs8;
 use field_tables::constants::logs11;
+use input::COEFFICIENTS;
+use input::LIMIT;
 use poly::monic::make_monic;
 use poly::monic::top;
 use poly::rows::add_row;
@@ -41,8 +43,6 @@ use refusals::Admission;
 use refusals::Refusal;
 use slices::all_below;
 use slices::all_zero;
-use table_rules::COEFFICIENTS;
-use table_rules::LIMIT;
 
 // The words of a product of two polynomials within the limit.
 const PRODUCT: usize = 2 * COEFFICIENTS;

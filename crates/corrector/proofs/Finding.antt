@@ -16,7 +16,7 @@ use Rattle.slices.specs.Lists.{copied}
 use Rattle.slices.proofs.Lists.{copied-front}
 use Rattle.poly.specs.Monic.{TopIs}
 use Rattle.poly_small.specs.Roots.{Front}
-use Rattle.table_rules.specs.Limit.{limit}
+use Rattle.input.specs.Limit.{limit}
 use Rattle.find_direct.specs.Listing.{Listed, Leading}
 use Rattle.corrector_locator.specs.Under.{Under}
 use Rattle.corrector.specs.Places.{Findable}

@@ -24,8 +24,8 @@ use lib.ListN.{length, getD, set, take}
 use Rattle.algebra.specs.Field.{power}
 use Rattle.field.specs.Field.{fieldAt, rootsAt}
 use Rattle.field_elements.specs.Calls.{positionUnder}
-use Rattle.table_rules.specs.Limit.{limit}
-use Rattle.table_rules.specs.Polynomials.{PolynomialIn}
+use Rattle.input.specs.Limit.{limit}
+use Rattle.input.specs.Polynomials.{PolynomialIn}
 use Rattle.corrector_code.specs.Eleven.{F11}
 use Rattle.corrector_code.specs.Key.{register}
 use Rattle.corrector_locator.specs.Under.{PowerSums}

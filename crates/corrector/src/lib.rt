@@ -28,9 +28,9 @@ use field_tables::field_types::F11;
 use find_direct::Direct;
 use find_direct::direct_roots;
 use find_resultants::find11;
+use input::LIMIT;
 use poly::monic::top;
 use refusals::Refusal;
-use table_rules::LIMIT;
 
 // With so many coefficients, and degree 1 to 4, roots are found directly.
 const DIRECT: usize = 5;

@@ -11,11 +11,11 @@ use Prim.Native.Nat.{ℕ, _≤_}
 use borrow.Author.Tests.{le-ltb}
 use lib.ListN.{length}
 use Rattle.refusals.specs.Order.{decide, outcome}
-use Rattle.table_rules.specs.Cutoff.{highestCutoff}
+use Rattle.input.specs.Cutoff.{highestCutoff}
+use Rattle.input.specs.Polynomials.{polynomialTests}
+use Rattle.input.specs.RootMemory.{rootMemory, multiplicityMemory, roomTests}
 use Rattle.field.specs.Field.{rootsAt}
-use Rattle.table_rules.specs.Polynomials.{polynomialTests}
 use Rattle.table_rules.specs.Demand.{stepsAt}
-use Rattle.table_rules.specs.RootMemory.{rootMemory, multiplicityMemory, roomTests}
 use Rattle.find_solve.specs.Calls.{solveTests, solveOutcome}
 use Rattle.find_search.specs.Calls.{searchTests, searchOutcome}
 

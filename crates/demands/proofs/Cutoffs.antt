@@ -10,10 +10,10 @@ use native.Mathlib.Omega.{arith}
 use borrow.Author.Tests.{le-ltb}
 use lib.Dec.{ltb}
 use Rattle.field.specs.Field.{rootsAt}
-use Rattle.table_rules.specs.Cutoff.{highestCutoff, inForceBy, inForce}
+use Rattle.input.specs.Cutoff.{highestCutoff, inForceBy, inForce}
+use Rattle.input.specs.Polynomials.{polynomialTests}
+use Rattle.input.specs.RootMemory.{roomTests, rootMemory, multiplicityMemory}
 use Rattle.table_rules.specs.Splitting.{traceBitAt}
-use Rattle.table_rules.specs.Polynomials.{polynomialTests}
-use Rattle.table_rules.specs.RootMemory.{roomTests, rootMemory, multiplicityMemory}
 use Rattle.table_rules.proofs.Counting.{count-falls}
 use Rattle.find_solve.specs.Calls.{solveTests}
 use Rattle.demands.specs.Cutoffs.{Higher}

@@ -25,7 +25,7 @@ use Rattle.table_finish.specs.Calls.{finishTests}
 use Rattle.table_finish.proofs.Coincide.{finish-coincide}
 use Rattle.slices.specs.Lists.{copied}
 use Rattle.field.specs.Field.{rootsAt, multiplicitiesAt}
-use Rattle.table_rules.specs.RootMemory.{ListsRoots}
+use Rattle.input.specs.RootMemory.{ListsRoots}
 use Rattle.find_solve.proofs.Coincide.{solve-coincide}
 use Rattle.find_search.proofs.Coincide.{search-coincide}
 use Rattle.find_affine.specs.Calls.{affineTests}

@@ -25,10 +25,11 @@ use Rattle.algebra.proofs.NumberMultiplicity.{multiplicity-right, multiplicity-
 use Rattle.algebra.proofs.RootList.{rootsOf-ascending, rootsOf-distinct, rootsOf-exactly, rootsOf-only}
 use Rattle.slices.specs.Lists.{copied}
 use Rattle.field.specs.Field.{rootsAt, multiplicitiesAt, G}
-use Rattle.table_rules.specs.Cutoff.{highestCutoff}
-use Rattle.table_rules.proofs.Fields.{known-field}
-use Rattle.table_rules.specs.Polynomials.{PolynomialIn}
-use Rattle.table_rules.proofs.Polynomials.{polynomial-told, passed-more, passed-first, passed-rest}
+use Rattle.input.specs.Cutoff.{highestCutoff}
+use Rattle.input.proofs.Fields.{known-field}
+use Rattle.input.specs.Polynomials.{PolynomialIn}
+use Rattle.input.proofs.Polynomials.{polynomial-told, passed-more, passed-first, passed-rest}
+use Rattle.input.proofs.Polynomials.{roots-few, nonzero-place}
 use Rattle.table_rules.specs.Demand.{stepsAt}
 use Rattle.find_solve.specs.Calls.{solveTests}
 use Rattle.find_solve.specs.declared.Solved.the-variants.{Found}
@@ -36,7 +37,6 @@ use Rattle.find_solve.proofs.Coincide.{solved-told}
 use Rattle.find_search.specs.Calls.{searchTests}
 use Rattle.find_search.specs.declared.Searched.the-variants.{Seen}
 use Rattle.find_search.proofs.Coincide.{searched-told}
-use Rattle.table_rules.proofs.Polynomials.{roots-few, nonzero-place}
 use Rattle.demands.proofs.Agreement.{agree-list, agree-beside}
 use Rattle.demands.specs.Demand2.{valueAt, RootList, HasMultiplicity, MultiplicityList, Holds, Demand2}
 

@@ -16,16 +16,19 @@ use Rattle.refusals.specs.Order.{Passed}
 use Rattle.refusals.specs.Order.Passed.{none as none-left}
 use Rattle.refusals.proofs.Order.{accepted, written, passes, failed}
 use Rattle.slices.specs.Lists.{copied}
-use Rattle.table_rules.specs.Cutoff.{highestCutoff, houseDefault, inForce}
+use Rattle.input.specs.Cutoff.{highestCutoff, houseDefault, inForce}
+use Rattle.input.proofs.Cutoff.{inForce-least, inForce-most}
+use Rattle.input.specs.Limit.{limit}
+use Rattle.input.specs.Polynomials.{PolynomialIn}
+use Rattle.input.proofs.Polynomials.{polynomial-told, passed-more, passed-first, passed-rest}
 use Rattle.table_rules.specs.Layout.{byFactor}
 use Rattle.field.specs.Field.{rootsAt}
 use Rattle.table_rules.specs.Splitting.{isDone, stuck, slotsDone, slotsStuck, slotsStepped, slotsRoots}
 use Rattle.table_rules.specs.Demand.{Demand3, groupsAfter, groupsSlots}
-use Rattle.table_rules.proofs.HouseDefault.{inForce-least, inForce-most}
 use Rattle.table_rules.proofs.Layouts.{byFactor-lawful}
 use Rattle.table_rules.proofs.Soundness.{done-encode, stuck-encode}
 use Rattle.table_rules.proofs.Demand.{demand-3, begin-slots}
-use Rattle.table_rules.specs.Limit.{limit, slots}
+use Rattle.table_rules.specs.Sizes.{slots}
 use Rattle.table_begin.specs.Calls.{beginTests, beginMemory, Begins}
 use Rattle.table_begin.specs.declared.Begun.{Begun}
 use Rattle.table_begin.specs.declared.Begun.the-variants.{Ready}
@@ -40,8 +43,6 @@ use Rattle.table_finish.specs.declared.Finished.the-variants.{Listed}
 use Rattle.table_finish.proofs.Coincide.{finished-told}
 use Rattle.find_solve.specs.declared.Solved.the-variants.{Found}
 use Rattle.find_solve.proofs.Coincide.{solved-told}
-use Rattle.table_rules.specs.Polynomials.{PolynomialIn}
-use Rattle.table_rules.proofs.Polynomials.{polynomial-told, passed-more, passed-first, passed-rest}
 use Rattle.table_rules.specs.Demand.{stepsAt}
 use Rattle.find_solve.specs.Calls.{solveTests}
 use Rattle.find_solve.specs.Solving.{Stepping}

@@ -9,9 +9,9 @@ use lib.ListN.{length}
 use Rattle.refusals.specs.Order.{Passed}
 use Rattle.refusals.proofs.Order.{written, failed}
 use Rattle.field.specs.Field.{rootsAt}
-use Rattle.table_rules.specs.Limit.{limit}
+use Rattle.input.specs.Limit.{limit}
+use Rattle.input.proofs.Polynomials.{polynomial-told, passed-rest}
 use Rattle.table_rules.specs.Demand.{stepsAt}
-use Rattle.table_rules.proofs.Polynomials.{polynomial-told, passed-rest}
 use Rattle.find_solve.specs.Calls.{solveTests}
 use Rattle.find_solve.specs.declared.Solved.the-variants.{Found}
 use Rattle.find_search.specs.Calls.{searchTests}

@@ -9,8 +9,8 @@ use lib.ListN.{length, replicate}
 use Rattle.refusals.specs.Order.{Passed}
 use Rattle.refusals.specs.Order.Passed.{none}
 use Rattle.refusals.proofs.Order.{passes}
+use Rattle.input.specs.Limit.{limit}
 use Rattle.table_rules.specs.Demand.{stepsAt}
-use Rattle.table_rules.specs.Limit.{limit}
 use Rattle.find_solve.specs.Calls.{solveTests, Solves}
 use Rattle.find_solve.specs.declared.Solved.{Solved}
 use Rattle.find_solve.specs.declared.Solved.the-variants.{Found}

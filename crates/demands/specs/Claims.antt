@@ -14,8 +14,8 @@ use lib.ListN.{length}
 use Rattle.refusals.specs.Order.{Given, Passed}
 use Rattle.algebra.specs.Trial.{All}
 use Rattle.field.specs.Field.{rootsAt, multiplicitiesAt}
-use Rattle.table_rules.specs.Limit.{limit}
-use Rattle.table_rules.specs.Polynomials.{PolynomialIn}
+use Rattle.input.specs.Limit.{limit}
+use Rattle.input.specs.Polynomials.{PolynomialIn}
 use Rattle.find_solve.specs.Calls.{Solves, solveTests}
 use Rattle.find_solve.specs.declared.Solved.{Solved}
 use Rattle.claim_rules.specs.Claims.{Acceptable, Claim, SameClaim}

@@ -24,10 +24,10 @@ use Rattle.field_elements.specs.declared.Answer.{Answer}
 use Rattle.field_elements.specs.Calls.{toldAnswer, toldQuadratic, pairTests, quadraticValues}
 use Rattle.field_elements.specs.Calls.{nonzeroTests, positionTests, positionUnder}
 use Rattle.field_elements.specs.Calls.{TellsProduct, TellsInverse, TellsPosition, TellsQuadratic}
-use Rattle.table_rules.specs.Cutoff.{inForce}
+use Rattle.input.specs.Cutoff.{inForce}
 use Rattle.table_rules.specs.Demand.{stepsAt}
 use Rattle.table_rules.specs.Layout.{byFactor}
-use Rattle.table_rules.specs.Limit.{slots}
+use Rattle.table_rules.specs.Sizes.{slots}
 use Rattle.table_rules.specs.Splitting.{slotsDone, slotsStepped, slotsBegun, slotsRoots}
 use Rattle.table_begin.specs.Calls.{beginTests, toldBegun, Begins}
 use Rattle.table_begin.specs.declared.Begun.{Begun}

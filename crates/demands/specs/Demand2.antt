@@ -17,7 +17,7 @@ use Rattle.algebra.specs.Trial.{All, Ascending, Distinct}
 use Rattle.algebra.specs.Polynomial.{eval, DividesBelow, fromRoots}
 use Rattle.algebra.specs.Multiplicity.{IsMultiplicityBelow, multiplicity, spread, total}
 use Rattle.field.specs.Field.{rootsAt, multiplicitiesAt, G}
-use Rattle.table_rules.specs.Limit.{limit}
+use Rattle.input.specs.Limit.{limit}
 use Rattle.table_rules.specs.Demand.{stepsAt}
 use Rattle.find_solve.specs.Calls.{Solves}
 use Rattle.find_solve.specs.declared.Solved.{Solved}

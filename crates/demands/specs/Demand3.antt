@@ -11,10 +11,10 @@ use mathlib.Core.List.{List}
 use Prim.Native.Nat.{ℕ, suc, _*_, _/_, _<_, _≤_}
 use lib.ListN.{length}
 use Rattle.slices.specs.Lists.{copied}
-use Rattle.table_rules.specs.Cutoff.{inForce}
+use Rattle.input.specs.Cutoff.{inForce}
+use Rattle.input.specs.Limit.{limit}
 use Rattle.field.specs.Field.{rootsAt}
 use Rattle.table_rules.specs.Demand.{Demand3, groupsSlots, stepsAt}
-use Rattle.table_rules.specs.Limit.{limit}
 use Rattle.table_step.specs.Calls.{Steps}
 use Rattle.table_step.specs.declared.Stepped.{Stepped}
 use Rattle.table_step.specs.declared.Stepped.the-variants.{Taken, Done}

@@ -7,8 +7,8 @@ use mathlib.Core.List.{List}
 use Prim.Native.Nat.{ℕ, _≤_}
 use lib.ListN.{length}
 use Rattle.field.specs.Field.{rootsAt}
-use Rattle.table_rules.specs.Limit.{limit}
-use Rattle.table_rules.specs.Polynomials.{PolynomialIn}
+use Rattle.input.specs.Limit.{limit}
+use Rattle.input.specs.Polynomials.{PolynomialIn}
 use Rattle.table_rules.specs.Demand.{stepsAt}
 use Rattle.find_solve.specs.Calls.{Solves}
 use Rattle.find_solve.specs.declared.Solved.{Solved}

@@ -8,8 +8,8 @@ use mathlib.Core.List.{List, [], _∷_, _++_}
 use Prim.Native.Nat.{ℕ, suc, _*_, _≤_}
 use lib.ListN.{length, take, drop, replicate}
 use Rattle.field.specs.Field.{rootsAt, multiplicitiesAt}
+use Rattle.input.specs.Limit.{limit}
 use Rattle.table_rules.specs.Demand.{stepsAt}
-use Rattle.table_rules.specs.Limit.{limit}
 use Rattle.find_solve.specs.Calls.{Solves}
 use Rattle.find_solve.specs.declared.Solved.{Solved}
 use Rattle.find_solve.specs.declared.Solved.the-variants.{Found}

@@ -23,7 +23,7 @@ use Rattle.field.proofs.Known.{listed}
 use Rattle.slices.specs.Bounded.{allBelow}
 use Rattle.field.specs.Field.{mul, inverse, rootsAt, G}
 use Rattle.field.proofs.Instance.{known-numbers}
-use Rattle.table_rules.specs.Cutoff.{inForceBy}
+use Rattle.input.specs.Cutoff.{inForceBy}
 use Rattle.table_rules.specs.Entries.{unlessEmpty, parts, splitAt, firstAbove, done, step, steps}
 use Rattle.table_rules.specs.Groups.{bitWords, groupsAt, groupCount, sumBelow, agrees}
 use Rattle.table_rules.specs.Layout.{blocks, readBlocks, restBlocks}

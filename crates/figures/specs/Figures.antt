@@ -16,11 +16,11 @@ use Prim.Native.Nat.{ℕ, _-_}
 use lib.Dec.{eqb}
 use lib.ListN.{length, replicate}
 use Rattle.algebra.specs.Trial.{All}
-use Rattle.table_rules.specs.Cutoff.{inForce}
+use Rattle.input.specs.Cutoff.{inForce}
 use Rattle.table_rules.specs.Layout.{byFactor}
 use Rattle.field.specs.Field.{rootsAt}
 use Rattle.table_rules.specs.Splitting.{slotsBegun, slotsAfter}
-use Rattle.table_rules.specs.Limit.{slots}
+use Rattle.table_rules.specs.Sizes.{slots}
 use Rattle.find_solve.specs.Calls.{solveOutcome}
 
 pub record Figure : Type 0 where

@@ -19,7 +19,7 @@ use lib.ListN.{length, getD, take, drop, set, length-append, length-map, length-
 use lib.Seq.{length-take-le, getD-take, take-suc, drop-cons, set-at, drop-set-lt}
 use Rattle.slices.specs.Lists.{copied}
 use Rattle.slices.proofs.Lists.{copied-front, copied-behind}
-use Rattle.table_rules.specs.Limit.{widest}
+use Rattle.input.specs.Limit.{widest}
 use Rattle.find_affine.specs.Spaces.{grown, spanned, dimensionBelow, Grown, Listed}
 
 -- ---- doubling

@@ -22,7 +22,7 @@ use Rattle.field.specs.Rows.{known}
 use Rattle.field.proofs.Digits.{digit-mul-le}
 use Rattle.field.proofs.Xor.{xor-assoc, xor-cancel}
 use Rattle.field.proofs.Additive.{additive-zero}
-use Rattle.table_rules.specs.Limit.{widest}
+use Rattle.input.specs.Limit.{widest}
 use Rattle.find_affine.specs.Affine.{termsAt, valueAt, affineRoots}
 use Rattle.find_affine.specs.Systems.{Imaged, Rowed, Units, digitRow, rowAt, vectorsAfter}
 use Rattle.find_affine.specs.Spaces.{spanned}

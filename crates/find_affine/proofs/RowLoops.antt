@@ -29,7 +29,7 @@ use Rattle.field.proofs.Xor.{xor-assoc}
 use Rattle.field.proofs.Ring.{mul-lt, mul-comm}
 use Rattle.field.proofs.Generator.{Generated, generated, zero-product}
 use Rattle.find_affine.specs.Affine.{termsAt}
-use Rattle.table_rules.specs.Limit.{widest}
+use Rattle.input.specs.Limit.{widest}
 use Rattle.find_affine.specs.Systems.{columns, pivotOf, swept, sweptBy, rowsAfter, vectorsAfter, digitRow, Imaged, Units, Rowed}
 
 -- ---- a list mapped in place

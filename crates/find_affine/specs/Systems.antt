@@ -17,7 +17,7 @@ use Prim.Native.Nat.{ℕ, zero, suc, _*_, _/_, _%_, _^_, _≤_, _<_}
 use lib.Bits.{bitXor}
 use lib.Dec.{eqb}
 use lib.ListN.{length, getD}
-use Rattle.table_rules.specs.Limit.{widest}
+use Rattle.input.specs.Limit.{widest}
 use Rattle.find_affine.specs.Affine.{termsAt}
 
 abbrev pub columns : ℕ

@@ -3,10 +3,10 @@
 ghost use mathlib.Core.Path.{_≡_};
 ghost use mathlib.Core.List.{map};
 ghost use Prim.Native.Nat.{_*_, _%_, _≤_, _<_};
-ghost use Rattle.table_rules.specs.Limit.{widest};
+ghost use Rattle.input.specs.Limit.{widest};
 ghost use Rattle.find_affine.specs.Systems.{digitRow, Rowed, pivotOf, sweptBy, Units, vectorsAfter};
 use crate::COLUMNS;
-use table_rules::WIDEST;
+use input::WIDEST;
 
 // Digit i of each image.
 fn digit_row(images: [u16; COLUMNS], i: usize) -> [u16; COLUMNS]

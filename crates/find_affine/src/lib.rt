@@ -10,10 +10,10 @@ ghost use Rattle.find_affine.specs.Calls.{affineTests, Spans, Spannable,
 use field::rows::FoundRow;
 use field::rows::row_of;
 use field::rows::size_of;
+use input::WIDEST;
 use refusals::Admission;
 use refusals::Refusal;
 use slices::all_below;
-use table_rules::WIDEST;
 
 pub mod images; // the value of an affine polynomial, and the columns of the system
 pub mod elimination; // the rows of the system, and the vectors that are left

@@ -2,7 +2,7 @@
 ghost use mathlib.Core.Path.{_≡_};
 ghost use Prim.Native.Nat.{_+_, _≤_, _^_};
 ghost use lib.ListN.{length};
-ghost use Rattle.table_rules.specs.Limit.{widest};
+ghost use Rattle.input.specs.Limit.{widest};
 ghost use Rattle.find_affine.specs.Spaces.{dimensionBelow, Grown, Listed};
 use crate::COLUMNS;
 

@@ -19,7 +19,7 @@ use Rattle.algebra.proofs.RootList.{rootsOf-norm, rootsOf-degree, rootsOf-one}
 use Rattle.field.specs.Field.{fieldAt, mul, inverse, G, rootsAt}
 use Rattle.field.specs.Quadratics.{rootsOfQuadratic}
 use Rattle.poly.proofs.Monics.{norm-skip, norm-lead}
-use Rattle.table_rules.proofs.Fields.{known-field}
+use Rattle.input.proofs.Fields.{known-field}
 use Rattle.find_direct.specs.Listing.{Leading}
 
 -- the first one and two of a list

@@ -27,7 +27,7 @@ use Rattle.field_constants.proofs.Field11.{gen11}
 use Rattle.slices.specs.Lists.{copied}
 use Rattle.slices.proofs.Lists.{length-copied, copied-front, copied-behind}
 use Rattle.slices.proofs.Filling.{Filling, fill-from, fill-on, fill-stop, map-at}
-use Rattle.table_rules.proofs.Fields.{known-field}
+use Rattle.input.proofs.Fields.{known-field}
 use Rattle.find_direct.specs.Listing.{Leading, ListedIf}
 use Rattle.find_direct.proofs.Leads.{leads}
 

@@ -11,7 +11,7 @@ use Prim.Native.Nat.{ℕ}
 use lib.ListN.{length}
 use Rattle.slices.specs.Lists.{copied}
 use Rattle.poly.specs.Monic.{TopIs}
-use Rattle.table_rules.specs.Polynomials.{PolynomialIn}
+use Rattle.input.specs.Polynomials.{PolynomialIn}
 use Rattle.find_direct.specs.declared.Direct.{Direct}
 use Rattle.find_direct.specs.declared.Direct.the-variants.{Written, Missed}
 

@@ -9,9 +9,9 @@ use lib.ListN.{length, take}
 use Rattle.slices.specs.Lists.{copied}
 use Rattle.slices.proofs.Lists.{copied-front}
 use Rattle.field.specs.Field.{rootsAt}
-use Rattle.table_rules.specs.Limit.{limit}
-use Rattle.table_rules.specs.Polynomials.{PolynomialIn}
-use Rattle.table_rules.proofs.Polynomials.{roots-few}
+use Rattle.input.specs.Limit.{limit}
+use Rattle.input.specs.Polynomials.{PolynomialIn}
+use Rattle.input.proofs.Polynomials.{roots-few}
 use Rattle.find_multiplicities.specs.Counting.{Countable}
 
 pub countable : {m n : ℕ} {f roots′ mults : List ℕ} (roots : List ℕ) → PolynomialIn m f → n ≡ length (rootsAt m f) → roots′ ≡ copied (rootsAt m f) roots → limit ≤ length mults

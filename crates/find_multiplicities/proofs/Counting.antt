@@ -30,9 +30,9 @@ use Rattle.poly.specs.Monic.{TopIs}
 use Rattle.poly.proofs.Logs.{numbers-of}
 use Rattle.poly.proofs.Lending.{lent-at}
 use Rattle.poly.proofs.Parts.{part-none, part-rest}
-use Rattle.table_rules.specs.Polynomials.{PolynomialIn}
-use Rattle.table_rules.proofs.Fields.{known-field}
-use Rattle.table_rules.proofs.Polynomials.{nonzero-place}
+use Rattle.input.specs.Polynomials.{PolynomialIn}
+use Rattle.input.proofs.Fields.{known-field}
+use Rattle.input.proofs.Polynomials.{nonzero-place}
 use Rattle.find_multiplicities.specs.Counting.{Countable, CountableLent, Removable, Removed, Usable}
 
 -- ---- lists

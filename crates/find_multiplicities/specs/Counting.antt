@@ -13,7 +13,7 @@ use Rattle.algebra.specs.Polynomial.{Below}
 use Rattle.algebra.specs.Multiplicity.{multiplicity, left}
 use Rattle.field.specs.Field.{G, rootsAt}
 use Rattle.poly.specs.Lent.{Lent}
-use Rattle.table_rules.specs.Polynomials.{PolynomialIn}
+use Rattle.input.specs.Polynomials.{PolynomialIn}
 
 pub record Removable (m r : ℕ) (ls ts f : List ℕ) : Type 0 where
   pub tables : Lent m ls ts

@@ -14,10 +14,10 @@ use field_tables::constants::antilogs11;
 use field_tables::constants::logs4;
 use field_tables::constants::logs8;
 use field_tables::constants::logs11;
+use input::COEFFICIENTS;
 use poly::division::divide;
 use poly::monic::top;
 use poly::values::evaluate;
-use table_rules::COEFFICIENTS;
 
 // Writes 1 to the first n slots.
 fn fill_ones(n: usize, mults: &mut [u16])

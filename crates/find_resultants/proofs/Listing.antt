@@ -32,8 +32,8 @@ use Rattle.field.specs.Tables.{Logs, Antilogs}
 use Rattle.poly.specs.Monic.{TopIs}
 use Rattle.poly.proofs.Logs.{numbers-of}
 use Rattle.poly.proofs.Lending.{lent-at}
-use Rattle.table_rules.specs.Limit.{limit}
-use Rattle.table_rules.specs.Polynomials.{PolynomialIn}
+use Rattle.input.specs.Limit.{limit}
+use Rattle.input.specs.Polynomials.{PolynomialIn}
 use Rattle.find_search.specs.Searching.{Searchable, SearchedOut}
 use Rattle.poly_resultants.specs.Maps.{Led}
 use Rattle.poly_resultants.specs.Levels.{Polynomial, Climbs, Levelled}

@@ -4,8 +4,8 @@
 // has to split, and no polynomial is divided.
 ghost use Prim.Native.Nat.{_≤_};
 ghost use lib.ListN.{length};
-ghost use Rattle.table_rules.specs.Limit.{limit};
-ghost use Rattle.table_rules.specs.Polynomials.{PolynomialIn};
+ghost use Rattle.input.specs.Limit.{limit};
+ghost use Rattle.input.specs.Polynomials.{PolynomialIn};
 ghost use Rattle.find_search.specs.Searching.{Searchable, SearchedOut};
 ghost use Rattle.find_resultants.specs.Finding.{Findable};
 use field_tables::constants::antilogs4;

@@ -23,10 +23,10 @@ use Rattle.slices.specs.Lists.{copied}
 use Rattle.slices.proofs.Lists.{length-copied}
 use Rattle.field.specs.Field.{fieldAt, rootsAt, multiplicitiesAt}
 use Rattle.field.specs.Tables.{Logs, Antilogs}
-use Rattle.table_rules.specs.Limit.{limit}
-use Rattle.table_rules.specs.Polynomials.{polynomialTests, PolynomialIn}
-use Rattle.table_rules.proofs.Polynomials.{polynomial-told, roots-few, passed-rest}
-use Rattle.table_rules.proofs.RootMemory.{lists-accepted}
+use Rattle.input.specs.Limit.{limit}
+use Rattle.input.specs.Polynomials.{polynomialTests, PolynomialIn}
+use Rattle.input.proofs.Polynomials.{polynomial-told, roots-few, passed-rest}
+use Rattle.input.proofs.RootMemory.{lists-accepted}
 use Rattle.poly.proofs.Lending.{lent-at}
 use Rattle.find_multiplicities.specs.Counting.{Countable}
 use Rattle.find_multiplicities.proofs.Asking.{countable}

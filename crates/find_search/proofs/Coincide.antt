@@ -9,7 +9,7 @@ use Prim.Native.Nat.{ℕ}
 use lib.ListN.{getD}
 use Rattle.refusals.proofs.Numbers.{refused-back, accepted-back}
 use Rattle.refusals.proofs.Told.{told-by}
-use Rattle.table_rules.proofs.RootMemory.{lists-coincide}
+use Rattle.input.proofs.RootMemory.{lists-coincide}
 use Rattle.find_search.specs.Calls.{toldSearched, Searches}
 use Rattle.find_search.specs.declared.Searched.{Searched}
 use Rattle.find_search.specs.declared.Searched.the-variants.{Seen, NotSearched}

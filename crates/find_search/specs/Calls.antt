@@ -12,8 +12,8 @@ use lib.ListN.{length}
 use Rattle.refusals.specs.Order.{outcome}
 use Rattle.refusals.specs.Numbers.{numberOf}
 use Rattle.field.specs.Field.{rootsAt}
-use Rattle.table_rules.specs.RootMemory.{roomTests, ListsRoots}
-use Rattle.table_rules.specs.Polynomials.{polynomialTests}
+use Rattle.input.specs.RootMemory.{roomTests, ListsRoots}
+use Rattle.input.specs.Polynomials.{polynomialTests}
 use Rattle.find_search.specs.declared.Searched.{Searched}
 use Rattle.find_search.specs.declared.Searched.the-variants.{Seen, NotSearched}
 

@@ -17,8 +17,8 @@ use Rattle.algebra.specs.Polynomial.{eval, isRoot}
 use Rattle.field.specs.Field.{rootsAt, G}
 use Rattle.slices.specs.Lists.{copied}
 use Rattle.poly.specs.Lent.{Lent}
-use Rattle.table_rules.specs.Limit.{limit}
-use Rattle.table_rules.specs.Polynomials.{PolynomialIn}
+use Rattle.input.specs.Limit.{limit}
+use Rattle.input.specs.Polynomials.{PolynomialIn}
 
 pub record Searchable (m : ℕ) (f ls ts roots : List ℕ) : Type 0 where
   pub polynomial : PolynomialIn m f

@@ -4,16 +4,17 @@
 ghost use mathlib.Core.Path.{_≡_};
 ghost use Prim.Native.Nat.{_+_, _≤_, _<_};
 ghost use lib.ListN.{length};
-ghost use Rattle.table_rules.specs.Limit.{limit};
-ghost use Rattle.table_rules.specs.Polynomials.{PolynomialIn};
+ghost use Rattle.input.specs.Limit.{limit};
+ghost use Rattle.input.specs.Polynomials.{PolynomialIn};
 ghost use Rattle.find_search.specs.Calls.{Searches};
 ghost use Rattle.find_search.specs.Searching.{Searchable, SearchedOut, Tried, Noted, Wordable};
 use field_tables::constants::antilogs4;
 use field_tables::constants::antilogs8;
 use field_tables::constants::logs4;
 use field_tables::constants::logs8;
-use find_admit::admit_room;
 use find_multiplicities::multiplicities_in;
+use input::LIMIT;
+use input::admit_room;
 use poly::values::evaluate;
 use poly::values::evaluate_four;
 use poly_values::PLANES;
@@ -21,7 +22,6 @@ use poly_values::VECTORS;
 use refusals::Admission;
 use refusals::Refusal;
 use refusals::also;
-use table_rules::LIMIT;
 
 // What the plain search answers: the number of roots, or what is turned away.
 pub enum Searched {

@@ -24,16 +24,17 @@ use Rattle.slices.specs.Lists.{copied}
 use Rattle.slices.proofs.Lists.{length-copied}
 use Rattle.field.specs.Field.{fieldAt, rootsAt, multiplicitiesAt}
 use Rattle.field.specs.Tables.{Logs, Antilogs, Halves}
+use Rattle.input.specs.Cutoff.{highestCutoff, houseDefault, inForce}
+use Rattle.input.proofs.Cutoff.{inForce-least, inForce-most}
+use Rattle.input.specs.Limit.{limit, widest}
+use Rattle.input.specs.Polynomials.{polynomialTests, PolynomialIn}
+use Rattle.input.proofs.Polynomials.{polynomial-told, roots-few, passed-rest}
+use Rattle.input.proofs.RootMemory.{lists-accepted}
 use Rattle.table_rules.specs.Layout.{byFactor}
-use Rattle.table_rules.specs.Cutoff.{highestCutoff, houseDefault, inForce}
 use Rattle.table_rules.specs.Splitting.{slotsBegun}
-use Rattle.table_rules.proofs.HouseDefault.{inForce-least, inForce-most}
 use Rattle.table_rules.proofs.Demand.{begin-slots}
-use Rattle.table_rules.specs.Limit.{limit, slots, widest}
+use Rattle.table_rules.specs.Sizes.{slots}
 use Rattle.table_begin.specs.SplitPart.{Beginnable}
-use Rattle.table_rules.specs.Polynomials.{polynomialTests, PolynomialIn}
-use Rattle.table_rules.proofs.Polynomials.{polynomial-told, roots-few, passed-rest}
-use Rattle.table_rules.proofs.RootMemory.{lists-accepted}
 use Rattle.table_rules.specs.Demand.{stepCount}
 use Rattle.poly.proofs.Lending.{lent-at, halves-at}
 use Rattle.table_begin.proofs.Writing.{rows-room}

@@ -9,7 +9,7 @@ use Prim.Native.Nat.{ℕ}
 use lib.ListN.{getD}
 use Rattle.refusals.proofs.Numbers.{refused-back, accepted-back}
 use Rattle.refusals.proofs.Told.{told-by}
-use Rattle.table_rules.proofs.RootMemory.{lists-coincide}
+use Rattle.input.proofs.RootMemory.{lists-coincide}
 use Rattle.find_solve.specs.Calls.{toldSolved, Solves}
 use Rattle.find_solve.specs.declared.Solved.{Solved}
 use Rattle.find_solve.specs.declared.Solved.the-variants.{Found, NotSolved}

@@ -14,10 +14,10 @@ use Rattle.algebra.proofs.StaysBelow.{rootsOf-below}
 use Rattle.field.specs.Field.{G, rootsAt}
 use Rattle.poly.specs.Monic.{TopIs}
 use Rattle.slices.proofs.Lists.{length-copied, copied-front}
+use Rattle.input.specs.Limit.{limit}
+use Rattle.input.specs.Polynomials.{PolynomialIn}
+use Rattle.input.proofs.Polynomials.{roots-few}
 use Rattle.table_rules.specs.Demand.{stepCount}
-use Rattle.table_rules.specs.Limit.{limit}
-use Rattle.table_rules.specs.Polynomials.{PolynomialIn}
-use Rattle.table_rules.proofs.Polynomials.{roots-few}
 use Rattle.find_direct.specs.Listing.{Leading, Listed}
 use Rattle.find_solve.specs.Solving.{SolvedOut}
 use Rattle.find_solve.specs.declared.Counts.{Counts}

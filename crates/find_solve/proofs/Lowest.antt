@@ -25,10 +25,10 @@ use Rattle.slices.specs.Lists.{copied}
 use Rattle.slices.proofs.Bounded.{allBelow-exactly}
 use Rattle.field.specs.Field.{fieldAt, mul, inverse, G, rootsAt}
 use Rattle.poly.proofs.Monics.{norm-skip, norm-lead}
+use Rattle.input.proofs.Fields.{known-field}
 use Rattle.table_rules.specs.Demand.{stepCount}
 use Rattle.table_rules.specs.Splitting.{traceBitAt}
 use Rattle.table_rules.proofs.Counting.{count-left, left-none}
-use Rattle.table_rules.proofs.Fields.{known-field}
 use Rattle.find_solve.specs.Solving.{AtMostLinear, SolvedOut}
 use Rattle.find_solve.specs.declared.Counts.{Counts}
 

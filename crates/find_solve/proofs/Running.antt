@@ -10,11 +10,12 @@ use Prim.Native.Nat.{ℕ, zero, suc, _≤_, _<_}
 use native.Mathlib.Decide.{decLt}
 use native.Mathlib.Omega.{arith}
 use lib.ListN.{length}
-use Rattle.table_rules.specs.Cutoff.{highestCutoff}
+use Rattle.input.specs.Cutoff.{highestCutoff}
+use Rattle.input.specs.Polynomials.{PolynomialIn}
+use Rattle.input.proofs.Polynomials.{roots-few}
+use Rattle.input.specs.Limit.{limit}
 use Rattle.table_rules.specs.Layout.{byFactor}
 use Rattle.table_rules.specs.Table.{encode, sound}
-use Rattle.table_rules.specs.Polynomials.{PolynomialIn}
-use Rattle.table_rules.proofs.Polynomials.{roots-few}
 use Rattle.table_rules.specs.Splitting.{isDone, stuck, slotsRoots, slotsDone, slotsStuck, slotsStepped, slotsAfter}
 use Rattle.table_rules.specs.Demand.{Demand3, stepCount, groupsAfter, groupsSlots}
 use Rattle.table_rules.proofs.Layouts.{byFactor-lawful}
@@ -22,7 +23,7 @@ use Rattle.table_rules.proofs.Soundness.{done-encode, stuck-encode, roots-encod
 use Rattle.table_rules.proofs.Keeping.{sound-length}
 use Rattle.table_rules.proofs.Demand.{demand-3, steps-to-done}
 use Rattle.poly.specs.Lent.{Lent}
-use Rattle.table_rules.specs.Limit.{limit, slots, isSound}
+use Rattle.table_rules.specs.Sizes.{slots, isSound}
 use Rattle.find_solve.specs.Solving.{Stepping, RunOut, Solvable}
 use Rattle.field.specs.Field.{fieldAt, rootsAt}
 use Rattle.field.specs.Tables.{Halves}

@@ -35,13 +35,15 @@ use Rattle.algebra.proofs.NumberDivision.{eval-rem}
 use Rattle.algebra.proofs.NumberSteps.{eval-traceOf, split-same}
 use Rattle.algebra.proofs.RootList.{eval-one, rootsOf-distinct, rootsOf-norm}
 use Rattle.slices.proofs.Lists.{take-zeros, drop-zeros}
+use Rattle.input.proofs.Fields.{degree-within}
+use Rattle.input.specs.Limit.{limit, widest}
+use Rattle.input.specs.Polynomials.{PolynomialIn}
 use Rattle.table_rules.specs.Groups.{group}
 use Rattle.table_rules.specs.Entries.{entryAt, firstAbove}
 use Rattle.table_rules.specs.Layout.{byFactor}
 use Rattle.table_rules.specs.Table.{Table, decode}
 use Rattle.table_rules.specs.Splitting.{traceBitAt, firstFactor, halvingAt}
 use Rattle.table_rules.specs.Demand.{groupsAfter}
-use Rattle.table_rules.proofs.Fields.{degree-within}
 use Rattle.table_rules.proofs.Layouts.{byFactor-lawful}
 use Rattle.table_rules.proofs.Soundness.{decode-encode}
 use Rattle.table_rules.proofs.Demand.{demand-3}
@@ -51,12 +53,11 @@ use Rattle.poly_powers.specs.Powers.{Summable, traceSum}
 use Rattle.poly.proofs.Logs.{field-of, numbers-of, held-long}
 use Rattle.poly_powers.proofs.TraceLoops.{rows-fit, next-place, part-front, part-long}
 use Rattle.poly_powers.proofs.TraceValues.{traceSum-below, powerRows-long, powerRows-row, trace-value}
-use Rattle.table_rules.specs.Limit.{limit, slots, widest}
+use Rattle.table_rules.specs.Sizes.{slots}
 use Rattle.table_check.specs.Verdicts.{Chosen}
 use Rattle.table_step.specs.Parting.{StepReady}
 use Rattle.table_slots.specs.Slots.{takenOf, levelAt, factorAt}
 use Rattle.table_begin.specs.SplitPart.{Powered}
-use Rattle.table_rules.specs.Polynomials.{PolynomialIn}
 use Rattle.table_step.proofs.Commons.{level-fits, level-power}
 use Rattle.table_step.proofs.Replacing.{factor-is, level-below-width}
 use Rattle.find_solve.specs.Solving.{Stepping, Traced, Traceable, TracedTo, Advancing, Advanced, Running, Solvable, levelSum, levelSums}

@@ -12,11 +12,11 @@ use lib.Dec.{ltb}
 use lib.ListN.{length}
 use Rattle.refusals.specs.Order.{outcome}
 use Rattle.refusals.specs.Numbers.{numberOf}
-use Rattle.table_rules.specs.Cutoff.{highestCutoff}
+use Rattle.input.specs.Cutoff.{highestCutoff}
+use Rattle.input.specs.RootMemory.{roomTests, ListsRoots}
+use Rattle.input.specs.Polynomials.{polynomialTests}
 use Rattle.field.specs.Field.{rootsAt}
 use Rattle.table_rules.specs.Demand.{stepsAt}
-use Rattle.table_rules.specs.RootMemory.{roomTests, ListsRoots}
-use Rattle.table_rules.specs.Polynomials.{polynomialTests}
 use Rattle.find_solve.specs.declared.Solved.{Solved}
 use Rattle.find_solve.specs.declared.Solved.the-variants.{Found, NotSolved}
 

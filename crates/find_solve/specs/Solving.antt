@@ -21,7 +21,9 @@ use Rattle.algebra.specs.Field.{power}
 use Rattle.algebra.specs.Polynomial.{add}
 use Rattle.algebra.specs.Routines.{gcd}
 use Rattle.field.specs.Rows.{known}
-use Rattle.table_rules.specs.Cutoff.{highestCutoff}
+use Rattle.input.specs.Cutoff.{highestCutoff}
+use Rattle.input.specs.Limit.{limit, widest}
+use Rattle.input.specs.Polynomials.{PolynomialIn}
 use Rattle.table_rules.specs.Layout.{byFactor}
 use Rattle.table_rules.specs.Splitting.{halvingAt, slotsStepped}
 use Rattle.table_rules.specs.Demand.{stepCount, groupsSlots}
@@ -31,11 +33,9 @@ use Rattle.poly_powers.specs.Powers.{traceSum}
 use Rattle.slices.specs.Lists.{copied}
 use Rattle.field.specs.Field.{fieldAt, G, rootsAt}
 use Rattle.field.specs.Tables.{Halves}
-use Rattle.table_rules.specs.Limit.{limit, widest}
 use Rattle.table_slots.specs.Slots.{widthOf, takenOf, levelAt, factorAt}
 use Rattle.table_check.specs.Verdicts.{Chosen}
 use Rattle.table_begin.specs.SplitPart.{Powered}
-use Rattle.table_rules.specs.Polynomials.{PolynomialIn}
 use Rattle.find_solve.specs.declared.Counts.{Counts}
 
 pub record Stepping (m c : ℕ) (f table : List ℕ) : Type 0 where

@@ -17,18 +17,18 @@ use Rattle.refusals.specs.Order.{Passed}
 use Rattle.refusals.specs.Order.Passed.{none}
 use Rattle.refusals.proofs.Order.{passes, failed, others, accepted}
 use Rattle.slices.proofs.Lists.{copied-front}
-use Rattle.table_rules.specs.Cutoff.{highestCutoff, inForce}
+use Rattle.input.specs.Cutoff.{highestCutoff, inForce}
+use Rattle.input.specs.Limit.{limit}
+use Rattle.input.specs.Polynomials.{PolynomialIn}
+use Rattle.input.specs.RootMemory.{roomTests}
+use Rattle.input.proofs.Polynomials.{polynomial-told}
+use Rattle.input.proofs.Polynomials.{roots-few}
 use Rattle.field.specs.Field.{rootsAt}
-use Rattle.table_rules.specs.Limit.{limit}
-use Rattle.table_rules.specs.Polynomials.{PolynomialIn}
-use Rattle.table_rules.specs.RootMemory.{roomTests}
-use Rattle.table_rules.proofs.Polynomials.{polynomial-told}
 use Rattle.table_rules.specs.Demand.{stepsAt}
 use Rattle.find_solve.specs.Calls.{solveTests, solveOutcome}
 use Rattle.find_solve.specs.Solving.{SolvedOut}
 use Rattle.find_solve.proofs.Admitting.{admitted, solved-at}
 use Rattle.find_solve.specs.declared.Counts.{Counts}
-use Rattle.table_rules.proofs.Polynomials.{roots-few}
 use Rattle.job_records.specs.Layout.{words, part}
 use Rattle.job_records.specs.Cutoffs.{asked}
 use Rattle.job_records.specs.Reading.{Outcome, callTests, readAt, Spelled}

@@ -10,7 +10,7 @@ use Rattle.algebra.specs.Field.{power, trace}
 use Rattle.algebra.specs.Polynomial.{eval, rootsOf}
 use Rattle.field.specs.Rows.{knownIn, polyIn}
 use Rattle.field.specs.Field.{mul}
-use Rattle.table_rules.specs.Cutoff.{inForceBy}
+use Rattle.input.specs.Cutoff.{inForceBy}
 use Rattle.table_rules.specs.Groups.{groupsAt, groupCount, sumBelow, agrees}
 use Rattle.table_rules.specs.Groups.{bitWords as bitWords}
 use Rattle.job_records.specs.Layout.{words}

@@ -7,13 +7,13 @@ ghost use Rattle.job_records.specs.Layout.{words};
 ghost use Rattle.job_records.specs.Reading.{Stands};
 ghost use Rattle.job_text.specs.Lines.{Wrote, longestLine};
 ghost use Rattle.job_lines.specs.Printing.{turnedLine, solvedLine, TurnedBy, Printable};
-use find_admit::in_force;
 use find_solve::solve_in;
+use input::COEFFICIENTS;
+use input::LIMIT;
+use input::in_force;
 use job_records::Read;
 use job_text::line;
 use refusals::Refusal;
-use table_rules::COEFFICIENTS;
-use table_rules::LIMIT;
 
 // Where reading goes on, and the number of the record there.
 pub struct NextRecord {

@@ -22,7 +22,7 @@ use Rattle.algebra.specs.Polynomial.{Below}
 use Rattle.job_text.specs.Lines.{digitByte, lineFeed, decimal, spaced}
 use Rattle.job_text.proofs.Digits.{DigitBytes, by-tenths, decimal-digits}
 use Rattle.job_text.proofs.Digits.DigitBytes.{one}
-use Rattle.table_rules.specs.Limit.{limit}
+use Rattle.input.specs.Limit.{limit}
 use Rattle.job_writer.specs.Calls.{Writes}
 use Rattle.job_writer.specs.declared.Written.{Written}
 use Rattle.job_lists.specs.Calls.{Lists}

@@ -21,7 +21,7 @@ use Prim.Native.Nat.{ℕ, suc, _+_, _-_, _*_}
 use lib.Dec.{eqb, ltb, leb}
 use lib.ListN.{length, take, drop}
 use Rattle.job_text.specs.Lines.{digitByte, space, lineFeed}
-use Rattle.table_rules.specs.Limit.{limit}
+use Rattle.input.specs.Limit.{limit}
 
 abbrev pub tab : ℕ
 tab = 9

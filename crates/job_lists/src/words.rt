@@ -7,7 +7,7 @@ ghost use Rattle.slices.specs.Lists.{copied};
 ghost use Rattle.job_text.specs.Lines.{Wrote};
 ghost use Rattle.job_lists.specs.Lines.{isDigit, isLegible, legible, capped, mostNumbers, numbersOf};
 ghost use Rattle.job_lists.specs.Words.{grownWord, heldList};
-use table_rules::LIMIT;
+use input::LIMIT;
 
 // How many numbers of a line count (specs/Lines.antt `mostNumbers`).
 pub const MOST_NUMBERS: usize = 3 + LIMIT;

@@ -11,8 +11,8 @@ use native.Mathlib.Omega.{arith}
 use lib.ListN.{length, getD, set, length-set}
 use lib.Seq.{take-length, paste, paste-zero, paste-suc}
 use Rattle.slices.specs.Lists.{copied}
-use Rattle.find_admit.specs.Values.{Largest}
-use Rattle.find_admit.proofs.Seeking.{SeekingTop, seek-top-from, seek-top-raise, seek-top-keep, seek-top-end}
+use Rattle.input.specs.Values.{Largest}
+use Rattle.input.proofs.Seeking.{SeekingTop, seek-top-from, seek-top-raise, seek-top-keep, seek-top-end}
 use Rattle.job_records.specs.Layout.{word, words}
 use Rattle.job_records.specs.Reading.{Spelled}
 use Rattle.job_records.proofs.Words.{length-words, word-at}

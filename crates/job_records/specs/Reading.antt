@@ -27,8 +27,8 @@ use lib.Dec.{ltb}
 use Rattle.refusals.specs.Order.{decide}
 use Rattle.refusals.specs.Numbers.{numberOf}
 use Rattle.slices.specs.Lists.{copied}
-use Rattle.table_rules.specs.Cutoff.{highestCutoff}
-use Rattle.table_rules.specs.Polynomials.{polynomialTests}
+use Rattle.input.specs.Cutoff.{highestCutoff}
+use Rattle.input.specs.Polynomials.{polynomialTests}
 use Rattle.job_records.specs.Layout.{headLength, marked, degreeByte, cutoffByte}
 use Rattle.job_records.specs.Layout.{bodyLength, recordLength, words, part, coefficients}
 use Rattle.job_records.specs.Cutoffs.{statedCutoff, statedBy}

@@ -4,15 +4,15 @@ ghost use mathlib.Core.Path.{_≡_};
 ghost use Prim.Native.Nat.{_+_, _*_, _≤_, _<_, _^_};
 ghost use lib.ListN.{length, drop};
 ghost use Rattle.refusals.specs.Admitting.{Admits};
-ghost use Rattle.find_admit.specs.Values.{Measured};
+ghost use Rattle.input.specs.Values.{Measured};
 ghost use Rattle.job_records.specs.Layout.{headLength, degreeByte, word, words, part};
 ghost use Rattle.job_records.specs.Cutoffs.{statedCutoff, statedBy, asked};
 ghost use Rattle.job_records.specs.Files.{Halts};
 ghost use Rattle.job_records.specs.Reading.{toldRead, answered, bytesOf, readHere, ReadsAt, callTests, Spelled};
-use find_admit::admit_call;
+use input::COEFFICIENTS;
+use input::admit_call;
 use refusals::Admission;
 use refusals::Refusal;
-use table_rules::COEFFICIENTS;
 
 pub mod held; // a reader that holds the file
 

@@ -19,12 +19,12 @@ use Rattle.refusals.specs.Order.{Given, Passed}
 use Rattle.refusals.proofs.Order.{cases, given-decides}
 use Rattle.field.specs.Rows.{rows}
 use Rattle.field.specs.Field.{rootsAt}
-use Rattle.table_rules.specs.Cutoff.{inForce}
-use Rattle.table_rules.specs.Limit.{limit, widest}
-use Rattle.table_rules.specs.Polynomials.{PolynomialIn}
+use Rattle.input.specs.Cutoff.{inForce}
+use Rattle.input.specs.Limit.{limit, widest}
+use Rattle.input.specs.Polynomials.{PolynomialIn}
+use Rattle.input.proofs.Polynomials.{polynomial-told, roots-few}
 use Rattle.table_rules.specs.Splitting.{traceBitAt}
 use Rattle.table_rules.proofs.Counting.{count-bound}
-use Rattle.table_rules.proofs.Polynomials.{polynomial-told, roots-few}
 use Rattle.find_solve.proofs.Tracing.{powers-fit}
 use Rattle.job_records.specs.Layout.{degreeByte, cutoffByte, recordLength, coefficients}
 use Rattle.job_records.specs.Reading.{startTests, recordTests}

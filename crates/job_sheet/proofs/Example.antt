@@ -11,7 +11,7 @@ use Rattle.algebra.specs.Polynomial.{eval, rootsOf}
 use Rattle.field.specs.Rows.{knownIn, polyIn}
 use Rattle.field.specs.Field.{mul}
 use Rattle.slices.specs.Bounded.{allBelow}
-use Rattle.table_rules.specs.Cutoff.{inForceBy}
+use Rattle.input.specs.Cutoff.{inForceBy}
 use Rattle.table_rules.specs.Groups.{groupsAt, groupCount, sumBelow, agrees, bitWords}
 use Rattle.job_records.specs.Layout.{words}
 use Rattle.job_records.specs.Reading.{judged, readHere}

@@ -21,7 +21,7 @@ use Rattle.refusals.specs.Order.{decide, Given, Passed}
 use Rattle.refusals.specs.Order.Passed.{none as all-passed}
 use Rattle.refusals.proofs.Order.{passes, failed, others, cases, given-decides, passed-decides}
 use Rattle.field.specs.Field.{rootsAt}
-use Rattle.table_rules.specs.Cutoff.{inForce}
+use Rattle.input.specs.Cutoff.{inForce}
 use Rattle.table_rules.specs.Demand.{stepsAt}
 use Rattle.table_rules.specs.Table.{stepLimit}
 use Rattle.job_records.specs.Layout.{headLength, markLow, markHigh, degreeByte, cutoffByte, bodyLength, recordLength}

@@ -23,12 +23,12 @@ use Rattle.refusals.specs.Order.{Passed}
 use Rattle.refusals.proofs.Order.{failed}
 use Rattle.slices.proofs.Lists.{copied-front}
 use Rattle.field.specs.Field.{rootsAt, G}
-use Rattle.table_rules.specs.Cutoff.{highestCutoff, houseDefault, inForce}
-use Rattle.table_rules.specs.Limit.{limit, widest}
-use Rattle.table_rules.specs.Polynomials.{PolynomialIn}
-use Rattle.table_rules.proofs.Fields.{known-field}
-use Rattle.table_rules.proofs.HouseDefault.{inForce-least, inForce-most}
-use Rattle.table_rules.proofs.Polynomials.{polynomial-told, roots-few, nonzero-place, passed-rest}
+use Rattle.input.specs.Cutoff.{highestCutoff, houseDefault, inForce}
+use Rattle.input.specs.Limit.{limit, widest}
+use Rattle.input.specs.Polynomials.{PolynomialIn}
+use Rattle.input.proofs.Fields.{known-field}
+use Rattle.input.proofs.Cutoff.{inForce-least, inForce-most}
+use Rattle.input.proofs.Polynomials.{polynomial-told, roots-few, nonzero-place, passed-rest}
 use Rattle.find_solve.specs.Solving.{SolvedOut}
 use Rattle.find_solve.specs.declared.Counts.{Counts}
 use Rattle.find_solve.proofs.Admitting.{solved-at}

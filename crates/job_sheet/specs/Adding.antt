@@ -19,7 +19,7 @@ use lib.Dec.{eqb}
 use lib.ListN.{length, getD, set}
 use Rattle.field.specs.Rows.{rows}
 use Rattle.field.specs.Field.{rootsAt}
-use Rattle.table_rules.specs.Cutoff.{inForce}
+use Rattle.input.specs.Cutoff.{inForce}
 use Rattle.table_rules.specs.Demand.{stepsAt}
 use Rattle.table_rules.specs.Table.{stepLimit}
 use Rattle.job_records.specs.Layout.{words, part}

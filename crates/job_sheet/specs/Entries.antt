@@ -13,7 +13,7 @@ use Prim.Native.Nat.{ℕ, zero, suc, _-_}
 use lib.ListN.{length}
 use Rattle.refusals.specs.Order.{decide}
 use Rattle.field.specs.Field.{rootsAt}
-use Rattle.table_rules.specs.Cutoff.{inForce}
+use Rattle.input.specs.Cutoff.{inForce}
 use Rattle.table_rules.specs.Demand.{stepsAt}
 use Rattle.table_rules.specs.Table.{stepLimit}
 use Rattle.job_records.specs.Layout.{degreeByte, cutoffByte, recordLength, coefficients}

@@ -10,13 +10,13 @@ ghost use Rattle.job_sheet.specs.Adding.{placeOf, risen, noFigures, with
 ghost use Rattle.job_sheet.specs.Adding.{JobStands, CountedIs, RoomForRecord, RoomForRefusal};
 use field::rows::FIELDS;
 use field::rows::ROWS;
-use find_admit::in_force;
 use find_solve::solve_in;
+use input::COEFFICIENTS;
+use input::LIMIT;
+use input::in_force;
 use job_records::Job;
 use job_records::Read;
 use job_records::read_record;
-use table_rules::COEFFICIENTS;
-use table_rules::LIMIT;
 
 pub mod text; // the lines that the program `sheet` prints
 

@@ -17,7 +17,7 @@ use Prim.Native.Nat.{ℕ, zero, suc, _+_, _*_, _/_, _%_}
 use lib.ListN.{length}
 use lib.Dec.{eqb, ltb}
 use Rattle.slices.specs.Lists.{pasted}
-use Rattle.table_rules.specs.Limit.{limit}
+use Rattle.input.specs.Limit.{limit}
 
 abbrev pub digitByte : ℕ → ℕ
 digitByte d = 48 + d

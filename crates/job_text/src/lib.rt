@@ -3,7 +3,7 @@ ghost use Prim.Native.Nat.{_+_, _*_, _≤_};
 ghost use mathlib.Core.List.{[], _∷_};
 ghost use lib.ListN.{length, take};
 ghost use Rattle.job_text.specs.Lines.{decimal, spaced, lineOf, lineRoom, Wrote};
-use table_rules::LIMIT;
+use input::LIMIT;
 
 // The most bytes that a line has (specs/Lines.antt `longestLine`): it has as many roots as the limit.
 pub const LINE: usize = 29 + 6 * LIMIT;

@@ -17,8 +17,8 @@ use Rattle.field.specs.declared.rows.Row.{Row}
 use Rattle.field.proofs.Known.{listed-on}
 use Rattle.slices.specs.Bounded.{allBelow}
 use Rattle.slices.proofs.Bounded.{allBelow-exactly}
-use Rattle.table_rules.specs.Cutoff.{highestCutoff}
-use Rattle.table_rules.specs.Limit.{limit}
+use Rattle.input.specs.Cutoff.{highestCutoff}
+use Rattle.input.specs.Limit.{limit}
 use Rattle.job_writer.specs.Records.{lengthFor}
 use Rattle.job_writer.specs.Calls.{ascends, writeTests, Writable}
 use Rattle.job_writer.proofs.RootOrder.{ascends-exactly}

@@ -20,9 +20,9 @@ use Rattle.refusals.specs.Order.Passed.{none}
 use Rattle.refusals.proofs.Order.{passes, passed-decides}
 use Rattle.slices.proofs.Bounded.{allBelow-exactly}
 use Rattle.field.specs.Field.{rootsAt, multiplicitiesAt}
-use Rattle.table_rules.specs.Cutoff.{highestCutoff}
-use Rattle.table_rules.specs.Limit.{limit}
-use Rattle.table_rules.specs.Polynomials.{polynomialTests}
+use Rattle.input.specs.Cutoff.{highestCutoff}
+use Rattle.input.specs.Limit.{limit}
+use Rattle.input.specs.Polynomials.{polynomialTests}
 use Rattle.job_records.specs.Layout.{headLength, words, part, coefficients}
 use Rattle.job_records.specs.Cutoffs.{statedCutoff}
 use Rattle.job_records.specs.Reading.{Outcome, callTests, recordTests, judged, readAt}

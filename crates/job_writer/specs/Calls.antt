@@ -18,8 +18,8 @@ use Rattle.slices.specs.Lists.{copied}
 use Rattle.algebra.specs.Trial.{Ascending}
 use Rattle.algebra.specs.Polynomial.{Below}
 use Rattle.field.specs.Rows.{known}
-use Rattle.table_rules.specs.Cutoff.{highestCutoff}
-use Rattle.table_rules.specs.Limit.{limit}
+use Rattle.input.specs.Cutoff.{highestCutoff}
+use Rattle.input.specs.Limit.{limit}
 use Rattle.job_writer.specs.Records.{recordOf, lengthFor}
 use Rattle.job_writer.specs.declared.Written.{Written}
 use Rattle.job_writer.specs.declared.Written.the-variants.{Bytes, NotWritten}

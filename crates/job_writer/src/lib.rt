@@ -19,15 +19,15 @@ use field_tables::constants::antilogs11;
 use field_tables::constants::logs4;
 use field_tables::constants::logs8;
 use field_tables::constants::logs11;
+use input::COEFFICIENTS;
+use input::HIGHEST_CUTOFF;
+use input::LIMIT;
 use job_records::HEAD;
 use job_records::MARK;
 use poly_product::product_over;
 use refusals::Admission;
 use refusals::Refusal;
 use slices::all_below;
-use table_rules::COEFFICIENTS;
-use table_rules::HIGHEST_CUTOFF;
-use table_rules::LIMIT;
 
 // The most bytes that a record has: its head, and two for each coefficient.
 pub const RECORD: usize = HEAD + 2 * COEFFICIENTS;

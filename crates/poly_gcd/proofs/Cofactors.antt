@@ -24,7 +24,7 @@ use Rattle.slices.specs.Lists.{copied}
 use Rattle.slices.proofs.Lists.{copied-front, length-copied}
 use Rattle.poly.specs.Lent.{Loggable, LogRow, logRow, held}
 use Rattle.poly.specs.Division.{divided, Divisible}
-use Rattle.table_rules.specs.Limit.{limit}
+use Rattle.input.specs.Limit.{limit}
 use Rattle.poly_gcd.specs.Euclid.{Cofactorable}
 use Rattle.poly.proofs.Logs.{numbers-of, held-row, row-is-row}
 use Rattle.poly.proofs.Divisions.{divided-behind, length-divided}

@@ -29,7 +29,7 @@ use Rattle.poly.specs.Lent.{Lent, LogRow, Loggable, logRow, held}
 use Rattle.poly.specs.Division.{divided, Divisible}
 use Rattle.poly.specs.Monic.{monicLow, MadeMonic}
 use Rattle.poly_gcd.specs.Euclid.{Turnable, Reducing, LeftIn, EuclidTurned, GcdIs, Commonable}
-use Rattle.table_rules.specs.Limit.{limit}
+use Rattle.input.specs.Limit.{limit}
 use Rattle.poly.proofs.Logs.{numbers-of, held-row, row-is-row}
 use Rattle.poly.proofs.Divisions.{rem-short, divided-front, length-divided}
 

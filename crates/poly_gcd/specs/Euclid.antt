@@ -19,7 +19,7 @@ use Rattle.algebra.specs.Routines.{monic, rem, norm, gcd}
 use Rattle.field.specs.Field.{G}
 use Rattle.poly.specs.Lent.{Lent}
 use Rattle.poly.specs.Monic.{monicLow}
-use Rattle.table_rules.specs.Limit.{limit}
+use Rattle.input.specs.Limit.{limit}
 
 -- with room for the divisor's leading 1, and for a remainder as long as the divisor
 pub record Turnable (m : ℕ) (ls ts a : List ℕ) (n : ℕ) (b : List ℕ) (k : ℕ) : Type 0 where

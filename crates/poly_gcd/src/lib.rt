@@ -5,14 +5,14 @@ ghost use Prim.Native.Nat.{_≤_};
 ghost use lib.ListN.{length, take};
 ghost use Rattle.algebra.specs.Routines.{cofactor};
 ghost use Rattle.field.specs.Field.{G};
-ghost use Rattle.table_rules.specs.Limit.{limit};
+ghost use Rattle.input.specs.Limit.{limit};
 ghost use Rattle.poly_gcd.specs.Euclid.{Turnable, Reducing, LeftIn, EuclidTurned};
 ghost use Rattle.poly_gcd.specs.Euclid.{GcdIs, Commonable, Cofactorable};
+use input::COEFFICIENTS;
+use input::LIMIT;
 use poly::division::divide;
 use poly::monic::make_monic;
 use poly::rows::log_row;
-use table_rules::COEFFICIENTS;
-use table_rules::LIMIT;
 
 // Leaves the remainder of the first k coefficients of b by the monic polynomial with the low coefficients p at the
 // front of b.

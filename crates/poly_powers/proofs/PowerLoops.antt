@@ -26,7 +26,7 @@ use Rattle.field.proofs.Ring.{ring}
 use Rattle.slices.specs.Lists.{copied}
 use Rattle.poly.specs.Lent.{Lent, held}
 use Rattle.poly.specs.Division.{divided, Divisible, Reducible}
-use Rattle.table_rules.specs.Limit.{limit}
+use Rattle.input.specs.Limit.{limit}
 use Rattle.poly_powers.specs.Powers.{Spreadable, Squarable}
 use Rattle.slices.proofs.Filling.{Filling, fill-from, fill-on, fill-next, fill-end}
 use Rattle.poly.proofs.Logs.{field-of, small-of, numbers-of, held-below, held-long}

@@ -20,7 +20,7 @@ use Rattle.field.specs.Field.{fieldAt, G}
 use Rattle.field.specs.Tables.{logOf}
 use Rattle.poly.specs.Lent.{LogRow, Loggable, logRow, held}
 use Rattle.poly.specs.Division.{Reducible}
-use Rattle.table_rules.specs.Limit.{limit}
+use Rattle.input.specs.Limit.{limit}
 use Rattle.poly_powers.specs.Powers.{Squarable, Startable, Started, Savable, Saved}
 use Rattle.poly.proofs.Logs.{numbers-of, held-row, row-is-row}
 

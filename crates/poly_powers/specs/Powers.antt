@@ -19,7 +19,7 @@ use Rattle.algebra.specs.Polynomial.{Below, add}
 use Rattle.algebra.specs.Routines.{rem, square, frobeniusMod}
 use Rattle.field.specs.Field.{G}
 use Rattle.poly.specs.Lent.{Lent, LogRow, logRow, held}
-use Rattle.table_rules.specs.Limit.{limit}
+use Rattle.input.specs.Limit.{limit}
 
 -- twice as many places
 pub record Spreadable (m : ℕ) (ls ts w s : List ℕ) : Type 0 where

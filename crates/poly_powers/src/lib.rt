@@ -8,15 +8,15 @@ ghost use Rattle.algebra.specs.Polynomial.{add};
 ghost use Rattle.algebra.specs.Routines.{rem, square, frobeniusMod, traceMod};
 ghost use Rattle.field.specs.Field.{mul, fieldAt, G};
 ghost use Rattle.poly.specs.Lent.{Lent, held};
-ghost use Rattle.table_rules.specs.Limit.{limit};
+ghost use Rattle.input.specs.Limit.{limit};
 ghost use Rattle.poly_powers.specs.Powers.{Spreadable, Squarable, Startable, Started};
 ghost use Rattle.poly_powers.specs.Powers.{Savable, Saved, Summable, traceSum};
+use input::LIMIT;
+use input::SQUARE;
 use poly::division::divide;
 use poly::division::remainder;
 use poly::rows::add_row;
 use poly::rows::log_row;
-use table_rules::LIMIT;
-use table_rules::SQUARE;
 
 // The square of x.
 fn square_of(m: u16, logs: &[u16], antilogs: &[u16], x: u16) -> u16

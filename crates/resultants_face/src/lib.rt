@@ -2,8 +2,8 @@
 // routine asks, and the C side sees to it.
 ghost use Prim.Native.Nat.{_≤_};
 ghost use lib.ListN.{length};
-ghost use Rattle.table_rules.specs.Limit.{limit};
-ghost use Rattle.table_rules.specs.Polynomials.{PolynomialIn};
+ghost use Rattle.input.specs.Limit.{limit};
+ghost use Rattle.input.specs.Polynomials.{PolynomialIn};
 ghost use Rattle.find_search.specs.Searching.{SearchedOut};
 use find_resultants::find_in;
 

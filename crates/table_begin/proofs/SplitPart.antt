@@ -44,7 +44,7 @@ use Rattle.poly.specs.Monic.{monicLow, MadeMonic}
 use Rattle.poly_powers.specs.Powers.{Startable, powerRows}
 use Rattle.poly_gcd.specs.Euclid.{Turnable, GcdIs}
 use Rattle.poly.proofs.Logs.{field-of, numbers-of}
-use Rattle.table_rules.specs.Limit.{limit}
+use Rattle.input.specs.Limit.{limit}
 use Rattle.table_begin.specs.SplitPart.{Residual, Residue, Powered, Beginnable}
 
 -- ---- z^(2^m) + z modulo p

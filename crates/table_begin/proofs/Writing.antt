@@ -18,14 +18,15 @@ use Rattle.refusals.proofs.Order.{failed, others}
 use Rattle.field.specs.Field.{fieldAt, G, rootsAt}
 use Rattle.field.specs.Tables.{Logs, Antilogs}
 use Rattle.algebra.proofs.Lengths.{length-monicRoots}
+use Rattle.input.specs.Limit.{limit, widest}
+use Rattle.input.specs.Polynomials.{PolynomialIn}
+use Rattle.input.proofs.Fields.{degree-within}
+use Rattle.input.proofs.Polynomials.{passed-rest}
 use Rattle.table_rules.specs.Layout.{byFactor}
 use Rattle.table_rules.specs.Table.{encode}
 use Rattle.table_rules.specs.Splitting.{begunTable, slotsBegun}
-use Rattle.table_rules.specs.Limit.{limit, slots, widest}
+use Rattle.table_rules.specs.Sizes.{slots}
 use Rattle.table_begin.specs.SplitPart.{Beginnable}
-use Rattle.table_rules.specs.Polynomials.{PolynomialIn}
-use Rattle.table_rules.proofs.Fields.{degree-within}
-use Rattle.table_rules.proofs.Polynomials.{passed-rest}
 use Rattle.poly.proofs.Lending.{lent-at}
 use Rattle.table_begin.specs.Calls.{beginTests}
 use Rattle.table_begin.proofs.SplitPart.{SplitOff}

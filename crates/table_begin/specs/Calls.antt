@@ -12,10 +12,10 @@ use lib.Dec.{eqb, ltb}
 use lib.ListN.{length}
 use Rattle.refusals.specs.Order.{outcome, memory, Answers}
 use Rattle.refusals.specs.Numbers.{numberOf}
-use Rattle.table_rules.specs.Cutoff.{highestCutoff, inForce}
+use Rattle.input.specs.Cutoff.{highestCutoff, inForce}
+use Rattle.input.specs.Polynomials.{polynomialTests}
 use Rattle.table_rules.specs.Layout.{byFactor}
-use Rattle.table_rules.specs.Limit.{slots}
-use Rattle.table_rules.specs.Polynomials.{polynomialTests}
+use Rattle.table_rules.specs.Sizes.{slots}
 use Rattle.table_rules.specs.Splitting.{slotsBegun}
 use Rattle.table_begin.specs.declared.Begun.{Begun}
 use Rattle.table_begin.specs.declared.Begun.the-variants.{Ready, NotBegun}

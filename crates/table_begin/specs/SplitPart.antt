@@ -14,8 +14,9 @@ use Rattle.algebra.specs.Routines.{rem, norm, gcd}
 use Rattle.field.specs.Field.{G}
 use Rattle.poly.specs.Lent.{Lent}
 use Rattle.poly_powers.specs.Powers.{powerRows}
-use Rattle.table_rules.specs.Limit.{limit, slots}
-use Rattle.table_rules.specs.Polynomials.{PolynomialIn}
+use Rattle.input.specs.Limit.{limit}
+use Rattle.input.specs.Polynomials.{PolynomialIn}
+use Rattle.table_rules.specs.Sizes.{slots}
 
 -- with room for a remainder and for z, where zeros stand, and for the rows of m powers
 pub record Residual (m : ℕ) (ls ts p b rows : List ℕ) : Type 0 where

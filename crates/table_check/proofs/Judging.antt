@@ -16,11 +16,12 @@ use lib.ListN.{length}
 use Rattle.field.specs.Rows.{known}
 use Rattle.refusals.specs.declared.Refusal.the-variants.{Stuck}
 use Rattle.refusals.specs.declared.Refusal.the-variants as refusals
+use Rattle.input.specs.Limit.{limit}
 use Rattle.table_rules.specs.Layout.{degreeSum, byFactor}
 use Rattle.table_rules.specs.Table.{Table, headSlots, limitOf, decode}
 use Rattle.table_rules.specs.Splitting.{isDone, firstFactor, slotsDone, slotsStuck}
 use Rattle.table_rules.specs.Splitting as splitting
-use Rattle.table_rules.specs.Limit.{limit, slots, isSound}
+use Rattle.table_rules.specs.Sizes.{slots, isSound}
 use Rattle.table_rules.proofs.Layouts.{byFactor-lawful}
 use Rattle.table_rules.proofs.Soundness.{Valid, sound-valid}
 use Rattle.table_rules.proofs.Keeping.{stuck-order, sound-length}

@@ -21,7 +21,7 @@ use Rattle.table_rules.specs.Layout.{degreeSum, byFactor}
 use Rattle.table_rules.specs.Table.{decode}
 use Rattle.table_rules.specs.Splitting.{slotsDone, slotsStuck}
 use Rattle.table_rules.specs.Places.{place}
-use Rattle.table_rules.specs.Limit.{slots, isSound}
+use Rattle.table_rules.specs.Sizes.{slots, isSound}
 use Rattle.table_check.specs.declared.Checked.{Checked}
 use Rattle.table_check.specs.declared.Checked.the-variants.{Unfit, Sound}
 use Rattle.table_check.specs.declared.Verdict.{Verdict}

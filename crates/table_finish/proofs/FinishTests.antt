@@ -14,9 +14,10 @@ use Rattle.refusals.specs.declared.Refusal.{Refusal}
 use Rattle.refusals.specs.declared.Refusal.the-variants.{Room, Unsound, NotDone}
 use Rattle.refusals.proofs.Order.{holds, fails, passes, failed, others}
 use Rattle.refusals.proofs.Order as order
+use Rattle.input.specs.Limit.{limit}
 use Rattle.table_rules.specs.Layout.{byFactor}
 use Rattle.table_rules.specs.Splitting.{slotsDone}
-use Rattle.table_rules.specs.Limit.{limit, slots, isSound}
+use Rattle.table_rules.specs.Sizes.{slots, isSound}
 use Rattle.table_rules.proofs.Layouts.{byFactor-lawful}
 use Rattle.table_rules.proofs.Keeping.{sound-length}
 use Rattle.table_slots.specs.Slots.{cutoffOf, Heads}

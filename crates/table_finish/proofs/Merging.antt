@@ -28,8 +28,9 @@ use Rattle.slices.specs.Ordered.{Merged}
 use Rattle.slices.proofs.Ordered.{merged-none, merged-append, merged-count, merged-kept}
 use Rattle.poly.specs.Lent.{Lent}
 use Rattle.poly_small.specs.Roots.{SmallSolvable, RootsOut}
+use Rattle.input.specs.Cutoff.{highestCutoff}
+use Rattle.input.specs.Limit.{limit}
 use Rattle.table_rules.specs.Entries.{above, done}
-use Rattle.table_rules.specs.Cutoff.{highestCutoff}
 use Rattle.table_rules.specs.Layout.{factorSlots, Factor, degreeSum, blocks, byFactor}
 use Rattle.table_rules.specs.Table.{Table, headSlots, encode, decode}
 use Rattle.table_rules.specs.Splitting.{someZero, slotsDone, slotsRoots}
@@ -38,7 +39,7 @@ use Rattle.table_rules.specs.Places.{spare}
 use Rattle.table_rules.proofs.Soundness.{Fair, Valid, sound-valid, sound-encoded, sound-rules}
 use Rattle.field.specs.Field.{fieldAt, G, rootsAt}
 use Rattle.field.specs.Tables.{Halves, Logs, Antilogs}
-use Rattle.table_rules.specs.Limit.{limit, slots}
+use Rattle.table_rules.specs.Sizes.{slots}
 use Rattle.table_slots.specs.Slots.{widthOf, cutoffOf, countOf, degreeAt, factorAt, nextAt, StandsWhole, Heads}
 use Rattle.table_slots.specs.declared.Head.{Head}
 use Rattle.table_finish.specs.Finishing.{Mergeable, RootsIn, Lendable, Listable, ListedIn}

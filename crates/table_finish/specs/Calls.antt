@@ -13,8 +13,9 @@ use lib.ListN.{length}
 use Rattle.refusals.specs.Order.{outcome, memory, Answers}
 use Rattle.refusals.specs.Numbers.{numberOf}
 use Rattle.slices.specs.Lists.{copied}
+use Rattle.input.specs.Limit.{limit}
 use Rattle.table_rules.specs.Layout.{byFactor}
-use Rattle.table_rules.specs.Limit.{limit, slots, isSound}
+use Rattle.table_rules.specs.Sizes.{slots, isSound}
 use Rattle.table_rules.specs.Splitting.{slotsDone, slotsRoots}
 use Rattle.table_finish.specs.declared.Finished.{Finished}
 use Rattle.table_finish.specs.declared.Finished.the-variants.{Listed, NotFinished}

@@ -22,10 +22,11 @@ use Rattle.slices.specs.Ordered.{Merged}
 use Rattle.field.specs.Field.{fieldAt, G, rootsAt}
 use Rattle.field.specs.Tables.{Halves}
 use Rattle.poly.specs.Lent.{Lent}
-use Rattle.table_rules.specs.Cutoff.{highestCutoff}
+use Rattle.input.specs.Cutoff.{highestCutoff}
+use Rattle.input.specs.Limit.{limit}
 use Rattle.table_rules.specs.Layout.{byFactor}
 use Rattle.table_rules.specs.Splitting.{slotsDone, slotsRoots}
-use Rattle.table_rules.specs.Limit.{limit, isSound}
+use Rattle.table_rules.specs.Sizes.{isSound}
 use Rattle.table_slots.specs.Slots.{widthOf}
 use Rattle.table_finish.specs.Calls.{finishTests}
 use Rattle.table_finish.specs.declared.Opening.{Opening}

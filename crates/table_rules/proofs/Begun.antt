@@ -32,10 +32,11 @@ use Rattle.algebra.specs.Routines.{monicRoots}
 use Rattle.algebra.proofs.Trial.{all-keep, distinct-keep}
 use Rattle.algebra.proofs.Lengths.{length-monicRoots}
 use Rattle.algebra.proofs.StaysBelow.{monicRoots-below}
+use Rattle.input.specs.Cutoff.{highestCutoff}
+use Rattle.input.proofs.Fields.{BinaryField}
 use Rattle.table_rules.specs.Entries.{Entry, Halving, unlessEmpty, parts, splitAt, above, entryAt, firstAbove, done, step, steps, carry}
 use Rattle.table_rules.specs.Groups.{InOrder, agrees, group, groupCount, byBit, begun, reached}
 use Rattle.table_rules.specs.Layout.{degreeSum}
-use Rattle.table_rules.specs.Cutoff.{highestCutoff}
 use Rattle.table_rules.specs.Table.{Table, limitOf}
 use Rattle.table_rules.specs.Splitting.{traceBit, traceHalving, isDone, firstFactor, stuck, stepTable, tableAfter, begunTable, groupedTable}
 use Rattle.table_rules.proofs.Lists.{true-or-false, all-append, all-of-map, all-mapped}
@@ -44,7 +45,7 @@ use Rattle.table_rules.proofs.Grouped.{Told, allMembers, cut-grouped, c
 use Rattle.table_rules.proofs.Steps as S
 use Rattle.table_rules.proofs.Carry.{Commutes, carry-entry, carry-first, carry-done, carry-steps, steps-more}
 use Rattle.table_rules.proofs.Soundness.{Fair, Valid}
-use Rattle.table_rules.proofs.Fields.{BinaryField, bits-apart, group-commutes}
+use Rattle.table_rules.proofs.TraceBits.{bits-apart, group-commutes}
 use Rattle.table_rules.proofs.Keeping.{step-valid, trace-halves, entry-fair}
 
 -- n steps on a table are n steps on its factors

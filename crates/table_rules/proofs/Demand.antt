@@ -18,14 +18,14 @@ use Rattle.algebra.proofs.StaysBelow.{rootsOf-below}
 use Rattle.algebra.proofs.RootList.{rootsOf-ascending, rootsOf-distinct}
 use Rattle.field.specs.Rows.{known}
 use Rattle.field.specs.Field.{rootsAt, G}
+use Rattle.input.specs.Cutoff.{highestCutoff}
+use Rattle.input.proofs.Fields.{BinaryField, known-field}
 use Rattle.table_rules.specs.Layout.{Layout, Lawful}
-use Rattle.table_rules.specs.Cutoff.{highestCutoff}
 use Rattle.table_rules.specs.Table.{Table, slotsFor, encode, sound}
 use Rattle.table_rules.specs.Splitting.{isDone, stepTable, traceBitAt, halvingAt, slotsStepped, slotsAfter, slotsBegun}
 use Rattle.table_rules.specs.Demand.{groupsAfter, stepCount, Demand3}
 use Rattle.table_rules.proofs.Counting.{count-bound}
 use Rattle.table_rules.proofs.Soundness.{Valid, encode-sound, decode-encode, length-encode}
-use Rattle.table_rules.proofs.Fields.{BinaryField, known-field}
 use Rattle.table_rules.proofs.Begun as T
 use Rattle.table_rules.proofs.Finish.{finish-is}
 

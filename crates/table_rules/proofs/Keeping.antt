@@ -28,13 +28,13 @@ use Rattle.algebra.specs.Routines.{gcd}
 use Rattle.algebra.proofs.StaysBelow.{gcd-below, cofactor-below, traceOf-below}
 use Rattle.algebra.proofs.Lengths.{length-parts}
 use Rattle.field.specs.Rows.{known}
+use Rattle.input.proofs.Fields.{BinaryField, known-field, level-below}
 use Rattle.table_rules.specs.Entries.{Halving, unlessEmpty, parts, splitAt, entryAt, firstAbove, step}
 use Rattle.table_rules.specs.Layout.{Factor, Layout, degreeSum, Lawful}
 use Rattle.table_rules.specs.Table.{Table, limitOf, slotsFor, encode, decode, sound}
 use Rattle.table_rules.specs.Splitting.{traceHalving, isDone, firstFactor, stuck, stepTable, halvingAt, slotsDone, slotsStuck, slotsStepped}
 use Rattle.table_rules.proofs.Lists.{all-append}
 use Rattle.table_rules.proofs.Soundness.{Fair, Valid, sound-valid, sound-encoded, encode-sound, length-encode}
-use Rattle.table_rules.proofs.Fields.{BinaryField, known-field, level-below}
 
 -- ---- refusal 9
 

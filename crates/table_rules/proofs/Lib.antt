@@ -11,10 +11,8 @@ pub mod Carry
 pub mod Layouts
 pub mod Soundness
 pub mod Scanning
--- the known fields; a step keeps every sound table sound; where it writes
-pub mod Fields
-pub mod Polynomials
-pub mod RootMemory
+-- trace bits in the known fields; a step keeps every sound table sound; where it writes
+pub mod TraceBits
 pub mod Keeping
 pub mod Places
 -- begun tables and DEMAND 3

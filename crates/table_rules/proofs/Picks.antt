@@ -26,6 +26,7 @@ use Rattle.algebra.proofs.StaysBelow.{rootsOf-below}
 use Rattle.algebra.proofs.RootList.{rootsOf-distinct}
 use Rattle.field.specs.Rows.{known}
 use Rattle.field.specs.Field.{G, rootsAt}
+use Rattle.input.proofs.Fields.{known-field}
 use Rattle.table_rules.specs.Entries.{Entry, Halving, unlessEmpty, parts, splitAt, above, entryAt, done, carry}
 use Rattle.table_rules.specs.Groups.{byBit, begun, reached, groupCount}
 use Rattle.table_rules.specs.Layout.{Factor}
@@ -35,7 +36,6 @@ use Rattle.table_rules.proofs.Cut.{Cut, whole, parted, cut-split, split
 use Rattle.table_rules.proofs.Grouped.{Told}
 use Rattle.table_rules.proofs.Carry.{Commutes, carry-split, carry-entry, carry-done}
 use Rattle.table_rules.proofs.Steps as S
-use Rattle.table_rules.proofs.Fields.{known-field}
 use Rattle.table_rules.proofs.Begun.{cut-commutes, alone}
 use Rattle.table_rules.specs.Demand.{groupsAfter, stepCount}
 

@@ -16,8 +16,8 @@ use borrow.Author.Tests.{leb-true, le-leb}
 use lib.Dec.{leb}
 use lib.ListN.{length, getD, take, drop}
 use Rattle.slices.specs.Bounded.{allBelow, allZero}
+use Rattle.input.specs.Cutoff.{highestCutoff}
 use Rattle.table_rules.specs.Layout.{StatedFactor, statedSum, behindFactor, readBlocks, restBlocks, byFactor, fairBlocks}
-use Rattle.table_rules.specs.Cutoff.{highestCutoff}
 use Rattle.table_rules.specs.Table.{stepLimit, slotsFor, every, sound}
 use Rattle.table_rules.proofs.Soundness.{tests, Tests, Rules, sound-rules}
 

@@ -24,8 +24,8 @@ use Rattle.algebra.specs.Polynomial.{Below}
 use Rattle.slices.specs.Bounded.{allBelow, allZero}
 use Rattle.slices.proofs.Bounded.{allBelow-exactly, allZero-exactly}
 use Rattle.field.specs.Field.{G}
+use Rattle.input.specs.Cutoff.{highestCutoff}
 use Rattle.table_rules.specs.Layout.{Factor, StatedFactor, stated, factorOf, statedSum, Layout, degreeSum, Lawful, ReadsBack}
-use Rattle.table_rules.specs.Cutoff.{highestCutoff}
 use Rattle.table_rules.specs.Table.{Table, stepLimit, limitOf, slotsFor, every, encode, decode, sound}
 use Rattle.table_rules.specs.Splitting.{isDone, stuck, finished, slotsDone, slotsStuck, slotsRoots}
 

@@ -17,11 +17,11 @@ use Rattle.algebra.specs.Trial.{All}
 use Rattle.algebra.specs.Routines.{monicRoots}
 use Rattle.field.specs.Rows.{known}
 use Rattle.field.specs.Field.{rootsAt, G}
-use Rattle.table_rules.specs.Cutoff.{highestCutoff, inForce}
+use Rattle.input.specs.Cutoff.{highestCutoff, inForce}
 use Rattle.table_rules.specs.Groups.{InOrder, group, groupCount}
 use Rattle.table_rules.specs.Layout.{Layout, Lawful, byFactor}
 use Rattle.table_rules.specs.Table.{Table, slotsFor, encode, sound}
-use Rattle.table_rules.specs.Limit.{slots}
+use Rattle.table_rules.specs.Sizes.{slots}
 use Rattle.table_rules.specs.Splitting.{isDone, stuck, tableAfter, begunTable}
 use Rattle.table_rules.specs.Splitting.{groupedTable, finished, traceBitAt, halvingAt, slotsAfter}
 

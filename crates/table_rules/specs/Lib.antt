@@ -4,10 +4,7 @@ pub mod Entries
 pub mod Groups
 pub mod Layout
 pub mod Table
+pub mod Sizes
 pub mod Splitting
 pub mod Places
-pub mod Cutoff
 pub mod Demand
-pub mod Limit
-pub mod Polynomials
-pub mod RootMemory

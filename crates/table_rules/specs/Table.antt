@@ -14,7 +14,7 @@ use Prim.Native.Nat.{ℕ, suc, _+_, _-_, _*_, _/_, _^_}
 use lib.Dec.{leb, eqb}
 use lib.ListN.{length, getD, drop, replicate}
 use Rattle.slices.specs.Bounded.{allBelow, allZero}
-use Rattle.table_rules.specs.Cutoff.{highestCutoff}
+use Rattle.input.specs.Cutoff.{highestCutoff}
 use Rattle.table_rules.specs.Layout.{factorSlots, Factor, StatedFactor, factorOf, degreeSum, statedSum, Layout}
 
 pub record Table : Type 0 where

@@ -13,12 +13,13 @@ use lib.Dec.{ltb}
 use lib.ListN.{length, getD, take, replicate, length-append}
 use lib.Seq.{getD-append-add}
 use Rattle.field.specs.Rows.{known}
+use Rattle.input.specs.Limit.{limit}
 use Rattle.table_rules.specs.Entries.{above, firstAbove, done}
 use Rattle.table_rules.specs.Layout.{factorSlots, Factor, blocks, byFactor}
 use Rattle.table_rules.specs.Table.{Table, encode, decode}
 use Rattle.table_rules.specs.Splitting.{isDone, firstFactor, slotsDone}
 use Rattle.table_rules.specs.Places.{beyond, leading, place, slotsOf, spare}
-use Rattle.table_rules.specs.Limit.{limit, slots, isSound}
+use Rattle.table_rules.specs.Sizes.{slots, isSound}
 use Rattle.table_rules.proofs.Layouts.{byFactor-lawful}
 use Rattle.table_rules.proofs.Soundness.{Valid, sound-valid, sound-encoded}
 use Rattle.table_rules.proofs.Places.{level-at, encode-around}

@@ -10,11 +10,12 @@ use lib.ListN.{length, drop, set, replicate}
 use lib.Seq.{drop-append-add}
 use Rattle.slices.specs.Lists.{pasted}
 use Rattle.slices.proofs.Lists.{drop-zeros}
+use Rattle.input.specs.Limit.{limit}
 use Rattle.table_rules.specs.Entries.{unlessEmpty}
 use Rattle.table_rules.specs.Layout.{factorSlots, byFactor, blocks}
 use Rattle.table_rules.specs.Table.{headSlots, encode, padded}
 use Rattle.table_rules.specs.Splitting.{begunTable}
-use Rattle.table_rules.specs.Limit.{limit, slots}
+use Rattle.table_rules.specs.Sizes.{slots}
 use Rattle.table_slots.specs.Slots.{Appended}
 
 -- it is one

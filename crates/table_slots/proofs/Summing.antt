@@ -15,14 +15,15 @@ use Rattle.field.specs.declared.rows.Row.{Row}
 use Rattle.field.specs.declared.rows.FoundRow.{FoundRow}
 use Rattle.field.specs.declared.rows.FoundRow.the-variants.{At, Unknown}
 use Rattle.field.proofs.Known.{row-known, row-unknown}
-use Rattle.table_rules.specs.Cutoff.{highestCutoff}
+use Rattle.input.specs.Cutoff.{highestCutoff}
+use Rattle.input.specs.Limit.{limit}
 use Rattle.table_rules.specs.Layout.{factorSlots, degreeSum, statedSum, readBlocks, byFactor, fairBlocks}
 use Rattle.table_rules.specs.Table.{Table, headSlots, stepLimit, encode, decode}
 use Rattle.table_rules.proofs.Layouts.{byFactor-lawful}
 use Rattle.table_rules.proofs.Soundness.{stated-sum, sound-encoded}
 use Rattle.table_rules.proofs.Scanning.{ScanPassed, scan-exactly, sound-by-pass}
 use Rattle.table_rules.specs.Places.{spare}
-use Rattle.table_rules.specs.Limit.{limit, slots, isSound}
+use Rattle.table_rules.specs.Sizes.{slots, isSound}
 use Rattle.table_slots.specs.Slots.{widthOf, cutoffOf, countOf, takenOf}
 use Rattle.table_slots.specs.Walk.{tally, summed}
 use Rattle.table_slots.specs.declared.Sum.{Sum}

@@ -13,9 +13,9 @@ use mathlib.Core.List.{List}
 use Prim.Native.Nat.{ℕ, _+_, _-_, _*_, _/_, _≤_, _<_}
 use lib.ListN.{length, getD, take, drop, set}
 use Rattle.slices.specs.Lists.{pasted, spliced}
+use Rattle.input.specs.Limit.{limit, widest}
 use Rattle.table_rules.specs.Entries.{unlessEmpty}
 use Rattle.table_rules.specs.Layout.{factorSlots, blocks}
-use Rattle.table_rules.specs.Limit.{limit, widest}
 use Rattle.table_slots.specs.declared.Head.{Head}
 
 -- ---- the head

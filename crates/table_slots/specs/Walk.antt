@@ -13,7 +13,7 @@ use lib.Dec.{leb, ltb}
 use lib.ListN.{length, getD}
 use Rattle.table_rules.specs.Layout.{factorSlots, degreeSum, statedSum, byFactor, readBlocks, fairFront, fairBlocks}
 use Rattle.table_rules.specs.Table.{headSlots, decode}
-use Rattle.table_rules.specs.Limit.{isSound}
+use Rattle.table_rules.specs.Sizes.{isSound}
 use Rattle.table_slots.specs.Slots.{countOf, degreeAt}
 use Rattle.table_slots.specs.declared.Sum.{Sum}
 use Rattle.table_slots.specs.declared.Sum.the-variants.{Of, Unsound}

@@ -5,17 +5,18 @@
 ghost use mathlib.Core.Path.{_≡_};
 ghost use Prim.Native.Nat.{suc, _+_, _-_, _*_, _/_, _^_, _≤_, _<_};
 ghost use lib.ListN.{length};
+ghost use Rattle.input.specs.Limit.{limit};
 ghost use Rattle.table_rules.specs.Layout.{factorSlots, byFactor};
 ghost use Rattle.table_rules.specs.Table.{headSlots, encode};
 ghost use Rattle.table_rules.specs.Splitting.{begunTable};
-ghost use Rattle.table_rules.specs.Limit.{limit, slots};
+ghost use Rattle.table_rules.specs.Sizes.{slots};
 ghost use Rattle.table_slots.specs.Slots.{Heads, StandsWhole, levelAt, factorAt, nextAt};
 ghost use Rattle.table_slots.specs.Slots.{Appended, Replaceable, replacedAt};
 ghost use Rattle.table_slots.specs.Walk.{frontSlots, tally, soughtIn, summed};
 use field::rows::FoundRow;
 use field::rows::row_of;
-use table_rules::HIGHEST_CUTOFF;
-use table_rules::LIMIT;
+use input::HIGHEST_CUTOFF;
+use input::LIMIT;
 
 // The slots of the head.
 const WIDTH: usize = 0;

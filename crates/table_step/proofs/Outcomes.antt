@@ -15,9 +15,10 @@ use Rattle.refusals.specs.Order.Passed.{none}
 use Rattle.refusals.specs.declared.Refusal.{Refusal}
 use Rattle.refusals.proofs.Order.{holds, fails, passes}
 use Rattle.refusals.proofs.Order as order
+use Rattle.input.specs.Limit.{limit}
 use Rattle.table_rules.specs.Layout.{byFactor}
 use Rattle.table_rules.specs.Splitting.{slotsDone, slotsStuck, slotsStepped}
-use Rattle.table_rules.specs.Limit.{limit, slots, isSound}
+use Rattle.table_rules.specs.Sizes.{slots, isSound}
 use Rattle.table_rules.proofs.Layouts.{byFactor-lawful}
 use Rattle.table_rules.proofs.Keeping.{sound-length}
 use Rattle.table_step.specs.Calls.{stepTests, stepOutcome, stepMemory, toldStepped}

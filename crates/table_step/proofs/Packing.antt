@@ -14,11 +14,11 @@ use Rattle.algebra.specs.Routines.{cofactor}
 use Rattle.algebra.proofs.Lengths.{length-cofactor}
 use Rattle.field.specs.Field.{G}
 use Rattle.slices.proofs.Lists.{pasted-front}
+use Rattle.input.proofs.Fields.{known-field}
 use Rattle.table_rules.specs.Entries.{unlessEmpty, parts}
 use Rattle.table_rules.specs.Layout.{blocks}
 use Rattle.table_rules.specs.Splitting.{halvingAt}
 use Rattle.table_rules.proofs.Layouts.{blocks-append}
-use Rattle.table_rules.proofs.Fields.{known-field}
 use Rattle.table_rules.proofs.Keeping.{LosslessHalving, trace-halves}
 use Rattle.table_slots.specs.Slots.{Appended}
 use Rattle.table_slots.proofs.Appending.{some-slots}

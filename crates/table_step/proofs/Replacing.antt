@@ -23,17 +23,18 @@ use Rattle.algebra.specs.Routines.{rem, traceMod, gcd}
 use Rattle.field.specs.Field.{G}
 use Rattle.poly.specs.Lent.{Lent}
 use Rattle.slices.specs.Lists.{spliced}
+use Rattle.input.proofs.Fields.{known-field, degree-within}
+use Rattle.input.specs.Limit.{limit, widest}
 use Rattle.table_rules.specs.Entries.{Halving, parts, entryAt, firstAbove, done}
 use Rattle.table_rules.specs.Layout.{factorSlots, Factor, degreeSum, blocks, byFactor}
 use Rattle.table_rules.specs.Table.{Table, headSlots, encode, decode}
 use Rattle.table_rules.specs.Splitting.{isDone, firstFactor, halvingAt, slotsDone, slotsStuck, slotsStepped}
 use Rattle.table_rules.proofs.Layouts.{byFactor-lawful}
 use Rattle.table_rules.proofs.Soundness.{Valid, sound-valid, sound-encoded, count-within}
-use Rattle.table_rules.proofs.Fields.{known-field, degree-within}
 use Rattle.table_rules.proofs.Keeping.{Free, free, LosslessHalving, trace-halves, sound-length, step-slots}
 use Rattle.table_rules.specs.Places.{beyond, leading, place, slotsOf, spare}
 use Rattle.table_rules.proofs.Places.{encode-around, level-at, degree-at, coefficients-at, first-fair, room, parts-few, parts-some, length-new, step-spliced}
-use Rattle.table_rules.specs.Limit.{limit, slots, twoFactors, widest}
+use Rattle.table_rules.specs.Sizes.{slots, twoFactors}
 use Rattle.table_slots.specs.Slots.{widthOf, countOf, takenOf, Heads, levelAt, degreeAt, factorAt, nextAt, StandsWhole, Replaceable, replacedAt}
 use Rattle.table_slots.specs.declared.Head.{Head}
 use Rattle.table_check.specs.Verdicts.{Chosen}

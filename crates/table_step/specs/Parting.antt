@@ -14,10 +14,10 @@ use Rattle.algebra.specs.Polynomial.{Below}
 use Rattle.algebra.specs.Routines.{gcd}
 use Rattle.field.specs.Field.{G}
 use Rattle.poly.specs.Lent.{Lent}
+use Rattle.input.specs.Limit.{limit}
 use Rattle.table_rules.specs.Entries.{parts}
 use Rattle.table_rules.specs.Layout.{blocks}
 use Rattle.table_rules.specs.Splitting.{halvingAt}
-use Rattle.table_rules.specs.Limit.{limit}
 use Rattle.table_slots.specs.Slots.{widthOf, levelAt, factorAt}
 use Rattle.table_check.specs.Verdicts.{Chosen}
 

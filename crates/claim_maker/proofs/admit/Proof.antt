@@ -5,7 +5,7 @@ use Rattle.claim_maker.proofs.Making.{admit-all}
 use borrow.Author.Needs.{needs}
 use Rattle.claim_maker.proofs.admit.Statement.{statement}
 use Rattle.claim_maker.proofs.admit.Tie as tie
-use Rattle.find_admit.proofs.admit_room.Reads as admit-room-reads
+use Rattle.input.proofs.admit_room.Reads as admit-room-reads
 use Rattle.refusals.proofs.also.Reads as also-reads
 
 admit-room-requires : tie.Need-admit-room-requires

@@ -5,13 +5,13 @@ use mathlib.Core.Path.{sym}
 use lib.Seq.{length-take-le}
 use denote.Ref.{now}
 use Rattle.refusals.proofs.Admitting.{let-in, turned-away}
-use Rattle.table_rules.proofs.Polynomials.{polynomial-told}
-use Rattle.table_rules.proofs.RootMemory.{lists-refused}
+use Rattle.input.proofs.Polynomials.{polynomial-told}
+use Rattle.input.proofs.RootMemory.{lists-refused}
 use Rattle.find_search.proofs.Admitting.{search-room, both-rooms, searched-within, searched-counts, searched-both}
 use borrow.Author.Needs.{needs}
 use Rattle.find_search.proofs.search.Statement.{statement}
 use Rattle.find_search.proofs.search.Tie as tie
-use Rattle.find_admit.proofs.admit_room.Reads as admit-room-reads
+use Rattle.input.proofs.admit_room.Reads as admit-room-reads
 use Rattle.find_multiplicities.proofs.multiplicities_in.Reads as multiplicities-in-reads
 use Rattle.find_search.proofs.search_in.Reads as search-in-reads
 use Rattle.refusals.proofs.also.Reads as also-reads

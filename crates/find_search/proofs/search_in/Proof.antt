@@ -5,7 +5,7 @@ use mathlib.Core.Path.{sym, subst}
 use Prim.Native.Nat.{ℕ}
 use denote.Ref.{now}
 use Rattle.field.proofs.Known.{last-row}
-use Rattle.table_rules.specs.Polynomials.{PolynomialIn}
+use Rattle.input.specs.Polynomials.{PolynomialIn}
 use Rattle.find_search.specs.Searching.{SearchedOut}
 use Rattle.find_search.proofs.Admitting.{searchable}
 use borrow.Author.Needs.{needs}

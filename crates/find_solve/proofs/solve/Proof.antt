@@ -5,7 +5,7 @@ use mathlib.Core.Path.{sym}
 use lib.Seq.{length-take-le}
 use denote.Ref.{now}
 use Rattle.refusals.proofs.Admitting.{let-in, turned-away}
-use Rattle.table_rules.proofs.RootMemory.{lists-refused}
+use Rattle.input.proofs.RootMemory.{lists-refused}
 use Rattle.find_solve.proofs.Admitting.{admitted, both-rooms, solved-within, solved-counts, solved-both}
 use borrow.Author.Needs.{needs}
 use Rattle.find_solve.proofs.solve.Statement.{statement}

@@ -6,12 +6,12 @@ use native.Mathlib.Omega.{arith}
 use lib.ListN.{replicate}
 use lib.Seq.{length-take-le}
 use lib.Dec.{lit≤}
-use Rattle.table_rules.specs.Limit.{limit}
+use Rattle.input.specs.Limit.{limit}
 use Rattle.job_lines.proofs.Accepted.{coefficients-few, solve-asks, solved-by, line-solved}
 use borrow.Author.Needs.{needs}
 use Rattle.job_lines.proofs.solved_line.Statement.{statement}
 use Rattle.job_lines.proofs.solved_line.Tie as tie
-use Rattle.find_admit.proofs.in_force.Reads as in-force-reads
+use Rattle.input.proofs.in_force.Reads as in-force-reads
 use Rattle.find_solve.proofs.solve_in.Reads as solve-in-reads
 use Rattle.job_records.proofs.coefficients.Reads as coefficients-reads
 use Rattle.job_text.proofs.line.Reads as line-reads

@@ -6,14 +6,14 @@ use mathlib.Core.List.{[], _∷_}
 use native.Mathlib.Omega.{arith}
 use denote.Ref.{now}
 use lib.Dec.{ltb}
-use Rattle.find_admit.proofs.PolynomialTests.{values-admit}
+use Rattle.input.proofs.PolynomialTests.{values-admit}
 use Rattle.job_records.specs.Layout.{words}
-use Rattle.table_rules.specs.Cutoff.{highestCutoff}
+use Rattle.input.specs.Cutoff.{highestCutoff}
 use Rattle.job_records.proofs.Words.{whole-words}
 use borrow.Author.Needs.{needs}
 use Rattle.job_records.proofs.admit_record.Statement.{statement}
 use Rattle.job_records.proofs.admit_record.Tie as tie
-use Rattle.find_admit.proofs.admit_call.Reads as admit-call-reads
+use Rattle.input.proofs.admit_call.Reads as admit-call-reads
 use Rattle.job_records.proofs.largest.Reads as largest-reads
 
 largest-requires : tie.Need-largest-requires

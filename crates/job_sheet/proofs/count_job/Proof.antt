@@ -6,8 +6,8 @@ use native.Mathlib.Omega.{arith}
 use lib.ListN.{replicate}
 use lib.Seq.{length-take-le}
 use lib.Dec.{lit≤}
-use Rattle.table_rules.specs.Cutoff.{inForce}
-use Rattle.table_rules.specs.Limit.{limit}
+use Rattle.input.specs.Cutoff.{inForce}
+use Rattle.input.specs.Limit.{limit}
 use Rattle.job_sheet.proofs.Solved.{cutoffOf, job-few, job-asks, job-cutoff, job-limit-fits, job-counts}
 use borrow.Author.Needs.{needs}
 use Rattle.job_sheet.proofs.count_job.Statement.{statement}

@@ -6,16 +6,16 @@ use denote.Ref.{now}
 use Rattle.refusals.specs.Order.{Passed}
 use Rattle.refusals.proofs.Admitting.{let-in, turned-away}
 use Rattle.refusals.proofs.Order.{refused, accepted, unwritten, written}
+use Rattle.input.proofs.Polynomials.{polynomial-told}
+use Rattle.input.proofs.admit.Reads as admit-reads
+use Rattle.input.proofs.in_force.Reads as in-force-reads
 use Rattle.table_rules.specs.Layout.{byFactor}
 use Rattle.table_rules.specs.Splitting.{slotsBegun}
-use Rattle.table_rules.specs.Limit.{slots}
-use Rattle.table_rules.proofs.Polynomials.{polynomial-told}
+use Rattle.table_rules.specs.Sizes.{slots}
 use Rattle.table_begin.proofs.Writing.{begin-room}
 use borrow.Author.Needs.{needs}
 use Rattle.table_begin.proofs.begin.Statement.{statement}
 use Rattle.table_begin.proofs.begin.Tie as tie
-use Rattle.find_admit.proofs.admit.Reads as admit-reads
-use Rattle.find_admit.proofs.in_force.Reads as in-force-reads
 use Rattle.table_begin.proofs.begin_in.Reads as begin-in-reads
 
 admit-requires : tie.Need-admit-requires

@@ -4,7 +4,7 @@ use native.Mathlib.Nat.{lt-of-le-of-lt, mul-le-mul, le-trans, div-le-self}
 use native.Mathlib.Numerals.{add-one}
 use native.Mathlib.Omega.{arith}
 use lib.Dec.{lit<}
-use Rattle.table_rules.specs.Limit.{limit}
+use Rattle.input.specs.Limit.{limit}
 use borrow.Author.Needs.{needs}
 use Rattle.table_slots.proofs.step_limit.Statement.{statement}
 use Rattle.table_slots.proofs.step_limit.Tie as tie

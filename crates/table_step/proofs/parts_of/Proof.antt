@@ -8,7 +8,7 @@ use lib.ListN.{length, drop, replicate}
 use lib.Seq.{length-take-le}
 use Rattle.table_step.proofs.Commons.{common-is}
 use Rattle.table_step.proofs.Packing.{degree-within, first-long, first-room, rest-asks, rest-fits, rest-front, rest-long, parted}
-use Rattle.table_rules.specs.Limit.{limit}
+use Rattle.input.specs.Limit.{limit}
 use borrow.Author.Needs.{needs}
 use Rattle.table_step.proofs.parts_of.Statement.{statement}
 use Rattle.table_step.proofs.parts_of.Tie as tie

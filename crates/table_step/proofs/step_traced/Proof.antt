@@ -5,7 +5,7 @@ use Prim.Native.Nat.{ℕ}
 use denote.Ref.{now}
 use lib.ListN.{length, drop, replicate}
 use lib.Seq.{length-take-le}
-use Rattle.table_rules.specs.Limit.{limit}
+use Rattle.input.specs.Limit.{limit}
 use Rattle.table_step.proofs.Replacing.{head-there, level-there, stands, read-few, split-asks, trace-within, trace-ready}
 use borrow.Author.Needs.{needs}
 use Rattle.table_step.proofs.step_traced.Statement.{statement}

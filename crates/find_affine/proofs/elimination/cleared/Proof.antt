@@ -3,7 +3,7 @@
 use Prim.Native.Nat.{_-_}
 use mathlib.Core.List.{[]}
 use native.Mathlib.Omega.{arith}
-use Rattle.table_rules.specs.Limit.{widest}
+use Rattle.input.specs.Limit.{widest}
 use Rattle.find_affine.specs.Systems.{sweptBy}
 use Rattle.find_affine.proofs.RowLoops.{Mapping, mapping-from, mapping-on, mapping-end}
 use borrow.Author.Needs.{needs}

@@ -3,7 +3,7 @@
 use mathlib.Core.Path.{refl}
 use Prim.Native.Nat.{_-_}
 use native.Mathlib.Omega.{arith}
-use Rattle.table_rules.specs.Limit.{widest}
+use Rattle.input.specs.Limit.{widest}
 use Rattle.find_affine.proofs.RowLoops.{Rowing, rowing-from, rowing-on, rowing-end}
 use borrow.Author.Needs.{needs}
 use Rattle.find_affine.proofs.elimination.system.Statement.{statement}

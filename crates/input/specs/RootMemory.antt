@@ -14,7 +14,7 @@ use lib.ListN.{length}
 use Rattle.refusals.specs.Order.{outcome, memory}
 use Rattle.slices.specs.Lists.{copied}
 use Rattle.field.specs.Field.{rootsAt, multiplicitiesAt}
-use Rattle.table_rules.specs.Limit.{limit}
+use Rattle.input.specs.Limit.{limit}
 
 abbrev pub roomTests : List ℕ → List ℕ → List (ℕ × Bool)
 roomTests roots mults = (7, ltb (length roots) limit) ∷ (7, ltb (length mults) limit) ∷ []

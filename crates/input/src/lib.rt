@@ -1,21 +1,37 @@
-// Which polynomials and cutoffs are let in, and which cutoff is in force (docs/RULES.md sections 3.1, 3.2 and 8.3).
-// Every call that takes a polynomial begins here, and so does the reader of records.
+// What calls take: the house's numbers, which polynomials and cutoffs are let in, and which cutoff is in force
+// (docs/RULES.md sections 3.1, 3.2 and 8.3). Every call that takes a polynomial begins here, and so does the reader of
+// records.
 ghost use mathlib.Core.Path.{_≡_};
 ghost use mathlib.Core.List.{[], _∷_};
 ghost use lib.Dec.{ltb};
 ghost use lib.ListN.{length};
 ghost use Rattle.refusals.specs.Admitting.{Admits};
-ghost use Rattle.table_rules.specs.Cutoff.{highestCutoff, inForce};
-ghost use Rattle.table_rules.specs.Polynomials.{polynomialTests};
-ghost use Rattle.find_admit.specs.Values.{Measured, valueTests};
+ghost use Rattle.input.specs.Cutoff.{highestCutoff, inForce};
+ghost use Rattle.input.specs.Polynomials.{polynomialTests};
+ghost use Rattle.input.specs.Values.{Measured, valueTests};
 use field::rows::FoundRow;
 use field::rows::row_of;
 use refusals::Admission;
 use refusals::Refusal;
 use refusals::also;
-use table_rules::COEFFICIENTS;
-use table_rules::HIGHEST_CUTOFF;
-use table_rules::HOUSE_DEFAULT;
+
+// The highest cutoff, and what cutoff 0 stands for (specs/Cutoff.antt).
+pub const HIGHEST_CUTOFF: u16 = 3;
+
+pub const HOUSE_DEFAULT: u16 = 3;
+
+// The highest degree of a polynomial (specs/Limit.antt), and the most coefficients, one more.
+pub const LIMIT: usize = 32;
+
+pub const COEFFICIENTS: usize = LIMIT + 1;
+
+// The words of a square before it is reduced.
+pub const SQUARE: usize = 2 * LIMIT;
+
+// The degree of the widest known field, and the words of as many polynomials: its powers, or its traces.
+pub const WIDEST: usize = 11;
+
+pub const POWER_ROWS: usize = WIDEST * LIMIT;
 
 // The cutoff in force.
 pub fn in_force(cutoff: u16) -> u16

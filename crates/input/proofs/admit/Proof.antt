@@ -1,22 +1,22 @@
--- `find_admit::admit` meets its contract: the tests of a polynomial and a cutoff by two numbers, then that of the
+-- `input::admit` meets its contract: the tests of a polynomial and a cutoff by two numbers, then that of the
 -- room.
 -- Assumes nothing.
 use mathlib.Core.Bool.{Bool}
 use mathlib.Core.List.{[], _∷_}
 use Prim.Native.Nat.{ℕ}
 use lib.Dec.{ltb}
-use Rattle.table_rules.specs.Cutoff.{highestCutoff}
+use Rattle.input.specs.Cutoff.{highestCutoff}
 use lib.ListN.{length}
 use denote.Ref.{now}
 use Rattle.refusals.proofs.Admitting.{admits-also}
 use Rattle.refusals.specs.declared.Refusal.the-variants.{Room}
-use Rattle.find_admit.specs.Values.{valueTests}
-use Rattle.find_admit.proofs.PolynomialTests.{values-admit}
+use Rattle.input.specs.Values.{valueTests}
+use Rattle.input.proofs.PolynomialTests.{values-admit}
 use borrow.Author.Needs.{needs}
-use Rattle.find_admit.proofs.admit.Statement.{statement}
-use Rattle.find_admit.proofs.admit.Tie as tie
-use Rattle.find_admit.proofs.admit_call.Reads as admit-call-reads
-use Rattle.find_admit.proofs.largest.Reads as largest-reads
+use Rattle.input.proofs.admit.Statement.{statement}
+use Rattle.input.proofs.admit.Tie as tie
+use Rattle.input.proofs.admit_call.Reads as admit-call-reads
+use Rattle.input.proofs.largest.Reads as largest-reads
 use Rattle.refusals.proofs.also.Reads as also-reads
 
 largest-requires : tie.Need-largest-requires

@@ -1,15 +1,15 @@
--- `find_admit::admit_call` meets its contract: the five tests of a polynomial, then that of the cutoff.
+-- `input::admit_call` meets its contract: the five tests of a polynomial, then that of the cutoff.
 -- Assumes nothing.
 use mathlib.Core.List.{[]}
 use lib.Dec.{ltb}
-use Rattle.table_rules.specs.Cutoff.{highestCutoff}
+use Rattle.input.specs.Cutoff.{highestCutoff}
 use Rattle.refusals.proofs.Admitting.{admits-also}
 use Rattle.refusals.specs.declared.Refusal.the-variants.{Cutoff}
-use Rattle.find_admit.specs.Values.{valueTests}
+use Rattle.input.specs.Values.{valueTests}
 use borrow.Author.Needs.{needs}
-use Rattle.find_admit.proofs.admit_call.Statement.{statement}
-use Rattle.find_admit.proofs.admit_call.Tie as tie
-use Rattle.find_admit.proofs.admit_values.Reads as admit-values-reads
+use Rattle.input.proofs.admit_call.Statement.{statement}
+use Rattle.input.proofs.admit_call.Tie as tie
+use Rattle.input.proofs.admit_values.Reads as admit-values-reads
 use Rattle.refusals.proofs.also.Reads as also-reads
 
 admit-values-requires : tie.Need-admit-values-requires

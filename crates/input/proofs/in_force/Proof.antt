@@ -1,10 +1,10 @@
--- `find_admit::in_force` meets its contract.
+-- `input::in_force` meets its contract.
 -- Assumes nothing.
 use mathlib.Core.Path.{sym}
-use Rattle.table_rules.specs.Cutoff.{houseDefault}
-use Rattle.table_rules.proofs.HouseDefault.{inForce-stated, inForce-house}
-use Rattle.find_admit.proofs.in_force.Statement.{statement}
-use Rattle.find_admit.proofs.in_force.Tie as tie
+use Rattle.input.specs.Cutoff.{houseDefault}
+use Rattle.input.proofs.Cutoff.{inForce-stated, inForce-house}
+use Rattle.input.proofs.in_force.Statement.{statement}
+use Rattle.input.proofs.in_force.Tie as tie
 
 returns : tie.Need-returns
 returns c = inForce-house _ (c .if1 .taken)

@@ -12,7 +12,7 @@ use lib.Dec.{eqb, ltb}
 use lib.ListN.{length}
 use Rattle.field.specs.Rows.{known}
 use Rattle.slices.specs.Bounded.{allBelow}
-use Rattle.table_rules.specs.Limit.{limit}
+use Rattle.input.specs.Limit.{limit}
 
 pub record Largest (l : List ℕ) (top : ℕ) : Type 0 where
   pub same : (q : ℕ) → 0 < q → allBelow q l ≡ ltb top q

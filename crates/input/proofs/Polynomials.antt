@@ -27,9 +27,9 @@ use Rattle.refusals.specs.Order.Passed.{none as none-left}
 use Rattle.field.specs.Rows.{known}
 use Rattle.refusals.proofs.Order.{passes, failed, others, passed-both}
 use Rattle.field.specs.Field.{rootsAt, G}
-use Rattle.table_rules.specs.Limit.{limit}
-use Rattle.table_rules.specs.Polynomials.{polynomialTests, PolynomialIn}
-use Rattle.table_rules.proofs.Fields.{known-field}
+use Rattle.input.specs.Limit.{limit}
+use Rattle.input.specs.Polynomials.{polynomialTests, PolynomialIn}
+use Rattle.input.proofs.Fields.{known-field}
 
 -- whatever tests follow
 pub polynomial-told : (m : ℕ) (cs : List ℕ) {us : List (ℕ × Bool)} → Passed (polynomialTests m cs us) → PolynomialIn m cs

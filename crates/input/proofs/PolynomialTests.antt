@@ -25,9 +25,9 @@ use Rattle.refusals.proofs.Order.{holds, fails, passes, failed, others}
 use Rattle.field.specs.Rows.{known, IsRow}
 use Rattle.field.specs.declared.rows.Row.{Row}
 use Rattle.field.proofs.Known.{listed-on}
-use Rattle.table_rules.specs.Limit.{limit}
-use Rattle.table_rules.specs.Polynomials.{polynomialTests}
-use Rattle.find_admit.specs.Values.{Measured, valueTests}
+use Rattle.input.specs.Limit.{limit}
+use Rattle.input.specs.Polynomials.{polynomialTests}
+use Rattle.input.specs.Values.{Measured, valueTests}
 
 -- ---- which refusal the code's tests show
 

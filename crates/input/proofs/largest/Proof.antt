@@ -1,4 +1,4 @@
--- `find_admit::largest` meets its contract: at each turn all coefficients are below a bound if `top` and those ahead
+-- `input::largest` meets its contract: at each turn all coefficients are below a bound if `top` and those ahead
 -- are.
 -- Assumes nothing.
 use mathlib.Core.Path.{refl}
@@ -6,10 +6,10 @@ use mathlib.Core.Logic.{⊎-elim}
 use Prim.Native.Nat.{_-_}
 use native.Mathlib.Omega.{arith}
 use lib.ListN.{length}
-use Rattle.find_admit.proofs.Seeking.{SeekingTop, seek-top-from, seek-top-raise, seek-top-keep, seek-top-end}
+use Rattle.input.proofs.Seeking.{SeekingTop, seek-top-from, seek-top-raise, seek-top-keep, seek-top-end}
 use borrow.Author.Needs.{needs}
-use Rattle.find_admit.proofs.largest.Statement.{statement}
-use Rattle.find_admit.proofs.largest.Tie as tie
+use Rattle.input.proofs.largest.Statement.{statement}
+use Rattle.input.proofs.largest.Tie as tie
 
 abbrev Inv-loop : tie.InvT-loop
 Inv-loop coeffs top₀ k₀ top k = SeekingTop coeffs top k

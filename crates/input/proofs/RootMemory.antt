@@ -10,7 +10,7 @@ use Rattle.refusals.specs.Order.{Given, Passed}
 use Rattle.refusals.proofs.Order.{refused, accepted, unwritten, written}
 use Rattle.slices.specs.Lists.{copied}
 use Rattle.field.specs.Field.{rootsAt, multiplicitiesAt}
-use Rattle.table_rules.specs.RootMemory.{ListsRoots}
+use Rattle.input.specs.RootMemory.{ListsRoots}
 
 module _ {tests : List (ℕ × Bool)} {values : List ℕ} {m : ℕ} {cs roots mults : List ℕ} where
   -- a refusal writes neither list

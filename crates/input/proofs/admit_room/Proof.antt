@@ -1,17 +1,17 @@
--- `find_admit::admit_room` meets its contract: the tests of a polynomial by two numbers, then that of the room.
+-- `input::admit_room` meets its contract: the tests of a polynomial by two numbers, then that of the room.
 -- Assumes nothing.
 use mathlib.Core.List.{[], _∷_}
 use lib.ListN.{length}
 use denote.Ref.{now}
 use Rattle.refusals.proofs.Admitting.{admits-also}
 use Rattle.refusals.specs.declared.Refusal.the-variants.{Room}
-use Rattle.find_admit.specs.Values.{valueTests}
-use Rattle.find_admit.proofs.PolynomialTests.{values-admit}
+use Rattle.input.specs.Values.{valueTests}
+use Rattle.input.proofs.PolynomialTests.{values-admit}
 use borrow.Author.Needs.{needs}
-use Rattle.find_admit.proofs.admit_room.Statement.{statement}
-use Rattle.find_admit.proofs.admit_room.Tie as tie
-use Rattle.find_admit.proofs.admit_values.Reads as admit-values-reads
-use Rattle.find_admit.proofs.largest.Reads as largest-reads
+use Rattle.input.proofs.admit_room.Statement.{statement}
+use Rattle.input.proofs.admit_room.Tie as tie
+use Rattle.input.proofs.admit_values.Reads as admit-values-reads
+use Rattle.input.proofs.largest.Reads as largest-reads
 use Rattle.refusals.proofs.also.Reads as also-reads
 
 largest-requires : tie.Need-largest-requires

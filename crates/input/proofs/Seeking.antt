@@ -14,7 +14,7 @@ use lib.ListN.{length, getD, drop, drop-of-length-le}
 use lib.Seq.{drop-cons}
 use lib.Dec.{ltb}
 use Rattle.slices.specs.Bounded.{allBelow}
-use Rattle.find_admit.specs.Values.{Largest}
+use Rattle.input.specs.Values.{Largest}
 
 -- all are below a bound if `top` is, and those from k on are
 pub record SeekingTop (s : List ℕ) (top k : ℕ) : Type 0 where

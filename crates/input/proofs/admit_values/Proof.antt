@@ -1,13 +1,13 @@
--- `find_admit::admit_values` meets its contract: each return shows which test was the first to hold.
+-- `input::admit_values` meets its contract: each return shows which test was the first to hold.
 -- Assumes nothing.
 use mathlib.Core.Path.{_≡_}
 use Rattle.refusals.proofs.Order.{holds}
 use Rattle.field.specs.Rows.{IsRow}
 use Rattle.field.proofs.Known.{unlisted, is-listed}
-use Rattle.find_admit.proofs.PolynomialTests.{empty-given, long-given, element-given, zero-given, values-in}
+use Rattle.input.proofs.PolynomialTests.{empty-given, long-given, element-given, zero-given, values-in}
 use borrow.Author.Needs.{needs}
-use Rattle.find_admit.proofs.admit_values.Statement.{statement}
-use Rattle.find_admit.proofs.admit_values.Tie as tie
+use Rattle.input.proofs.admit_values.Statement.{statement}
+use Rattle.input.proofs.admit_values.Tie as tie
 use Rattle.field.proofs.rows.row_of.Reads as row-of-reads
 
 -- the row that the field has

@@ -12,7 +12,7 @@ use lib.ListN.{length}
 use Rattle.field.specs.Rows.{known}
 use Rattle.slices.specs.Bounded.{anyFrom, allZero}
 use Rattle.algebra.specs.Polynomial.{Below}
-use Rattle.table_rules.specs.Limit.{limit}
+use Rattle.input.specs.Limit.{limit}
 
 abbrev pub polynomialTests : ℕ → List ℕ → List (ℕ × Bool) → List (ℕ × Bool)
 polynomialTests m cs more =
