@@ -3,6 +3,8 @@
 --   AddingRows    from k on the product is added
 --   rows-from, rows-asks, rows-on, rows-end   the start, what the kernel asks, a turn and the end
 --   sum-at        a coefficient of a sum
+--   zeros-at      every coefficient of zeros is 0
+--   cut-same      a list cut where nothing but 0 is behind
 --   sum-zero, zero-sum   a sum is 0 exactly where the two are the same polynomial
 --   product-logs, row-fits, row-size, product-asks, product-is   `add_product`: what each routine asks, and what is left
 -- Assumes nothing.
@@ -10,10 +12,11 @@ use mathlib.Core.Path.{_≡_, refl, sym, ap, ap₂, fun-ext, subst, _∙_}
 use mathlib.Core.Bool.{true}
 use mathlib.Core.List.{List, [], _∷_, _++_, append-assoc, map}
 use Prim.Native.Nat.{ℕ, zero, suc, _-_, _^_, _≤_, _<_}
+use native.Mathlib.Decide.{decLe}
 use native.Mathlib.Omega.{arith}
 use lib.Bits.{bitXor, xor-comm, xor-self, xor-zero-r}
-use lib.ListN.{drop, getD, length, length-append, length-drop, length-map, replicate, take, take-append-drop}
-use lib.Seq.{drop-at, drop-cons, drop-length, length-take-le, take-append-le, take-at, take-suc, take-take}
+use lib.ListN.{List·getD-eq-default, drop, getD, length, length-append, length-drop, length-map, length-take, replicate, take, take-append-drop}
+use lib.Seq.{drop-at, drop-cons, drop-length, getD-take, length-take-le, take-append-le, take-at, take-suc, take-take}
 use Rattle.algebra.specs.Polynomial.{add, coef, mul}
 use Rattle.algebra.proofs.StaysBelow.{below-at, below-from}
 use Rattle.field.specs.Field.{G, fieldAt}
@@ -133,10 +136,17 @@ sum-at m (c ∷ p) (d ∷ r) zero = refl
 sum-at m (c ∷ p) (d ∷ r) (suc k) = sum-at m p r k
 
 -- every coefficient of zeros is 0
-zeros-at : (n k : ℕ) → getD {A = ℕ} (replicate n 0) k 0 ≡ 0
+pub zeros-at : (n k : ℕ) → getD {A = ℕ} (replicate n 0) k 0 ≡ 0
 zeros-at zero k = refl
 zeros-at (suc n) zero = refl
 zeros-at (suc n) (suc k) = zeros-at n k
+
+-- a list cut where nothing but 0 is behind
+pub cut-same : (m n : ℕ) (l : List ℕ) → ((i : ℕ) → n ≤ i → coef (G m) l i ≡ 0) → coef (G m) (take n l) ≡ coef (G m) l
+cut-same m n l h = fun-ext λ k. elim (decLe (suc k) n) [
+  | yes i ↦ getD-take n l k 0 i
+  | no i ↦ List·getD-eq-default (take n l) 0 (omega (arith, length-take n l)) ∙ sym (h k (omega arith))
+]
 
 -- the same polynomial
 pub sum-zero : (m : ℕ) (f g : List ℕ) → allZero (add (G m) f g) ≡ true → coef (G m) g ≡ coef (G m) f

@@ -5,7 +5,7 @@
 --   judge-zero, judge-high, judge-tally   `judge`: where they do not, it is not acceptable
 --   judge-spread .. judge-says     what each routine asks, and what the equations say
 -- Assumes nothing.
-use mathlib.Core.Path.{_≡_, sym, ap, subst, _∙_}
+use mathlib.Core.Path.{_≡_, refl, sym, ap, subst, _∙_}
 use mathlib.Core.Bool.{Bool, true, false, not}
 use mathlib.Core.Logic.{_≢_}
 use mathlib.Core.List.{List, [], _∷_, _++_}
@@ -14,10 +14,11 @@ use native.Mathlib.Decide.{decLe}
 use native.Mathlib.Omega.{arith}
 use borrow.Author.Tests.{not-false, not-true}
 use lib.ListN.{length, length-append, length-replicate, replicate, take}
-use lib.Seq.{length-take-le, take-at}
+use lib.Seq.{getD-take, length-take-le, take-at}
 use Rattle.algebra.specs.Multiplicity.{total}
 use Rattle.algebra.specs.Trial.{All}
 use Rattle.algebra.specs.Polynomial.{Below, coef, fromRoots, mul}
+use Rattle.algebra.proofs.StaysBelow.{take-below}
 use Rattle.field.specs.Field.{G, fieldAt}
 use Rattle.field.specs.Tables.{Antilogs, Logs}
 use Rattle.poly.specs.Lent.{Lent}
@@ -26,12 +27,14 @@ use Rattle.poly.proofs.Lending.{lent-at}
 use Rattle.input.specs.Limit.{limit}
 use Rattle.input.proofs.Fields.{known-field}
 use Rattle.input.proofs.Polynomials.{nonzero-place}
-use Rattle.claim_rules.specs.Claims.{Acceptable, Claim, claimOf, combined, spreadOut}
-use Rattle.claim_rules.specs.Admitting.{ClaimIn}
+use Rattle.claim_rules.specs.Claims.{Acceptable, Claim, SameClaim, claimOf, combined, spreadOut}
+use Rattle.claim_rules.specs.Admitting.{ClaimIn, Sent}
 use Rattle.claim_rules.proofs.Complete.{given-in}
 use Rattle.claim_rules.proofs.Degrees.{Degrees, degrees-add}
 use Rattle.claim_rules.proofs.Products.{spread-below, spread-length}
+use Rattle.claim_rules.proofs.ZerosIgnored.{acceptable-same, same-back}
 use Rattle.claims.specs.Checking.{Decides, Spreadable, Weighable, Weighs, tallies}
+use Rattle.claims.proofs.Adding.{cut-same}
 use Rattle.claims.proofs.Tallying.{Tallied, tallies-all, tallies-yes}
 use Rattle.claims.proofs.Weighing.{differ}
 
@@ -133,32 +136,51 @@ module _ {m : ℕ} {f roots es h u v : List ℕ} (g : ClaimIn m f (claimOf roots
       pub judge-fits : n - d ≤ length (y ++ rest)
       judge-fits = omega (arith, length-append y rest, front-long)
 
+      -- h without the zeros at its top
+      short-sent : Sent m (take d h)
+      short-sent = record {
+        some = omega (arith, length-take-le d h (b .within));
+        few = omega (arith, length-take-le d h (b .within), b .within, g .cofactor .few);
+        small = take-below (2 ^ m) d h (g .cofactor .small);
+      }
+
+      short-in : ClaimIn m f (claimOf roots es (take d h) u v)
+      short-in = record {
+        field = g .field;
+        given = g .given;
+        cofactor = short-sent;
+        first = g .first;
+        second = g .second;
+        elements = g .elements;
+        nonzero = g .nonzero;
+      }
+
+      short-same : SameClaim m f f (claimOf roots es (take d h) u v) claim
+      short-same = record { roots = refl; times = refl; given = refl; cofactor = cut-same m d h (b .above); first = refl; second = refl }
+
       -- what the equations ask
-      pub judge-weigh : Weighable m f (take (n - d) (y ++ rest)) h u v
+      pub judge-weigh : Weighable m f (take (n - d) (y ++ rest)) (take d h) u v
       judge-weigh = record {
         field = g .field;
         elements = subst (Below (2 ^ m)) (sym front) (spread-below (2 ^ m) roots es (g .elements));
         few = omega (arith, length-take-le (n - d) (y ++ rest) judge-fits, judge-few);
         given = g .given;
-        cofactor = g .cofactor;
+        cofactor = short-sent;
         first = g .first;
         second = g .second;
         place = d - 1;
-        nonzero = b .nonzero (omega arith);
+        nonzero = λ x. b .nonzero (omega arith) (sym (getD-take d h (d - 1) 0 (omega arith)) ∙ x);
       }
 
       -- and say
-      pub judge-says : {c : Bool} → Decides c (Weighs m f (take (n - d) (y ++ rest)) h u v) → Decides c (Acceptable m f claim)
+      pub judge-says : {c : Bool} → Decides c (Weighs m f (take (n - d) (y ++ rest)) (take d h) u v) → Decides c (Acceptable m f claim)
       judge-says {c} w =
-          let same : (l : List ℕ) → l ≡ spreadOut roots es → coef (G m) (mul (G m) (fromRoots (G m) l) h) ≡ coef (G m) (mul (G m) (fromRoots (G m) (spreadOut roots es)) h) =
-          λ l j. ap (λ x. coef (G m) (mul (G m) (fromRoots (G m) x) h)) j in
+          let same : (l : List ℕ) → l ≡ spreadOut roots es → coef (G m) (mul (G m) (fromRoots (G m) l) (take d h)) ≡ coef (G m) (mul (G m) (fromRoots (G m) (spreadOut roots es)) (take d h)) =
+          λ l j. ap (λ x. coef (G m) (mul (G m) (fromRoots (G m) x) (take d h))) j in
           record {
-            yes = λ y. let k = w .yes y in record {
-              paired = told .paired;
-              ascending = told .ascending;
-              least = told .least;
-              product = sym (same _ front) ∙ k .product;
-              coprime = k .coprime;
-            };
-            no = λ y k. w .no y (record { product = same _ front ∙ k .product; coprime = k .coprime });
+            yes = λ y.
+                let k = w .yes y in
+                acceptable-same short-in
+                (record { paired = told .paired; ascending = told .ascending; least = told .least; product = sym (same _ front) ∙ k .product; coprime = k .coprime }) g short-same;
+            no = λ y k. let s = acceptable-same g k short-in (same-back short-same) in w .no y (record { product = same _ front ∙ s .product; coprime = s .coprime });
           }

@@ -1,4 +1,4 @@
--- What the check of a claim answers, for every input.
+-- What the check of a claim answers, for every input (docs/RULES.md section 14.2).
 --   toldChecked   the number and the value of each answer: 1 for an accepted claim, 0 for a plain "no"
 --   Checks        THE CONTRACT: the answers that the check admits
 -- Assumes nothing.

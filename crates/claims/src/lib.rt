@@ -1,4 +1,4 @@
-// Checking a partner's list of roots. A claim about a polynomial f has roots, beside each its multiplicity e, a
+// Checking a partner's list of roots (docs/RULES.md section 14). A claim about a polynomial f has roots, beside each its multiplicity e, a
 // cofactor h, and two polynomials u and v. It is accepted exactly if the roots are strictly ascending, each e is at
 // least 1, the product of (z + r)^e and h is f, and u h + v w = 1, where w is the remainder of z^(2^m) + z by h. The
 // last equation shows that h has no root: at a root of h both sides would be 0. So an accepted list is complete, and
@@ -320,7 +320,7 @@ fn weigh(m: u16, f: &[u16], list: &[u16], h: &[u16], u: &[u16], v: &[u16]) -> bo
 }
 
 // A claim that was let in is acceptable. The degrees of the roots' part and of h add up to that of f, or it is not:
-// so no more roots are read than f's degree.
+// so no more roots are read than f's degree. Zeros at the top of h are left out.
 fn judge(m: u16, f: &[u16], roots: &[u16], mults: &[u16], h: &[u16], u: &[u16], v: &[u16]) -> bool
     requires { ⌜ ClaimIn m (now f) (claimOf (now roots) (now mults) (now h) (now u) (now v)) ⌝ }
     ensures { λ b. ⌜ Decides b (Acceptable m (now (f .entry)) (claimOf (now (roots .entry)) (now (mults .entry))
@@ -340,7 +340,7 @@ fn judge(m: u16, f: &[u16], roots: &[u16], mults: &[u16], h: &[u16], u: &[u16], 
         return false;
     }
     spread_into(roots, mults, &mut list[..s]);
-    weigh(m, f, &list[..s], h, u, v)
+    weigh(m, f, &list[..s], &h[..d], u, v)
 }
 
 // Checks a claim about the polynomial f over the field of degree m: the roots, beside each its multiplicity, the

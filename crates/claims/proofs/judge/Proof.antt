@@ -60,17 +60,20 @@ slice-aggregate-weigh c =
     let t = e .before .before .before .before in
     sym (length-take-le _ _ (judge-fits (t .before .before .before .before .before .before .before .before .pre) (t .before .top .ensures) (t .top2 .ensures) (e .before .before .before .if1 .left) (e .before .tally .ensures) (e .if3 .left) (c .before .before .spread-into .ensures) _))
 
+slice-aggregate-weigh-2 : tie.Need-slice-aggregate-weigh-2
+slice-aggregate-weigh-2 c = sym (length-take-le _ _ (c .before .before .before .before .before .before .before .before .before .top2 .ensures .within))
+
 weigh-requires : tie.Need-weigh-requires
 weigh-requires c κs =
-    let e = c .before .before .before .before in
+    let e = c .before .before .before .before .before in
     let t = e .before .before .before .before in
-    judge-weigh (t .before .before .before .before .before .before .before .before .pre) (t .before .top .ensures) (t .top2 .ensures) (e .before .before .before .if1 .left) (e .before .tally .ensures) (e .if3 .left) (c .before .before .spread-into .ensures) _
+    judge-weigh (t .before .before .before .before .before .before .before .before .pre) (t .before .top .ensures) (t .top2 .ensures) (e .before .before .before .if1 .left) (e .before .tally .ensures) (e .if3 .left) (c .before .before .before .spread-into .ensures) _
 
 returns-4 : tie.Need-returns-4
 returns-4 c =
-    let e = c .before .before .before .before .before in
+    let e = c .before .before .before .before .before .before in
     let t = e .before .before .before .before in
-    judge-says (t .before .before .before .before .before .before .before .before .pre) (t .before .top .ensures) (t .top2 .ensures) (e .before .before .before .if1 .left) (e .before .tally .ensures) (e .if3 .left) (c .before .before .before .spread-into .ensures) _ (c .weigh .ensures)
+    judge-says (t .before .before .before .before .before .before .before .before .pre) (t .before .top .ensures) (t .top2 .ensures) (e .before .before .before .if1 .left) (e .before .tally .ensures) (e .if3 .left) (c .before .before .before .before .spread-into .ensures) _ (c .weigh .ensures)
 
 pub judge-spec : {M : Type 1} → statement M
 judge-spec =
@@ -87,5 +90,6 @@ judge-spec =
     spread-into-requires
     array-share-prefix-list
     slice-aggregate-weigh
+    slice-aggregate-weigh-2
     weigh-requires
     returns-4)
