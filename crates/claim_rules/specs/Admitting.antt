@@ -1,4 +1,4 @@
--- When a claim is refused, under which number and in which order.
+-- When a claim is refused, under which number and in which order (docs/RULES.md section 14.2).
 --   someOf         some of several lists passes a test
 --   polynomialsOf  the given polynomial, the cofactor, u and v
 --   claimTests     refusals 1 to 5: the field, no coefficients, too many, an element that is none, and the given

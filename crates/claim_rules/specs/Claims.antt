@@ -1,4 +1,5 @@
--- A claim of roots: what a partner's decoder sends about a polynomial f, and when it is acceptable.
+-- A claim of roots (docs/RULES.md sections 14.1 and 14.2): what a partner's decoder sends about a polynomial f, and when
+-- it is acceptable.
 --   Claim            roots, beside each its multiplicity e, a cofactor h, and two polynomials u and v
 --   claimOf          the claim of these five lists
 --   spreadOut        each root as many times as the number beside it says
