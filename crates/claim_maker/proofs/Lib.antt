@@ -1,4 +1,4 @@
--- Why: the roots taken out, Euclid's algorithm with cofactors, u and v, and the call.
+-- Why: the roots taken out, Euclid's algorithm, u and v, and the call.
 
 -- lists
 mod Fitting
@@ -7,8 +7,7 @@ mod Powering
 -- the cofactor of the roots
 mod Splitting
 -- Euclid's algorithm
-mod Turning
-mod Inverting
+mod Uniting
 -- u and v
 mod Pairing
 -- the call

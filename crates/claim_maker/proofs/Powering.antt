@@ -52,7 +52,7 @@ use Rattle.table_finish.specs.Finishing.{Listable}
 use Rattle.find_solve.proofs.Admitting.{begun-stepping}
 use Rattle.find_solve.proofs.Running.{out-asks, out-roots}
 use Rattle.find_solve.proofs.Tracing.{powered-fit}
-use Rattle.claim_rules.proofs.Links.{by-six}
+use Rattle.claim_rules.proofs.Combinations.{by-six}
 use Rattle.claim_rules.proofs.OneClaim.{same-list}
 use Rattle.claim_rules.proofs.Remainders.{remainder-of}
 use Rattle.claims.specs.Checking.{Residual, Residue}

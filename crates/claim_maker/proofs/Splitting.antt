@@ -37,7 +37,7 @@ use Rattle.input.specs.Limit.{limit}
 use Rattle.input.proofs.Polynomials.{nonzero-place}
 use Rattle.claim_rules.specs.Claims.{spreadOut}
 use Rattle.claim_rules.proofs.Claimable.{spread-same, total-within}
-use Rattle.claim_rules.proofs.Links.{quo-cut}
+use Rattle.claim_rules.proofs.Combinations.{quo-cut}
 use Rattle.claim_rules.proofs.OneClaim.{spread-below}
 use Rattle.claim_rules.proofs.Products.{spread-length}
 use Rattle.claim_rules.proofs.TheRemainder.{mul-same}

@@ -6,26 +6,21 @@
 --   Rowable, RootsRow      the product of (z + r)^e over the roots as a row of logs
 --   Quotable               a quotient can be written to q
 --   Splittable, SplitOff   what is left of f where z + r is taken out as often as it divides, for every root r
---   Euclidean    the state of Euclid's algorithm with one row of cofactors: the k coefficients at the front of a are s w
---                modulo p, the monic polynomial with the n low coefficients at the front of b is t w, and the two have
---                no common factor. The cofactors are short: the degree of t and k - 1 add up to at most that of p, and
---                so the degree of s and n; where b is 1, the degree of t is below that of p
---   Reducible, Reduced     one division, and the sum of cofactors
---   Settleable, Settled    a remainder that is not 0 is made monic, and its cofactor multiplied alike
---   Invertible, Inverted   v w is 1 modulo p
---   Closable, Closed       u is the quotient of 1 + v w by a multiple of p
+--   Coprime                some combination of a and b is 1
+--   Reducible, Reduced     a divided by b, whose last coefficient is not 0: the remainder, and behind it the quotient
+--   Unitable, United       x a + y b = 1. The degree of x is below that of b, the degree of y below that of a, or 0
 --   Pairable, Paired       u h + v w = 1, of a polynomial h without roots
 --   Makeable     a polynomial that was let in, and buffers with room
 -- Assumes nothing.
 use mathlib.Core.Path.{_≡_}
 use mathlib.Core.Logic.{_≢_}
 use mathlib.Core.Option.{some}
-use mathlib.Core.List.{List, [], _∷_, map}
+use mathlib.Core.List.{List, [], _∷_}
 use Prim.Native.Nat.{ℕ, suc, _+_, _-_, _*_, _^_, _≤_, _<_}
-use lib.ListN.{getD, length, replicate, take}
+use lib.ListN.{drop, getD, length, replicate, take}
 use Rattle.algebra.specs.Multiplicity.{total}
 use Rattle.algebra.specs.Polynomial.{Below, add, coef, eval, fieldPoly, fromRoots, mul}
-use Rattle.algebra.specs.Routines.{frobeniusMod, gcd, monic, monicRoots, norm, quo, rem}
+use Rattle.algebra.specs.Routines.{frobeniusMod, monicRoots, norm, rem}
 use Rattle.field.specs.Field.{G, fieldAt, multiplicitiesAt, rootsAt}
 use Rattle.field.specs.Tables.{Halves}
 use Rattle.poly.specs.Lent.{Lent, LogRow, logRow}
@@ -33,10 +28,8 @@ use Rattle.slices.specs.Lists.{copied}
 use Rattle.table_begin.specs.SplitPart.{Powered}
 use Rattle.input.specs.Limit.{limit}
 use Rattle.input.specs.Polynomials.{PolynomialIn}
-use Rattle.claims.specs.Checking.{productRoom}
 use Rattle.claim_rules.specs.Claims.{Claim, Lower, claimOf, combined, spreadOut}
 use Rattle.claim_rules.specs.Admitting.{Sent}
-use Rattle.claim_rules.specs.Links.{Linked}
 
 -- ---- the roots, and the powers of z on the way
 
@@ -115,98 +108,42 @@ pub record SplitOff (m : ℕ) (f h : List ℕ) : Type 0 where
 
 -- ---- Euclid's algorithm
 
-pub record Euclidean (m : ℕ) (p w a : List ℕ) (k : ℕ) (s b : List ℕ) (n : ℕ) (t : List ℕ) : Type 0 where
-  pub few : length p ≤ limit
-  pub small-p : Below (2 ^ m) p
-  pub small-w : Below (2 ^ m) w
-  pub below : n ≤ k
-  pub high : k ≤ suc (length p)
-  pub room-a : length a ≡ suc limit
-  pub room-b : length b ≡ suc limit
-  pub room-s : length s ≡ suc limit
-  pub room-t : length t ≡ suc limit
-  pub low : n ≤ length p
-  pub small-a : Below (2 ^ m) (take k a)
-  pub small-b : Below (2 ^ m) (take n b)
-  pub small-s : Below (2 ^ m) s
-  pub small-t : Below (2 ^ m) t
-  pub led : take (suc n) b ≡ monic (G m) (take n b)
-  pub dividend : Linked (G m) (2 ^ m) p w (take k a) s
-  pub divisor : Linked (G m) (2 ^ m) p w (monic (G m) (take n b)) t
-  pub coprime : gcd (G m) (take n b) (take k a) ≡ []
-  pub short-s : (i : ℕ) → suc (length p) ≤ i + n → coef (G m) s i ≡ 0
-  pub short-t : (i : ℕ) → suc (suc (length p)) ≤ i + k → coef (G m) t i ≡ 0
-  pub ends : n ≡ 0 → (i : ℕ) → length p ≤ i → coef (G m) t i ≡ 0
+pub record Coprime (m : ℕ) (a b : List ℕ) : Type 0 where
+  pub first : List ℕ
+  pub second : List ℕ
+  pub small-first : Below (2 ^ m) first
+  pub small-second : Below (2 ^ m) second
+  pub one : coef (G m) (add (G m) (mul (G m) first a) (mul (G m) second b)) ≡ coef (G m) (1 ∷ [])
 
-pub record Reducible (m : ℕ) (ls ts a : List ℕ) (k : ℕ) (s b t : List ℕ) : Type 0 where
+pub record Reducible (m : ℕ) (ls ts b a : List ℕ) : Type 0 where
   pub tables : Lent m ls ts
-  pub few : length b ≤ limit
-  pub below : length b ≤ k
-  pub within : k ≤ length a
-  pub small-a : Below (2 ^ m) (take k a)
+  pub small-a : Below (2 ^ m) a
   pub small-b : Below (2 ^ m) b
-  pub small-t : Below (2 ^ m) t
-  pub short : length t ≤ suc limit
-  pub room : k - length b + length t ≤ length s
+  pub some : 1 ≤ length b
+  pub few : length b ≤ suc limit
+  pub below : length b ≤ suc (length a)
+  pub lead : getD b (length b - 1) 0 ≢ 0
 
-pub record Reduced (m : ℕ) (a : List ℕ) (k : ℕ) (s b t a′ s′ : List ℕ) : Type 0 where
-  pub low : take (length b) a′ ≡ rem (G m) b (take k a)
-  pub sum : s′ ≡ add (G m) s (mul (G m) (take (k - length b) (quo (G m) b (take k a))) t)
+pub record Reduced (m : ℕ) (b a a′ : List ℕ) : Type 0 where
+  pub small : Below (2 ^ m) a′
+  pub exact : coef (G m) a
+      ≡ coef (G m) (add (G m) (mul (G m) (drop (length b - 1) a′) b) (take (length b - 1) a′))
 
-pub record Settleable (m : ℕ) (ls ts a : List ℕ) (n : ℕ) (s : List ℕ) : Type 0 where
-  pub tables : Lent m ls ts
-  pub within : n ≤ length a
-  pub small-a : Below (2 ^ m) (take n a)
-  pub small-s : Below (2 ^ m) s
-  pub place : ℕ
-  pub nonzero : getD (take n a) place 0 ≢ 0
+pub record Unitable (m : ℕ) (ls ts a b x y : List ℕ) : Type 0 where
+  pub reducible : Reducible m ls ts b a
+  pub short : length a ≤ suc limit
+  pub coprime : Coprime m a b
+  pub room-x : length x ≡ suc limit
+  pub room-y : length y ≡ suc limit
 
-pub record Settled (m : ℕ) (a : List ℕ) (n : ℕ) (s : List ℕ) (d : ℕ) (a′ s′ : List ℕ) : Type 0 where
-  pub fewer : d < n
-  pub factor : ℕ
-  pub element : factor < 2 ^ m
-  pub led : take (suc d) a′ ≡ monic (G m) (take d a′)
-  pub made : norm (G m) n (take n a) ≡ some (take d a′)
-  pub scaled : take (suc d) a′ ≡ map (G m .mul factor) (take (suc d) a)
-  pub above : (i : ℕ) → suc d ≤ i → coef (G m) (take n a) i ≡ 0
-  pub beside : s′ ≡ map (G m .mul factor) s
-
-pub record Invertible (m : ℕ) (ls ts p w v : List ℕ) : Type 0 where
-  pub tables : Lent m ls ts
-  pub few : length p ≤ limit
-  pub small-p : Below (2 ^ m) p
-  pub small-w : Below (2 ^ m) w
-  pub long : length w ≡ length p
-  pub coprime : gcd (G m) p w ≡ []
-  pub room : length v ≡ suc limit
-
-pub record Inverted (m : ℕ) (p w v : List ℕ) : Type 0 where
-  pub small : Below (2 ^ m) v
-  pub inverse : Linked (G m) (2 ^ m) p w (1 ∷ []) v
-  pub short : (i : ℕ) → length p ≤ i → coef (G m) v i ≡ 0
+pub record United (m : ℕ) (a b x y : List ℕ) : Type 0 where
+  pub small-x : Below (2 ^ m) x
+  pub small-y : Below (2 ^ m) y
+  pub one : coef (G m) (add (G m) (mul (G m) x a) (mul (G m) y b)) ≡ coef (G m) (1 ∷ [])
+  pub short-x : (i : ℕ) → length b ≤ suc i → coef (G m) x i ≡ 0
+  pub short-y : (i : ℕ) → 1 ≤ i → length a ≤ suc i → coef (G m) y i ≡ 0
 
 -- ---- u and v
-
--- c is not 0
-pub record Closable (m : ℕ) (ls ts p w v : List ℕ) (c : ℕ) (u : List ℕ) : Type 0 where
-  pub tables : Lent m ls ts
-  pub few : length p ≤ limit
-  pub small-p : Below (2 ^ m) p
-  pub small-w : Below (2 ^ m) w
-  pub long : length w ≡ length p
-  pub inverted : Inverted m p w v
-  pub room-v : length v ≡ suc limit
-  pub room-u : length u ≡ suc limit
-  pub some : 0 < c
-  pub element : c < 2 ^ m
-
--- the polynomial whose quotient by p it is, times c
-pub record Closed (m : ℕ) (p w v : List ℕ) (c : ℕ) (u : List ℕ) : Type 0 where
-  pub small : Below (2 ^ m) u
-  pub whole : List ℕ
-  pub whole-small : Below (2 ^ m) whole
-  pub whole-is : coef (G m) whole ≡ coef (G m) (add (G m) (1 ∷ []) (mul (G m) v w))
-  pub quotient : coef (G m) u ≡ coef (G m) (map (G m .mul c) (quo (G m) p whole))
 
 pub record Pairable (m : ℕ) (ls ts h b u v : List ℕ) : Type 0 where
   pub tables : Lent m ls ts

@@ -1,18 +1,20 @@
 // Making a claim about a polynomial f (docs/RULES.md section 14.4), which `claims::check` accepts. The roots and their
 // multiplicities are those of the whole call, by the same engine. The cofactor h is the quotient of f by the product
 // of (z + r)^e. It has no root, so h and w, the remainder of z^(2^m) + z by h, have no common factor, and Euclid's
-// algorithm finds v with v w = 1 modulo h: beside each of its two polynomials the cofactor is kept of which it is the
-// multiple of w. It gives the v of the lowest degree, below that of h. Then u is the quotient of 1 + v w by h. Where f
-// splits, h is a constant, v is 0 and u the inverse of h, by the same way. The engine has squared z m - 1 times modulo
-// f, and h divides f: w takes one squaring more, and a division.
+// algorithm gives u and v with u h + v w = 1. It goes by calls: each divides, and makes its own pair from that of the
+// divisor and the remainder, so that one product a division gives both u and v. It gives the v of the lowest degree,
+// below that of h. Where f splits, h is a constant, v is 0 and u the inverse of h, by the same way. The engine has
+// squared z m - 1 times modulo f, and h divides f: w takes one squaring more, and a division.
 ghost use mathlib.Core.Path.{_≡_};
-ghost use Prim.Native.Nat.{_≤_, _*_, suc};
+ghost use mathlib.Core.List.{map};
+ghost use Prim.Native.Nat.{_≤_, _*_};
 ghost use lib.ListN.{length, take};
 ghost use Rattle.algebra.specs.Multiplicity.{total};
 ghost use Rattle.algebra.specs.Routines.{quo};
 ghost use Rattle.refusals.specs.Admitting.{Admits};
 ghost use Rattle.field.specs.Field.{G};
-ghost use Rattle.poly.specs.Lent.{Lent, held};
+ghost use Rattle.poly.specs.Lent.{held, logRow};
+ghost use Rattle.poly.specs.Monic.{Scalable};
 ghost use Rattle.input.specs.Cutoff.{houseDefault};
 ghost use Rattle.input.specs.Limit.{limit, widest};
 ghost use Rattle.input.specs.Polynomials.{polynomialTests};
@@ -21,8 +23,7 @@ ghost use Rattle.claims.specs.Checking.{Residue};
 ghost use Rattle.find_solve.specs.Solving.{Solvable};
 ghost use Rattle.claim_maker.specs.Calls.{Makes, Proves, bufferSizes};
 ghost use Rattle.claim_maker.specs.Making.{Rowable, RootsRow, Quotable, Splittable, SplitOff};
-ghost use Rattle.claim_maker.specs.Making.{Euclidean, Reducible, Reduced, Settleable, Settled};
-ghost use Rattle.claim_maker.specs.Making.{Invertible, Inverted, Closable, Closed, Pairable, Paired};
+ghost use Rattle.claim_maker.specs.Making.{Reducible, Reduced, Unitable, United, Pairable, Paired};
 ghost use Rattle.claim_maker.specs.Making.{Rooted, Powerable, IsPower, Residable, Makeable, MakeableLent};
 use claims::add_product;
 use claims::spread_into;
@@ -218,138 +219,60 @@ fn split_off(
     quotient_into(m, logs, antilogs, &row[..n], &mut work, h);
 }
 
-// One division of Euclid's: leaves the remainder of the first k coefficients of a by the monic polynomial with the low
-// coefficients b at the front of a, and adds the quotient times t to s.
-fn reduce(
-    m: u16,
-    logs: &[u16],
-    antilogs: &[u16],
-    a: &mut [u16],
-    k: usize,
-    s: &mut [u16],
-    b: &[u16],
-    t: &[u16],
-)
-    requires { ⌜ Reducible m (now logs) (now antilogs) (now a) k (now s) (now b) (now t) ⌝ }
-    ensures { λ _. ⌜ Reduced m (now (a .entry)) k (now (s .entry)) (now (b .entry)) (now (t .entry))
-        (now (a .exit)) (now (s .exit)) ⌝ }
+// Writes the row of p times c.
+fn scaled_row(m: u16, logs: &[u16], antilogs: &[u16], c: u16, p: &[u16], row: &mut [u16])
+    requires { ⌜ Scalable m (now logs) (now antilogs) c (now p) × (length (now p) ≡ length (now row)) ⌝ }
+    ensures { λ _. ⌜ now (row .exit) ≡ logRow m (map (G m .mul c) (now (p .entry))) ⌝ }
 {
-    let mut row = [0u16; LIMIT];
-    let n = b.len();
-    log_row(m, logs, antilogs, b, &mut row[..n]);
-    divide(m, logs, antilogs, &row[..n], &mut a[..k]);
-    add_product(m, logs, antilogs, &a[n..k], t, s);
-}
-
-// Divides the first n coefficients of a, which are not all 0, and s by the leading one of these. Returns its place.
-fn settle(m: u16, logs: &[u16], antilogs: &[u16], a: &mut [u16], n: usize, s: &mut [u16]) -> usize
-    requires { ⌜ Settleable m (now logs) (now antilogs) (now a) n (now s) ⌝ }
-    ensures { λ d. ⌜ Settled m (now (a .entry)) n (now (s .entry)) d (now (a .exit)) (now (s .exit)) ⌝ }
-{
-    let j = top(&a[..n]);
-    let c = inverse_by_logs(m, logs, antilogs, a[j - 1]);
-    scale(m, logs, antilogs, c, &mut a[..j]);
-    scale(m, logs, antilogs, c, s);
-    j - 1
-}
-
-// One turn: a is divided by b, and the monic remainder takes its place. Returns the remainder's degree. Of w only the
-// multiples are known: it says of which polynomial.
-fn turn(
-    m: u16,
-    logs: &[u16],
-    antilogs: &[u16],
-    p: &[u16],
-    w: &[u16],
-    a: &mut [u16],
-    k: usize,
-    s: &mut [u16],
-    b: &[u16],
-    n: usize,
-    t: &[u16],
-) -> usize
-    requires { ⌜ Lent m (now logs) (now antilogs)
-        × Euclidean m (now p) (now w) (now a) k (now s) (now b) n (now t)
-        × (1 ≤ n) ⌝ }
-    ensures { λ d. ⌜ Euclidean m (now (p .entry)) (now (w .entry)) (now (b .entry)) (suc n) (now (t .entry))
-        (now (a .exit)) d (now (s .exit)) × (suc d ≤ n) ⌝ }
-{
-    let l = p.len() + 2 - k;
-    reduce(m, logs, antilogs, a, k, s, &b[..n], &t[..l]);
-    settle(m, logs, antilogs, a, n, s)
-}
-
-// Euclid's loop: until the divisor is 1. Its cofactor comes to t. The two polynomials change roles at each turn, so
-// that none copies.
-fn run(
-    m: u16,
-    logs: &[u16],
-    antilogs: &[u16],
-    p: &[u16],
-    w: &[u16],
-    a: &mut [u16],
-    k: usize,
-    s: &mut [u16],
-    b: &mut [u16],
-    n: usize,
-    t: &mut [u16],
-)
-    requires { ⌜ Lent m (now logs) (now antilogs)
-        × Euclidean m (now p) (now w) (now a) k (now s) (now b) n (now t) ⌝ }
-    ensures { λ _. ⌜ Inverted m (now (p .entry)) (now (w .entry)) (now (t .exit)) ⌝ }
-{
-    let mut k = k;
-    let mut n = n;
-    while n > 0 {
-        let d = turn(m, logs, antilogs, p, w, a, k, s, b, n, t);
-        if d == 0 {
-            slices::copy(s, t);
-            return;
-        }
-        n = turn(m, logs, antilogs, p, w, b, n + 1, t, a, d, s);
-        k = d + 1;
+    let s = logs[c as usize] as usize;
+    let mut i = 0;
+    while i < p.len() {
+        let x = antilogs[s + logs[p[i] as usize] as usize] as usize;
+        row[i] = logs[x];
+        i += 1;
     }
 }
 
-// Writes v with v w = 1 modulo the monic polynomial with the low coefficients p, of a lower degree.
-fn invert(m: u16, logs: &[u16], antilogs: &[u16], p: &[u16], w: &[u16], v: &mut [u16])
-    requires { ⌜ Invertible m (now logs) (now antilogs) (now p) (now w) (now v) ⌝ }
-    ensures { λ _. ⌜ Inverted m (now (p .entry)) (now (w .entry)) (now (v .exit)) ⌝ }
+// Divides a by b, whose last coefficient is not 0: the remainder takes the low places of a, as many as the degree of b,
+// and the quotient the others.
+fn reduce(m: u16, logs: &[u16], antilogs: &[u16], b: &[u16], a: &mut [u16])
+    requires { ⌜ Reducible m (now logs) (now antilogs) (now b) (now a) ⌝ }
+    ensures { λ _. ⌜ Reduced m (now (b .entry)) (now (a .entry)) (now (a .exit)) ⌝ }
 {
-    let mut a = [0u16; COEFFICIENTS];
-    let mut s = [0u16; COEFFICIENTS];
-    let mut b = [0u16; COEFFICIENTS];
-    let n = p.len();
-    slices::copy(w, &mut a);
-    slices::copy(p, &mut b);
-    b[n] = 1;
-    s[0] = 1;
-    slices::clear(v);
-    run(m, logs, antilogs, p, w, &mut a, n, &mut s, &mut b, n, v);
+    let mut row = [0u16; LIMIT];
+    let n = b.len() - 1;
+    let c = inverse_by_logs(m, logs, antilogs, b[n]);
+    scaled_row(m, logs, antilogs, c, &b[..n], &mut row[..n]);
+    divide(m, logs, antilogs, &row[..n], a);
+    scale(m, logs, antilogs, c, &mut a[n..]);
 }
 
-// Writes c times the quotient of 1 + v w by the monic polynomial with the low coefficients p to u.
-fn close(
+// Writes x and y with x a + y b = 1, of a and b that have no common factor, the last coefficient of b not 0. With the
+// quotient q and the remainder r of a by b, x and y of b and r come first: then x a + (y + q x) b = 1. What stands in a
+// and b is used up.
+fn unite(
     m: u16,
     logs: &[u16],
     antilogs: &[u16],
-    p: &[u16],
-    w: &[u16],
-    v: &[u16],
-    c: u16,
-    u: &mut [u16],
+    a: &mut [u16],
+    b: &mut [u16],
+    x: &mut [u16],
+    y: &mut [u16],
 )
-    requires { ⌜ Closable m (now logs) (now antilogs) (now p) (now w) (now v) c (now u) ⌝ }
-    ensures { λ _. ⌜ Closed m (now (p .entry)) (now (w .entry)) (now (v .entry)) c (now (u .exit)) ⌝ }
+    requires { ⌜ Unitable m (now logs) (now antilogs) (now a) (now b) (now x) (now y) ⌝ }
+    ensures { λ _. ⌜ United m (now (a .entry)) (now (b .entry)) (now (x .exit)) (now (y .exit)) ⌝ }
 {
-    let mut row = [0u16; LIMIT];
-    let mut sum = [0u16; PRODUCT];
-    let n = p.len();
-    sum[0] = 1;
-    add_product(m, logs, antilogs, v, w, &mut sum);
-    log_row(m, logs, antilogs, p, &mut row[..n]);
-    quotient_into(m, logs, antilogs, &row[..n], &mut sum, u);
-    scale(m, logs, antilogs, c, u);
+    let n = b.len() - 1;
+    if n == 0 {
+        slices::clear(x);
+        slices::clear(y);
+        y[0] = inverse_by_logs(m, logs, antilogs, b[0]);
+        return;
+    }
+    reduce(m, logs, antilogs, b, a);
+    let j = top(&a[..n]);
+    unite(m, logs, antilogs, b, &mut a[..j], y, x);
+    add_product(m, logs, antilogs, &a[n..], &x[..n], y);
 }
 
 // Writes u and v with u h + v w = 1, where h has no root, and b is z^(2^m) + z modulo h. What stands in b is used up.
@@ -368,9 +291,9 @@ fn pair(
     let mut p = [0u16; COEFFICIENTS];
     let mut w = [0u16; LIMIT];
     let d = residue_by(m, logs, antilogs, h, b, &mut p, &mut w);
-    invert(m, logs, antilogs, &p[..d], &w[..d], v);
-    let c = inverse_by_logs(m, logs, antilogs, h[d]);
-    close(m, logs, antilogs, &p[..d], &w[..d], v, c, u);
+    let e = d + 1;
+    slices::copy(h, &mut p);
+    unite(m, logs, antilogs, &mut w[..d], &mut p[..e], v, u);
 }
 
 // Makes the claim about an accepted polynomial, over the field's lent tables. Returns the number of roots.

@@ -7,7 +7,7 @@ pub mod TheRemainder
 pub mod Complete
 pub mod ZerosIgnored
 pub mod Claimable
-pub mod Links
+pub mod Combinations
 pub mod OneClaim
 -- a claim, by evaluation
 mod Example

@@ -31,7 +31,7 @@ use Rattle.input.proofs.Fields.{known-field}
 use Rattle.claim_rules.specs.Claims.{Acceptable, Claim, claimOf, fieldRemainder, spreadOut}
 use Rattle.claim_rules.specs.Admitting.{ClaimIn, Full}
 use Rattle.claim_rules.proofs.Complete.{claim-complete}
-use Rattle.claim_rules.proofs.Links.{by-six}
+use Rattle.claim_rules.proofs.Combinations.{by-six}
 use Rattle.claim_rules.proofs.Remainders.{remainder-below}
 use Rattle.claim_rules.proofs.TheRemainder.{small-multiple}
 
