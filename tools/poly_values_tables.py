@@ -8,6 +8,9 @@ from repository import command
 command(__doc__, "0 printed").parse_args()
 M, POLY = 11, 2053
 STEPS = [1024, 512, 256, 128, 64]  # the highest first
+SIZE = 1 << len(STEPS)  # the coefficients of a block
+BLOCKS = 2
+LANES = 64
 
 
 def mul(a, b):
@@ -60,18 +63,33 @@ def raised(i, a):
     return low + high, mul(more, BACKS[i])
 
 
+def next_column(column):
+    """z times a column, behind whose blocks nothing stands; what falls out of the last block stands there then."""
+    blocks, carry = [], 0
+    for at in range(0, BLOCKS * SIZE, SIZE):
+        block, fallen = raised(0, column[at : at + SIZE])
+        block[0] ^= carry
+        blocks, carry = blocks + block, fallen
+    return blocks + [carry]
+
+
 def show(name, comment, values):
     rows = "".join(f"    {v},\n" for v in values)
     return f"// {comment}\npub const {name}: [u64; {len(values)}] = [\n{rows}];\n"
 
 
-trees = [tree(0, c) for c in range(64)]
-multipliers = [w for n in range(31) for w in planes([trees[c][n] for c in range(64)])]
-columns = [[1] + [0] * 32]
-for _ in range(32):
-    low, carry = raised(0, columns[-1][:32])
-    columns.append(low + [carry])
+def vectors(rows):
+    return [word for row in rows for word in planes(row[:LANES])]
+
+
+trees = [tree(0, c) for c in range(LANES)]
+tops = [vanishing(STEPS, c) for c in range(LANES)]
+columns = [[1] + [0] * (BLOCKS * SIZE)]
+for _ in range(BLOCKS * SIZE):
+    columns.append(next_column(columns[-1]))
 print("// The tables of the transform in field 11 (tools/poly_values_tables.py makes them).\n")
-print(show("MULTIPLIERS", "The multipliers of the butterflies: one for the whole row, then those of its lower half, then those of its upper half.", multipliers))
-print(show("TOP", "The vanishing map of the steps, in each lane.", planes([vanishing(STEPS, c) for c in range(64)])))
-print(show("COLUMNS", "The powers of z in the basis, one vector for each power, lane i for the coefficient i.", [w for c in columns for w in planes(c)]), end="")
+print(show("MULTIPLIERS", "The multipliers of the butterflies: one for the whole row, then those of its lower half, then those of its upper\n// half.", vectors(zip(*trees))))
+print(show("TOP", "The vanishing map of the steps, in each lane.", vectors([tops])))
+print(show("SQUARES", "Its square, in each lane.", vectors([[mul(y, y) for y in tops]])))
+print(show("COLUMNS", "The powers of z in the basis from z^0 on, one vector for each power, lane i for the coefficient i.", vectors(columns[: SIZE + 1])))
+print(show("UPPER_COLUMNS", "The powers of z behind them.", vectors(columns[SIZE + 1 :])), end="")

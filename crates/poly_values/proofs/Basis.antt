@@ -1,28 +1,26 @@
--- The levels of a list of steps obey the laws of levels; columns, each z times the one before, bring a polynomial into
--- their basis.
+-- The levels of a list of steps obey the laws of levels; z times what stands in their basis.
 --   vanishing-additive, vanishing-vanishes   the vanishing map respects sums, and is 0 at every step
 --   levels-hold     the levels obey the laws of levels
 --   raisedIn-value    z times what stands in the basis
---   mix-value       the mix of the columns has the polynomial's values
---   coset-values    the transform of the mix gives the polynomial's values at the points of the coset
+--   value-none, value-single, value-zeros   the value of no coefficient, of one, and of zeros
 -- Assumes nothing.
 use mathlib.Core.Path.{_≡_, refl, sym, ap, ap₂, _∙_}
-use mathlib.Core.List.{List, [], _∷_, _++_, map}
-use Prim.Native.Nat.{ℕ, zero, suc, _+_, _*_, _^_, _≤_}
+use mathlib.Core.List.{List, [], _∷_, _++_}
+use Prim.Native.Nat.{ℕ, suc, _+_, _^_, _≤_}
 use native.Mathlib.Omega.{arith}
 use native.Mathlib.Nat.{pow-suc}
 use lib.Pow.{pow-pos}
-use lib.ListN.{getD, length, take, drop, replicate, length-take, length-drop, length-map, length-append, drop-of-length-le}
-use lib.Seq.{take-all, take-at, drop-at, getD-at, take-nil, drop-nil}
+use lib.ListN.{length, take, drop, length-append, drop-of-length-le}
+use lib.Seq.{take-all, take-at, drop-at, take-nil, drop-nil}
 use Rattle.algebra.specs.Field.{Ops, Laws}
-use Rattle.algebra.specs.Polynomial.{add, eval}
+use Rattle.algebra.specs.Polynomial.{add}
 use Rattle.algebra.proofs.Elements as S
-use Rattle.poly_values.specs.Transform.{Level, Additive, Vanishes, Levels, value, scaled, transform, mults, points}
-use Rattle.poly_values.specs.Basis.{Step, vanishing, RightSteps, levelOn, levels, joinRaised, raisedIn, whole, nextColumn, Columns, mix, onCoset}
+use Rattle.poly_values.specs.Transform.{Level, Additive, Vanishes, Levels, value}
+use Rattle.poly_values.specs.Basis.{Step, vanishing, RightSteps, levels, raisedIn}
 use Rattle.algebra.specs.Trial.{All}
 use Rattle.poly_values.proofs.Transform as T
 use Rattle.poly_values.proofs.Image.{all-take, all-drop}
-use Rattle.poly_values.proofs.Lists.{getD-add, getD-scaled}
+use Rattle.poly_values.proofs.Lists.{length-add-le}
 
 module _ {K : Type 0} {F : Ops K} (laws : Laws F) where
   infixl 60 _⊕_
@@ -84,13 +82,6 @@ module _ {K : Type 0} {F : Ops K} (laws : Laws F) where
   pub size-levels : (B : List (Step K)) → 2 ^ length (levels F B) ≡ 2 ^ length B
   size-levels B = ap (λ n. 2 ^ n) (length-levels B)
 
-  pub length-add-le : (a b : List K) → length b ≤ length a → length (add F a b) ≡ length a
-  unfolding add
-  length-add-le [] [] h = refl
-  length-add-le [] (y ∷ b) h = absurd (omega arith)
-  length-add-le (x ∷ a) [] h = refl
-  length-add-le (x ∷ a) (y ∷ b) h = ap suc (length-add-le a b (omega arith))
-
   pub length-raisedIn : (B : List (Step K)) (a : List K) → length (raisedIn F B a .0) ≡ 2 ^ length B
   unfolding raisedIn
   length-raisedIn [] a = refl
@@ -98,7 +89,7 @@ module _ {K : Type 0} {F : Ops K} (laws : Laws F) where
       let l = length-raisedIn B (take (2 ^ length B) a) in
       let h = length-raisedIn B (drop (2 ^ length B) a) in
       length-append (raisedIn F B (take (2 ^ length B) a) .0) (add F (raisedIn F B (drop (2 ^ length B) a) .0) (_ ∷ []))
-      ∙ ap₂ _+_ l (length-add-le (raisedIn F B (drop (2 ^ length B) a) .0) (_ ∷ []) (omega (arith, h, pow-pos (length B))) ∙ h)
+      ∙ ap₂ _+_ l (length-add-le F (raisedIn F B (drop (2 ^ length B) a) .0) (_ ∷ []) (omega (arith, h, pow-pos (length B))) ∙ h)
       ∙ omega (arith, pow-suc 2 (length B))
 
   -- ---- values of few coefficients
@@ -201,46 +192,9 @@ module _ {K : Type 0} {F : Ops K} (laws : Laws F) where
       long : length (lo .0) ≡ n
       long = length-raisedIn B (take h a) ∙ sym (size-levels B)
 
-  -- ---- coefficients with one more behind them
+  -- ---- zeros
 
-  whole-add : (B : List (Step K)) (a b : List K) (x : K) → whole F B (add F a b) x ≡ whole F B a x ⊕ whole F B b x
-  unfolding whole
-  whole-add B a b x =
-      ap₂ (λ s t. value F L s x ⊕ t ⊗ w) (T.take-add laws n a b) (getD-add F zero-add (S.add-zero laws) a b n)
-      ∙ ap₂ _⊕_ (T.value-add laws L (take n a) (take n b) x) (S.add-mul laws (getD a n 0#) (getD b n 0#) w)
-      ∙ simp (add-assoc, S.add-left-comm laws)
-    where
-      L : List (Level K)
-      L = levels F B
-
-      n : ℕ
-      n = 2 ^ length B
-
-      w : K
-      w = vanishing F B x
-
-  whole-scaled : (B : List (Step K)) (e : K) (a : List K) (x : K) → whole F B (scaled F e a) x ≡ e ⊗ whole F B a x
-  unfolding whole
-  whole-scaled B e a x =
-      ap₂ (λ s t. value F L s x ⊕ t ⊗ w) (T.take-map laws (F .mul e) n a) (getD-scaled F e (S.mul-zero laws e) a n)
-      ∙ ap₂ _⊕_ (T.value-scaled laws L e (take n a) x) (mul-assoc e (getD a n 0#) w) ∙ sym (mul-add e _ _)
-    where
-      L : List (Level K)
-      L = levels F B
-
-      n : ℕ
-      n = 2 ^ length B
-
-      w : K
-      w = vanishing F B x
-
-  whole-none : (B : List (Step K)) (x : K) → whole F B [] x ≡ 0#
-  unfolding whole
-  whole-none B x =
-      ap (λ s. value F (levels F B) s x ⊕ 0# ⊗ vanishing F B x) (take-nil (2 ^ length B)) ∙ ap₂ _⊕_ (value-none (levels F B) x) (S.zero-mul laws _) ∙ zero-add 0#
-
-  -- zeros
-  value-zeros : (L : List (Level K)) (a : List K) (x : K) → All (λ c. c ≡ 0#) a → value F L a x ≡ 0#
+  pub value-zeros : (L : List (Level K)) (a : List K) (x : K) → All (λ c. c ≡ 0#) a → value F L a x ≡ 0#
   unfolding value
   value-zeros [] [] x h = refl
   value-zeros [] (c ∷ a) x h = h .0
@@ -250,132 +204,3 @@ module _ {K : Type 0} {F : Ops K} (laws : Laws F) where
     where
       n : ℕ
       n = 2 ^ length L
-
-  -- 1 and zeros
-  pub value-one : (L : List (Level K)) (z : List K) (x : K) → All (λ c. c ≡ 0#) z → value F L (1# ∷ z) x ≡ 1#
-  unfolding add
-  value-one L z x h =
-      ap (λ c. value F L (c ∷ z) x) (sym (S.add-zero laws 1#)) ∙ T.value-add laws L (1# ∷ []) (0# ∷ z) x
-      ∙ ap₂ _⊕_ (value-single L 1# x) (value-zeros L (0# ∷ z) x (refl, h)) ∙ S.add-zero laws 1#
-
-  getD-all-zero : (a : List K) (k : ℕ) → All (λ c. c ≡ 0#) a → getD a k 0# ≡ 0#
-  getD-all-zero [] k h = refl
-  getD-all-zero (c ∷ a) zero h = h .0
-  getD-all-zero (c ∷ a) (suc k) h = getD-all-zero a k (h .1)
-
-  whole-zeros : (B : List (Step K)) (a : List K) (x : K) → All (λ c. c ≡ 0#) a → whole F B a x ≡ 0#
-  unfolding whole
-  whole-zeros B a x h =
-      ap₂ (λ s t. s ⊕ t ⊗ vanishing F B x) (value-zeros (levels F B) (take (2 ^ length B) a) x (all-take (λ c. c ≡ 0#) (2 ^ length B) a h)) (getD-all-zero a (2 ^ length B) h)
-      ∙ zero-add _ ∙ S.zero-mul laws _
-
-  -- the column of the constant 1
-  pub first-column : (B : List (Step K)) (z : List K) (x : K) → All (λ c. c ≡ 0#) z → whole F B (1# ∷ z) x ≡ 1#
-  unfolding add whole
-  first-column B z x h =
-      ap (λ c. whole F B (c ∷ z) x) (sym (S.add-zero laws 1#)) ∙ whole-add B (1# ∷ []) (0# ∷ z) x
-      ∙ ap₂ _⊕_ (single (2 ^ length B) (pow-pos (length B))) (whole-zeros B (0# ∷ z) x (refl, h)) ∙ S.add-zero laws 1#
-    where
-      single : (n : ℕ) → 1 ≤ n → whole F B (1# ∷ []) x ≡ 1#
-      single n some =
-          let p = pow-pos (length B) in
-          ap₂ (λ s t. value F (levels F B) s x ⊕ t ⊗ vanishing F B x) (take-all (2 ^ length B) (1# ∷ []) p) (beyond (2 ^ length B) p)
-          ∙ ap₂ _⊕_ (value-single (levels F B) 1# x) (S.zero-mul laws _) ∙ S.add-zero laws 1#
-        where
-          beyond : (n : ℕ) → 1 ≤ n → getD (1# ∷ []) n 0# ≡ 0#
-          beyond zero h = absurd (omega arith)
-          beyond (suc n) h = refl
-
-  length-longer : (u v : List K) → length u ≤ length (add F u v)
-  unfolding add
-  length-longer [] v = omega arith
-  length-longer (x ∷ u) [] = omega arith
-  length-longer (x ∷ u) (y ∷ v) = omega (arith, length-longer u v)
-
-  length-mix : (f a : List K) (columns : List (List K)) → 1 ≤ length f → length a ≤ length (mix F f (a ∷ columns))
-  unfolding mix
-  length-mix [] a columns h = absurd (omega arith)
-  length-mix (c ∷ f) a columns h = omega (arith, length-map a (F .mul c), length-longer (scaled F c a) (mix F f columns))
-
-  -- z times a column
-  next-value : (B : List (Step K)) → RightSteps F B → (a : List K) (x : K) → getD a (2 ^ length B) 0# ≡ 0#
-      → whole F B (nextColumn F B a) x ≡ x ⊗ whole F B a x
-  unfolding whole nextColumn
-  next-value B ok a x e =
-      ap₂ (λ s t. value F L s x ⊕ t ⊗ w) (take-at (up .0) (up .1 ∷ []) n long) (getD-at (up .0) (up .1) [] 0# n long)
-      ∙ sym (raisedIn-value B ok (take n a) x)
-      ∙ ap (λ y. x ⊗ y) (sym (ap (λ y. value F L (take n a) x ⊕ y) (ap (λ y. y ⊗ w) e ∙ S.zero-mul laws w) ∙ S.add-zero laws _))
-    where
-      L : List (Level K)
-      L = levels F B
-
-      n : ℕ
-      n = 2 ^ length B
-
-      w : K
-      w = vanishing F B x
-
-      up : List K × K
-      up = raisedIn F B (take n a)
-
-      long : length (up .0) ≡ n
-      long = length-raisedIn B (take n a)
-
-  -- the mix of the columns has the polynomial's values
-  pub mix-value : (B : List (Step K)) → RightSteps F B → (f : List K) (a : List K) (columns : List (List K)) (x y : K) → Columns F B a columns
-      → whole F B a x ≡ y → length f ≤ suc (length columns) → whole F B (mix F f (a ∷ columns)) x ≡ y ⊗ eval F f x
-  unfolding mix eval
-  mix-value B ok [] a columns x y cs e h = whole-none B x ∙ sym (S.mul-zero laws y)
-  mix-value B ok (c ∷ []) a columns x y cs e h =
-      whole-add B (scaled F c a) [] x ∙ ap₂ _⊕_ (whole-scaled B c a x ∙ ap (λ t. c ⊗ t) e) (whole-none B x) ∙ S.add-zero laws _ ∙ mul-comm c y
-      ∙ ap (λ t. y ⊗ t) (sym (ap (λ t. c ⊕ t) (S.mul-zero laws x) ∙ S.add-zero laws c))
-  mix-value B ok (c ∷ d ∷ f) a [] x y cs e h = absurd (omega arith)
-  mix-value B ok (c ∷ d ∷ f) a (b ∷ columns) x y cs e h =
-      whole-add B (scaled F c a) (mix F (d ∷ f) (b ∷ columns)) x
-      ∙ ap₂ _⊕_ (whole-scaled B c a x ∙ ap (λ t. c ⊗ t) e ∙ mul-comm c y)
-      (mix-value B ok (d ∷ f) b columns x (x ⊗ y) (cs .2) (sym (ap (λ l. whole F B l x) (cs .1)) ∙ next-value B ok a x (cs .0) ∙ ap (λ t. x ⊗ t) e) (omega arith)
-      ∙ ap (λ t. t ⊗ eval F (d ∷ f) x) (mul-comm x y) ∙ mul-assoc y x _)
-      ∙ sym (mul-add y c _)
-
-  -- ---- the law: the transform gives the values at the points of the coset
-
-  length-take-le′ : (n : ℕ) (a : List K) → n ≤ length a → length (take n a) ≡ n
-  length-take-le′ n a h = simp length-take (omega arith)
-
-  pub coset-values : (B : List (Step K)) → RightSteps F B → (a : List K) → 2 ^ length B ≤ length a → (c : K)
-      → transform F (mults F (levels F B) c) (onCoset F B a c) ≡ map (whole F B a) (points F (levels F B) c)
-  unfolding onCoset whole
-  coset-values B ok a h c =
-      T.transform-values laws L (levels-hold B ok) c start (length-add-le (take n a) (top ⊗ w ∷ []) (omega (arith, long, pow-pos (length B))) ∙ long ∙ sym (size-levels B))
-      ∙ T.transform-agree laws L (vanishing-additive B) (vanishing-vanishes B ok) (value F L start) (λ x. value F L (take n a) x ⊕ top ⊗ vanishing F B x) c
-      (λ x e. T.value-add laws L (take n a) (top ⊗ w ∷ []) x ∙ ap (λ y. value F L (take n a) x ⊕ y) (value-single L (top ⊗ w) x ∙ ap (λ y. top ⊗ y) (sym e)))
-    where
-      L : List (Level K)
-      L = levels F B
-
-      n : ℕ
-      n = 2 ^ length B
-
-      w : K
-      w = vanishing F B c
-
-      top : K
-      top = getD a n 0#
-
-      start : List K
-      start = add F (take n a) (top ⊗ w ∷ [])
-
-      long : length (take n a) ≡ n
-      long = length-take-le′ n a h
-
-  -- the values of f
-  pub mixed-values : (B : List (Step K)) → RightSteps F B → (f z : List K) (columns : List (List K)) → All (λ c. c ≡ 0#) z → 2 ^ length B ≤ length z
-      → Columns F B (1# ∷ z) columns → 1 ≤ length f → length f ≤ suc (length columns) → (c : K)
-      → transform F (mults F (levels F B) c) (onCoset F B (mix F f ((1# ∷ z) ∷ columns)) c) ≡ map (eval F f) (points F (levels F B) c)
-  mixed-values B ok f z columns zeros n cs some h c =
-      coset-values B ok (mix F f ((1# ∷ z) ∷ columns)) (omega (arith, length-mix f (1# ∷ z) columns some)) c
-      ∙ map-same (points F (levels F B) c)
-    where
-      map-same : (l : List K) → map (whole F B (mix F f ((1# ∷ z) ∷ columns))) l ≡ map (eval F f) l
-      map-same [] = refl
-      map-same (x ∷ l) = ap₂ _∷_ (mix-value B ok f (1# ∷ z) columns x 1# cs (first-column B z x zeros) h ∙ one-mul (eval F f x)) (map-same l)

@@ -1,6 +1,6 @@
 -- A map that respects sums and products respects the transform.
 --   Respects          a map that respects sums and products where a property holds
---   all-take, all-drop, all-add, all-scaled, all-transform   what the operations keep
+--   all-take, all-drop, all-append, all-add, all-scaled, all-transform   what the operations keep
 --   transform-image   the transform of the images is the image of the transform
 -- Assumes nothing.
 use mathlib.Core.Path.{_≡_, refl, sym, ap, ap₂, _∙_}
@@ -28,6 +28,10 @@ pub all-drop : {A : Type 0} (P : A → Type 0) (n : ℕ) (a : List A) → All P 
 all-drop P zero a h = h
 all-drop P (suc n) [] h = tt
 all-drop P (suc n) (x ∷ a) h = all-drop P n a (h .1)
+
+pub all-append : {A : Type 0} (P : A → Type 0) (s t : List A) → All P s → All P t → All P (s ++ t)
+all-append P [] t h k = k
+all-append P (x ∷ s) t h k = (h .0, all-append P s t (h .1) k)
 
 pub map-take : {A B : Type 0} (φ : A → B) (n : ℕ) (a : List A) → map φ (take n a) ≡ take n (map φ a)
 map-take φ zero a = refl
@@ -99,7 +103,7 @@ module _ {A B : Type 0} {F : Ops A} {G : Ops B} {P : A → Type 0} {φ : A → B
   unfolding transform
   all-transform leaf a h = h
   all-transform (node e l r) a h =
-      all-append (transform F l u) (transform F r (add F u (drop n a))) (all-transform l u (all-lower e n a h))
+      all-append P (transform F l u) (transform F r (add F u (drop n a))) (all-transform l u (all-lower e n a h))
       (all-transform r (add F u (drop n a)) (all-add u (drop n a) (all-lower e n a h) (all-drop P n a h)))
     where
       n : ℕ
@@ -107,7 +111,3 @@ module _ {A B : Type 0} {F : Ops A} {G : Ops B} {P : A → Type 0} {φ : A → B
 
       u : List A
       u = lower F e n a
-
-      all-append : (s t : List A) → All P s → All P t → All P (s ++ t)
-      all-append [] t h k = k
-      all-append (x ∷ s) t h k = (h .0, all-append s t (h .1) k)

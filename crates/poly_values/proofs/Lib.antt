@@ -4,10 +4,10 @@ pub mod Lists
 -- the transform over an abstract field, and its image under a map
 pub mod Transform
 pub mod Image
--- the basis: steps, levels, columns; over elements, then over numbers
+-- the basis: steps and levels; over elements, then over numbers
 pub mod Basis
 pub mod Numbers
--- the same for any number of coefficients
+-- any number of coefficients in it; over elements, then over numbers
 pub mod Blocks
 pub mod BlockNumbers
 -- bit planes: what every lane does

@@ -4,10 +4,11 @@
 --   getD-zeros          zeros at every place, and behind them
 --   getD-ended          a 0 more at the end changes no place
 --   getD-add, getD-scaled   the places of a sum and of a multiple of polynomials
+--   length-add-le       the length of a sum whose second part is no longer
 -- Assumes nothing.
 use mathlib.Core.Path.{_≡_, refl, sym, ap, ap₂, _∙_}
 use mathlib.Core.List.{List, [], _∷_, _++_, map}
-use Prim.Native.Nat.{ℕ, zero, suc, _<_}
+use Prim.Native.Nat.{ℕ, zero, suc, _<_, _≤_}
 use native.Mathlib.Omega.{arith}
 use lib.ListN.{getD, length, replicate}
 use Rattle.algebra.specs.Field.{Ops}
@@ -61,3 +62,10 @@ module _ {K : Type 0} (F : Ops K) where
   getD-scaled e z [] k = sym z
   getD-scaled e z (x ∷ a) zero = refl
   getD-scaled e z (x ∷ a) (suc k) = getD-scaled e z a k
+
+  pub length-add-le : (a b : List K) → length b ≤ length a → length (add F a b) ≡ length a
+  unfolding add
+  length-add-le [] [] h = refl
+  length-add-le [] (y ∷ b) h = absurd (omega arith)
+  length-add-le (x ∷ a) [] h = refl
+  length-add-le (x ∷ a) (y ∷ b) h = ap suc (length-add-le a b (omega arith))

@@ -1,6 +1,7 @@
 -- The constant tables, for any field: a test over each table, and the law that turns it into the rule.
 --   treeTest, tree-right        the multipliers of the transform
 --   laneTest, lanes-right       the values of an additive map in the lanes of a vector
+--   topTest, top-right, squareTest, squares-right   the vanishing map and its square
 --   columnTest, columns-right   the columns, each z times the one before
 --   aboveTest, above-right      the columns, each with nothing above its own lane
 -- Assumes nothing.
@@ -13,7 +14,7 @@ use native.Mathlib.Omega.{arith}
 use lib.Bits.{bitXor, xor-zero-r, xor-self, xor-comm, xor-lt}
 use lib.Pow.{pow-pos, pow-mono}
 use lib.Dec.{T, eqb, eqb→eq}
-use lib.ListN.{getD, length, drop, replicate}
+use lib.ListN.{getD, length, drop}
 use Rattle.algebra.specs.Field.{Ops}
 use Rattle.algebra.specs.Trial.{All}
 use Rattle.algebra.specs.Polynomial.{Below}
@@ -23,9 +24,10 @@ use Rattle.field.proofs.Additive.{Additive, linearMap, basis, by-basis}
 use Rattle.field.proofs.Xor.{xor-assoc, xor-cancel, xor-swap}
 use Rattle.field.proofs.Ring.{RingLaws, ring, FullDegree}
 use Rattle.poly_values.specs.Transform.{Mults, leaf, node, mults, mapMults}
-use Rattle.poly_values.specs.Basis.{Step, vanishing, RightSteps, levels, nextColumn, Columns}
+use Rattle.poly_values.specs.Basis.{Step, vanishing, RightSteps, levels}
+use Rattle.poly_values.specs.Blocks.{nextOf, powerIn, ColumnsOf}
 use Rattle.poly_values.specs.Planes.{lane, digitsNumber, wordsAt, treeOf, lanes, columnsOf, fieldBy, taps11}
-use Rattle.poly_values.specs.Tables.{steps11, TreeTable, TopTable, ColumnTable}
+use Rattle.poly_values.specs.Tables.{steps11, TreeTable, TopTable, SquareTable, ColumnTable, FirstColumns}
 use Rattle.poly_values.proofs.Numbers.{StepBelow}
 use Rattle.poly_values.proofs.Scalars.{words-next}
 
@@ -54,6 +56,15 @@ unfoldable pub topTest : Field → List (Step ℕ) → List ℕ → Bool
 unfolding laneTest vanishing mul basis
 topTest F B v = laneTest (basis (vanishing (numbers F) B) (F .degree)) 0 0 64 v
 
+-- the square of the vanishing map
+unfoldable pub squareOf : Field → List (Step ℕ) → ℕ → ℕ
+unfolding vanishing mul
+squareOf F B z = mul F (vanishing (numbers F) B z) (vanishing (numbers F) B z)
+
+unfoldable pub squareTest : Field → List (Step ℕ) → List ℕ → Bool
+unfolding laneTest squareOf basis
+squareTest F B v = laneTest (basis (squareOf F B) (F .degree)) 0 0 64 v
+
 unfoldable pub same : List ℕ → List ℕ → Bool
 same [] [] = true
 same [] (y ∷ b) = false
@@ -67,22 +78,33 @@ same-is [] (y ∷ b) t = absurd t
 same-is (x ∷ a) [] t = absurd t
 same-is (x ∷ a) (y ∷ b) t = ap₂ _∷_ (eqb→eq x y (bothTrue-left (eqb x y) (same a b) t)) (same-is a b (bothTrue-right (eqb x y) (same a b) t))
 
-unfoldable pub columnTest : Field → List (Step ℕ) → List ℕ → List (List ℕ) → Bool
-unfolding nextColumn mul same
-columnTest F B a [] = true
-columnTest F B a (b ∷ bs) = bothTrue (eqb (getD a (2 ^ length B) 0) 0) (bothTrue (same (nextColumn (numbers F) B a) b) (columnTest F B b bs))
+-- b is z times a; nothing stands behind the n blocks of a
+unfoldable pub raisedTest : Field → List (Step ℕ) → ℕ → List ℕ → List ℕ → Bool
+unfolding nextOf mul same
+raisedTest F B n a b = bothTrue (eqb (getD a (n * 2 ^ length B) 0) 0) (same (nextOf (numbers F) B n 0 a) b)
 
-pub columns-right : (F : Field) (B : List (Step ℕ)) (a : List ℕ) (bs : List (List ℕ)) → T (columnTest F B a bs) → Columns (numbers F) B a bs
-unfolding columnTest
-columns-right F B a [] t = tt
-columns-right F B a (b ∷ bs) t = (
-  eqb→eq (getD a (2 ^ length B) 0) 0 (bothTrue-left (eqb (getD a (2 ^ length B) 0) 0) rest t),
-  same-is (nextColumn (numbers F) B a) b (bothTrue-left (same (nextColumn (numbers F) B a) b) (columnTest F B b bs) (bothTrue-right (eqb (getD a (2 ^ length B) 0) 0) rest t)),
-  columns-right F B b bs (bothTrue-right (same (nextColumn (numbers F) B a) b) (columnTest F B b bs) (bothTrue-right (eqb (getD a (2 ^ length B) 0) 0) rest t)),
+unfoldable pub columnTest : Field → List (Step ℕ) → ℕ → List ℕ → List (List ℕ) → Bool
+unfolding raisedTest
+columnTest F B n a [] = true
+columnTest F B n a (b ∷ bs) = bothTrue (raisedTest F B n a b) (columnTest F B n b bs)
+
+pub columns-right : (F : Field) (B : List (Step ℕ)) (n : ℕ) (a : List ℕ) (bs : List (List ℕ)) → T (columnTest F B n a bs) → ColumnsOf (numbers F) B n a bs
+unfolding columnTest raisedTest
+columns-right F B n a [] t = tt
+columns-right F B n a (b ∷ bs) t = (
+  eqb→eq (getD a (n * 2 ^ length B) 0) 0 (bothTrue-left none raised here),
+  same-is (nextOf (numbers F) B n 0 a) b (bothTrue-right none raised here),
+  columns-right F B n b bs (bothTrue-right (raisedTest F B n a b) (columnTest F B n b bs) t),
 )
   where
-    rest : Bool
-    rest = bothTrue (same (nextColumn (numbers F) B a) b) (columnTest F B b bs)
+    none : Bool
+    none = eqb (getD a (n * 2 ^ length B) 0) 0
+
+    raised : Bool
+    raised = same (nextOf (numbers F) B n 0 a) b
+
+    here : T (bothTrue none raised)
+    here = bothTrue-left (bothTrue none raised) (columnTest F B n b bs) t
 
 -- n lanes from l on are 0
 unfoldable pub zeroTest : ℕ → ℕ → List ℕ → Bool
@@ -97,22 +119,22 @@ zeros-right l (suc n) v t zero h = ap (λ i. lane i v) (add-zero l) ∙ eqb→eq
 zeros-right l (suc n) v t (suc k) h =
     ap (λ i. lane i v) (add-suc l k ∙ sym (suc-add l k)) ∙ zeros-right (suc l) n v (bothTrue-right (eqb (lane l v) 0) (zeroTest (suc l) n v) t) k (omega arith)
 
--- of the vectors from the j-th on, c and one more, each has nothing above its own lane
-unfoldable pub aboveTest : ℕ → ℕ → ℕ → List ℕ → Bool
+-- of the vectors from the j-th on, c of them, each has nothing in its d lanes above its own, one lane less in the next
+unfoldable pub aboveTest : ℕ → ℕ → ℕ → ℕ → List ℕ → Bool
 unfolding zeroTest
-aboveTest m j zero g = true
-aboveTest m j (suc c) g = bothTrue (zeroTest (suc j) (suc c) (wordsAt m g 0)) (aboveTest m (suc j) c (drop m g))
+aboveTest m j d zero g = true
+aboveTest m j d (suc c) g = bothTrue (zeroTest (suc j) d (wordsAt m g 0)) (aboveTest m (suc j) (d - 1) c (drop m g))
 
-above-right : (m j c : ℕ) (g : List ℕ) → T (aboveTest m j c g) → (i l : ℕ) → j + i < l → l ≤ j + c → lane l (wordsAt m g (i * m)) ≡ 0
+above-right : (m j d c : ℕ) (g : List ℕ) → T (aboveTest m j d c g) → (i l : ℕ) → i < c → j + i < l → l ≤ j + d → lane l (wordsAt m g (i * m)) ≡ 0
 unfolding aboveTest
-above-right m j zero g t i l h k = absurd (omega arith)
-above-right m j (suc c) g t zero l h k =
-    let d : suc j + (l - suc j) ≡ l = omega arith in
-    ap₂ (λ i n. lane i (wordsAt m g n)) (sym d) (zero-mul m)
-    ∙ zeros-right (suc j) (suc c) (wordsAt m g 0) (bothTrue-left (zeroTest (suc j) (suc c) (wordsAt m g 0)) (aboveTest m (suc j) c (drop m g)) t) (l - suc j) (omega arith)
-above-right m j (suc c) g t (suc i) l h k =
+above-right m j d zero g t i l b h k = absurd (omega arith)
+above-right m j d (suc c) g t zero l b h k =
+    let e : suc j + (l - suc j) ≡ l = omega arith in
+    ap₂ (λ i n. lane i (wordsAt m g n)) (sym e) (zero-mul m)
+    ∙ zeros-right (suc j) d (wordsAt m g 0) (bothTrue-left (zeroTest (suc j) d (wordsAt m g 0)) (aboveTest m (suc j) (d - 1) c (drop m g)) t) (l - suc j) (omega arith)
+above-right m j d (suc c) g t (suc i) l b h k =
     ap (lane l) (sym (words-next m i g))
-    ∙ above-right m (suc j) c (drop m g) (bothTrue-right (zeroTest (suc j) (suc c) (wordsAt m g 0)) (aboveTest m (suc j) c (drop m g)) t) i l (omega arith) (omega arith)
+    ∙ above-right m (suc j) (d - 1) c (drop m g) (bothTrue-right (zeroTest (suc j) d (wordsAt m g 0)) (aboveTest m (suc j) (d - 1) c (drop m g)) t) i l (omega arith) (omega arith) (omega arith)
 
 -- ---- the laws
 
@@ -129,7 +151,7 @@ lanes-right m e ad off l (suc n) v t small (suc k) h =
     (λ j d. small j (omega arith)) k (omega arith) ∙ ap (λ j. e (bitXor off j)) (sym i)
 
 module _ (F : Field) (monic : FullDegree F) where
-  open RingLaws (ring F monic) using (mul-comm, mul-xor-l, mul-xor-r)
+  open RingLaws (ring F monic) using (mul-comm, mul-xor-l, mul-xor-r, square-xor)
 
   twice : (a b w : ℕ) → bitXor (bitXor a w) (bitXor b w) ≡ bitXor a b
   twice a b w = xor-swap a w b w ∙ ap (bitXor (bitXor a b)) (xor-self w) ∙ xor-zero-r (bitXor a b)
@@ -150,6 +172,10 @@ module _ (F : Field) (monic : FullDegree F) where
   pub part-xor : (s : Step ℕ) (B : List (Step ℕ)) → Additive (partOf F s B)
   unfolding partOf
   part-xor s B x y = ap (mul F (s .back)) (vanishing-xor B x y) ∙ mul-xor-r (s .back) (vanishing (numbers F) B x) (vanishing (numbers F) B y)
+
+  square-of-xor : (B : List (Step ℕ)) → Additive (squareOf F B)
+  unfolding squareOf
+  square-of-xor B x y = ap (λ w. mul F w w) (vanishing-xor B x y) ∙ square-xor (vanishing (numbers F) B x) (vanishing (numbers F) B y)
 
   module _ (q : List ℕ) (degree : F .degree ≡ length q) (wide : 6 ≤ F .degree) where
     lane-below : (off l : ℕ) → off < 2 ^ F .degree → l < 64 → bitXor off l < 2 ^ F .degree
@@ -196,41 +222,60 @@ module _ (F : Field) (monic : FullDegree F) where
         ∙ lanes-right (F .degree) (vanishing (numbers F) B) (vanishing-xor B) 0 0 64 v t (λ k d. lane-below 0 k (pow-pos (F .degree)) (omega arith)) l h
         ∙ ap (vanishing (numbers F) B) (ap (bitXor 0) (zero-add l))
 
+    pub squares-right : (B : List (Step ℕ)) (v : List ℕ) → T (squareTest F B v) → (l : ℕ) → l < 64
+        → lane l v ≡ mul F (vanishing (numbers F) B l) (vanishing (numbers F) B l)
+    unfolding squareTest squareOf
+    squares-right B v t l h =
+        ap (λ i. lane i v) (sym (zero-add l))
+        ∙ lanes-right (F .degree) (squareOf F B) (square-of-xor B) 0 0 64 v t (λ k d. lane-below 0 k (pow-pos (F .degree)) (omega arith)) l h
+        ∙ ap (squareOf F B) (ap (bitXor 0) (zero-add l))
+
 -- ---- the tables of field 11
 
-unfoldable pub tableTest : List ℕ → List (Step ℕ) → ℕ → List ℕ → Bool
-unfolding same columnTest aboveTest columnsOf lanes digitsNumber
-tableTest q B n g =
-    bothTrue (bothTrue (eqb (length g) (suc n * length q)) (aboveTest (length q) 0 n g))
-    (bothTrue (same (lanes 0 (suc (2 ^ length B)) (wordsAt (length q) g 0)) (1 ∷ replicate (2 ^ length B) 0))
-    (columnTest (fieldBy q) B (1 ∷ replicate (2 ^ length B) 0) (columnsOf (length q) (suc (2 ^ length B)) n (drop (length q) g))))
+unfoldable pub tableTest : List ℕ → List (Step ℕ) → ℕ → ℕ → ℕ → ℕ → List ℕ → Bool
+unfolding columnTest columnsOf lanes digitsNumber powerIn
+tableTest q B n j c t g =
+    bothTrue (eqb (length g) (c * length q))
+    (columnTest (fieldBy q) B n (powerIn (numbers (fieldBy q)) B n j) (columnsOf (length q) (n * 2 ^ length B) t c g))
 
-pub columns-table : (q : List ℕ) (B : List (Step ℕ)) (n : ℕ) (g : List ℕ) → T (tableTest q B n g) → ColumnTable q B n g
+pub columns-table : (q : List ℕ) (B : List (Step ℕ)) (n j c t : ℕ) (g : List ℕ) → T (tableTest q B n j c t g) → ColumnTable q B n j c t g
 unfolding tableTest
-columns-table q B n g t = record {
-  long = eqb→eq (length g) (suc n * length q) (bothTrue-left long above (bothTrue-left shape rest t));
-  first = same-is (lanes 0 (suc (2 ^ length B)) (wordsAt (length q) g 0)) (1 ∷ replicate (2 ^ length B) 0) (bothTrue-left one others (bothTrue-right shape rest t));
-  others = columns-right (fieldBy q) B (1 ∷ replicate (2 ^ length B) 0) (columnsOf (length q) (suc (2 ^ length B)) n (drop (length q) g)) (bothTrue-right one others (bothTrue-right shape rest t));
-  above = λ j l h k. above-right (length q) 0 n g (bothTrue-right long above (bothTrue-left shape rest t)) j l (omega arith) (omega arith);
+columns-table q B n j c t g ok = record {
+  long = eqb→eq (length g) (c * length q) (bothTrue-left long columns ok);
+  columns = columns-right (fieldBy q) B n (powerIn (numbers (fieldBy q)) B n j) (columnsOf (length q) (n * 2 ^ length B) t c g) (bothTrue-right long columns ok);
 }
   where
     long : Bool
-    long = eqb (length g) (suc n * length q)
+    long = eqb (length g) (c * length q)
 
-    above : Bool
-    above = aboveTest (length q) 0 n g
+    columns : Bool
+    columns = columnTest (fieldBy q) B n (powerIn (numbers (fieldBy q)) B n j) (columnsOf (length q) (n * 2 ^ length B) t c g)
 
-    shape : Bool
-    shape = bothTrue long above
+unfoldable pub firstTest : List ℕ → List (Step ℕ) → ℕ → ℕ → List ℕ → Bool
+unfolding same tableTest aboveTest lanes digitsNumber powerIn
+firstTest q B n c g =
+    bothTrue (same (lanes 0 (n * 2 ^ length B) (wordsAt (length q) g 0) ++ 0 ∷ []) (powerIn (numbers (fieldBy q)) B n 0))
+    (bothTrue (aboveTest (length q) 0 (n * 2 ^ length B - 1) (suc c) g) (tableTest q B n 0 c 0 (drop (length q) g)))
+
+pub first-columns : (q : List ℕ) (B : List (Step ℕ)) (n c : ℕ) (g : List ℕ) → T (firstTest q B n c g) → FirstColumns q B n c g
+unfolding firstTest
+first-columns q B n c g t = record {
+  first = same-is (lanes 0 w (wordsAt (length q) g 0) ++ 0 ∷ []) (powerIn (numbers (fieldBy q)) B n 0) (bothTrue-left one (bothTrue above others) t);
+  others = columns-table q B n 0 c 0 (drop (length q) g) (bothTrue-right above others (bothTrue-right one (bothTrue above others) t));
+  above = λ j l h k b. above-right (length q) 0 (w - 1) (suc c) g (bothTrue-left above others (bothTrue-right one (bothTrue above others) t)) j l (omega arith) (omega arith) (omega arith);
+}
+  where
+    w : ℕ
+    w = n * 2 ^ length B
 
     one : Bool
-    one = same (lanes 0 (suc (2 ^ length B)) (wordsAt (length q) g 0)) (1 ∷ replicate (2 ^ length B) 0)
+    one = same (lanes 0 w (wordsAt (length q) g 0) ++ 0 ∷ []) (powerIn (numbers (fieldBy q)) B n 0)
+
+    above : Bool
+    above = aboveTest (length q) 0 (w - 1) (suc c) g
 
     others : Bool
-    others = columnTest (fieldBy q) B (1 ∷ replicate (2 ^ length B) 0) (columnsOf (length q) (suc (2 ^ length B)) n (drop (length q) g))
-
-    rest : Bool
-    rest = bothTrue one others
+    others = tableTest q B n 0 c 0 (drop (length q) g)
 
 pub small11 : All (StepBelow 2048) steps11
 small11 = (
@@ -260,3 +305,6 @@ tree11 g t = record { multipliers = λ l h. tree-right (fieldBy taps11) monic11 
 
 pub tops11 : (v : List ℕ) → T (topTest (fieldBy taps11) steps11 v) → TopTable taps11 steps11 v
 tops11 v t = record { lanes = λ l h. top-right (fieldBy taps11) monic11 taps11 refl (omega arith) steps11 v t l h }
+
+pub squares11 : (v : List ℕ) → T (squareTest (fieldBy taps11) steps11 v) → SquareTable taps11 steps11 v
+squares11 v t = record { lanes = λ l h. squares-right (fieldBy taps11) monic11 taps11 refl (omega arith) steps11 v t l h }

@@ -1,20 +1,20 @@
--- The law of the transform, carried from field elements to numbers below the field's size.
---   lowStep              a step as numbers
---   transform-values     the transform of the mixed columns gives the values of f at the points of the coset of c
+-- What the law of the transform is made of, carried from field elements to numbers below the field's size.
+--   lowStep, lowSteps, liftSteps        steps as numbers, and as elements
+--   low-vanishing, low-points, low-mults, low-raisedIn, low-values   the same on numbers as on elements
+--   low-same, liftAll, zero-list        lists of elements
 -- Assumes nothing.
-use mathlib.Core.Path.{_≡_, refl, sym, ap, ap₂, _∙_, subst}
+use mathlib.Core.Path.{_≡_, refl, sym, ap, ap₂, _∙_}
 use mathlib.Core.List.{List, [], _∷_, _++_, map, map-append}
-use Prim.Native.Nat.{ℕ, zero, suc, _+_, _^_, _<_, _≤_}
+use Prim.Native.Nat.{ℕ, zero, suc, _^_, _<_}
 use native.Mathlib.Omega.{arith}
 use lib.ListN.{getD, length, take, drop, length-map, List·getD-map}
 use Rattle.algebra.specs.Field.{Ops, OnNumbers}
 use Rattle.algebra.specs.Trial.{All}
 use Rattle.algebra.specs.Polynomial.{add, eval, Below}
-use Rattle.algebra.proofs.Crossing.{Elem, elem-equal, elems, laws, low, low-add, low-scale, low-eval, lift, low-lift}
-use Rattle.poly_values.specs.Transform.{Level, Mults, node, points, scaled, transform, mults, mapMults}
-use Rattle.poly_values.specs.Basis.{Step, vanishing, RightSteps, levels, joinRaised, raisedIn, nextColumn, Columns, mix, onCoset}
-use Rattle.poly_values.proofs.Image.{Respects, transform-image, map-take, map-drop}
-use Rattle.poly_values.proofs.Basis.{mixed-values}
+use Rattle.algebra.proofs.Crossing.{Elem, elem-equal, elems, low, low-add, low-eval, lift, low-lift}
+use Rattle.poly_values.specs.Transform.{node, points, mults, mapMults}
+use Rattle.poly_values.specs.Basis.{Step, vanishing, RightSteps, levels, joinRaised, raisedIn}
+use Rattle.poly_values.proofs.Image.{Respects, map-take, map-drop}
 
 -- the numbers of a step are below q
 pub record StepBelow (q : ℕ) (s : Step ℕ) : Type 0 where
@@ -65,7 +65,7 @@ module _ {G : Ops ℕ} {q : ℕ} (N : OnNumbers G q) where
   low-mults [] c = refl
   low-mults (b ∷ B) c = λ i. node (G .mul (b .back .0) (low-vanishing B c i)) (low-mults B c i) (low-mults B (E .add c (b .step)) i)
 
-  low-getD : (l : List (Elem q)) (n : ℕ) → φ (getD l n (E .zero)) ≡ getD (low N l) n (G .zero)
+  pub low-getD : (l : List (Elem q)) (n : ℕ) → φ (getD l n (E .zero)) ≡ getD (low N l) n (G .zero)
   low-getD l n = sym (List·getD-map φ l n (E .zero))
 
   abbrev pub lowPair : List (Elem q) × Elem q → List ℕ × ℕ
@@ -85,13 +85,6 @@ module _ {G : Ops ℕ} {q : ℕ} (N : OnNumbers G q) where
       join lo hi = ap (λ l. (l, G .mul (hi .1 .0) (s .back .0)))
           (map-append φ (lo .0) (add E (hi .0) (_ ∷ [])) ∙ ap (λ l. low N (lo .0) ++ l) (low-add N (hi .0) (_ ∷ [])))
 
-  low-next : (B : List (Step (Elem q))) (a : List (Elem q)) → low N (nextColumn E B a) ≡ nextColumn G (lowSteps B) (low N a)
-  unfolding nextColumn
-  low-next B a =
-      map-append φ (raisedIn E B (take (2 ^ length B) a) .0) (_ ∷ [])
-      ∙ ap (λ p. p .0 ++ p .1 ∷ []) (low-raisedIn B (take (2 ^ length B) a))
-      ∙ ap (λ l. raisedIn G (lowSteps B) l .0 ++ raisedIn G (lowSteps B) l .1 ∷ []) (map-take φ (2 ^ length B) a ∙ ap (λ n. take (2 ^ n) (low N a)) (sym (length-map B lowStep)))
-
   -- two lists of elements with the same numbers are the same
   pub low-same : (a b : List (Elem q)) → low N a ≡ low N b → a ≡ b
   low-same [] [] e = refl
@@ -101,29 +94,6 @@ module _ {G : Ops ℕ} {q : ℕ} (N : OnNumbers G q) where
 
   unfoldable pub lows : List (List (Elem q)) → List (List ℕ)
   lows = map (low N)
-
-  columns-up : (B : List (Step (Elem q))) (a : List (Elem q)) (bs : List (List (Elem q))) → Columns G (lowSteps B) (low N a) (lows bs) → Columns E B a bs
-  unfolding lows
-  columns-up B a [] h = tt
-  columns-up B a (b ∷ bs) h = (
-    elem-equal (low-getD a (2 ^ length B) ∙ ap (λ n. getD (low N a) (2 ^ n) (G .zero)) (sym (length-map B lowStep)) ∙ h .0),
-    low-same (nextColumn E B a) b (low-next B a ∙ h .1),
-    columns-up B b bs (h .2),
-  )
-
-  low-mix : (f : List (Elem q)) (columns : List (List (Elem q))) → low N (mix E f columns) ≡ mix G (low N f) (lows columns)
-  unfolding mix lows
-  low-mix [] columns = refl
-  low-mix (c ∷ f) [] = refl
-  low-mix (c ∷ f) (a ∷ columns) = low-add N (scaled E c a) (mix E f columns) ∙ ap₂ (add G) (low-scale N c a) (low-mix f columns)
-
-  low-onCoset : (B : List (Step (Elem q))) (a : List (Elem q)) (c : Elem q)
-      → low N (onCoset E B a c) ≡ onCoset G (lowSteps B) (low N a) (φ c)
-  unfolding onCoset
-  low-onCoset B a c =
-      low-add N (take (2 ^ length B) a) (_ ∷ [])
-      ∙ ap₂ (λ s x. add G s (x ∷ [])) (map-take φ (2 ^ length B) a ∙ ap (λ n. take (2 ^ n) (low N a)) (sym (length-map B lowStep)))
-      (ap₂ (G .mul) (low-getD a (2 ^ length B) ∙ ap (λ n. getD (low N a) (2 ^ n) (G .zero)) (sym (length-map B lowStep))) (low-vanishing B c))
 
   pub low-values : (f s : List (Elem q)) → low N (map (eval E f) s) ≡ map (eval G (low N f)) (low N s)
   low-values f [] = refl
@@ -135,21 +105,6 @@ module _ {G : Ops ℕ} {q : ℕ} (N : OnNumbers G q) where
   pub anything : (a : List (Elem q)) → All (λ u. Unit {0}) a
   anything [] = tt
   anything (x ∷ a) = (tt, anything a)
-
-  values-low : (B : List (Step (Elem q))) → RightSteps G (lowSteps B) → (f z : List (Elem q)) (columns : List (List (Elem q))) → All (λ c. c ≡ E .zero) z
-      → 2 ^ length B ≤ length z → Columns G (lowSteps B) (low N (E .one ∷ z)) (lows columns) → 1 ≤ length f → length f ≤ suc (length columns) → (c : Elem q)
-      → transform G (mults G (levels G (lowSteps B)) (φ c)) (onCoset G (lowSteps B) (mix G (low N f) (lows ((E .one ∷ z) ∷ columns))) (φ c))
-      ≡ map (eval G (low N f)) (points G (levels G (lowSteps B)) (φ c))
-  values-low B ok f z columns zeros n cs some h c =
-      sym (transform-image respects (mults E (levels E B) c) start (anything start)
-      ∙ ap₂ (transform G) (low-mults B c)
-      (low-onCoset B (mix E f ((E .one ∷ z) ∷ columns)) c
-      ∙ ap (λ a. onCoset G (lowSteps B) a (φ c)) (low-mix f ((E .one ∷ z) ∷ columns))))
-      ∙ ap (low N) (mixed-values (laws N) B (right-up B ok) f z columns zeros n (columns-up B (E .one ∷ z) columns cs) some h c)
-      ∙ low-values f (points E (levels E B) c) ∙ ap (map (eval G (low N f))) (low-points B c)
-    where
-      start : List (Elem q)
-      start = onCoset E B (mix E f ((E .one ∷ z) ∷ columns)) c
 
   pub liftAll : (ls : List (List ℕ)) → All (Below q) ls → List (List (Elem q))
   liftAll [] h = []
@@ -173,46 +128,3 @@ module _ {G : Ops ℕ} {q : ℕ} (N : OnNumbers G q) where
   unfolding zero-list
   low-zeros [] h = refl
   low-zeros (x ∷ l) h = ap₂ _∷_ (sym (h .0)) (low-zeros l (h .1))
-
-  -- ---- THE LAW over numbers: B the steps, zeros and columns the columns (the first is 1 and the zeros), c the coset
-  pub transform-values : (B : List (Step ℕ)) → All (StepBelow q) B → RightSteps G B → (f : List ℕ) → Below q f → (z : List ℕ) → All (λ c. c ≡ G .zero) z
-      → (columns : List (List ℕ)) → All (Below q) columns → 2 ^ length B ≤ length z → Columns G B (G .one ∷ z) columns
-      → 1 ≤ length f → length f ≤ suc (length columns) → (c : ℕ) → c < q
-      → transform G (mults G (levels G B) c) (onCoset G B (mix G f ((G .one ∷ z) ∷ columns)) c) ≡ map (eval G f) (points G (levels G B) c)
-  unfolding lows
-  transform-values B small ok f fs z zeros columns cols n cs some h c below =
-      subst (λ (B : List (Step ℕ)). RightSteps G B → 2 ^ length B ≤ length z → Columns G B (G .one ∷ z) columns
-      → transform G (mults G (levels G B) c) (onCoset G B (mix G f ((G .one ∷ z) ∷ columns)) c) ≡ map (eval G f) (points G (levels G B) c))
-      (low-liftSteps B small)
-      (λ ok n cs.
-      subst (λ (f : List ℕ). transform G (mults G (levels G B′) c) (onCoset G B′ (mix G f ((G .one ∷ z) ∷ columns)) c) ≡ map (eval G f) (points G (levels G B′) c))
-      (low-lift N f fs)
-      (subst (λ (l : List (List ℕ)). transform G (mults G (levels G B′) c) (onCoset G B′ (mix G (low N f′) ((G .one ∷ z) ∷ l)) c) ≡ map (eval G (low N f′)) (points G (levels G B′) c))
-      (low-liftAll columns cols)
-      (subst (λ (l : List ℕ). transform G (mults G (levels G B′) c) (onCoset G B′ (mix G (low N f′) ((G .one ∷ l) ∷ lows columns′)) c) ≡ map (eval G (low N f′)) (points G (levels G B′) c))
-      low-z
-      (values-low (liftSteps B small) ok f′ z′ columns′ zeros′
-      (omega (arith, n, ap length low-z ∙ refl, length-map z′ φ, ap (λ k. 2 ^ k) (length-map (liftSteps B small) lowStep)))
-      (subst (λ (l : List ℕ). Columns G B′ (G .one ∷ l) (lows columns′)) (sym low-z) (subst (λ (l : List (List ℕ)). Columns G B′ (G .one ∷ z) l) (sym (low-liftAll columns cols)) cs))
-      (omega (arith, length-map f′ φ, ap length (low-lift N f fs)))
-      (omega (arith, length-map f′ φ, ap length (low-lift N f fs), length-map columns′ (low N), ap length (low-liftAll columns cols)))
-      (c, below)))))
-      ok n cs
-    where
-      B′ : List (Step ℕ)
-      B′ = lowSteps (liftSteps B small)
-
-      f′ : List (Elem q)
-      f′ = lift N f fs
-
-      columns′ : List (List (Elem q))
-      columns′ = liftAll columns cols
-
-      z′ : List (Elem q)
-      z′ = zero-list (length z)
-
-      zeros′ : All (λ c. c ≡ E .zero) z′
-      zeros′ = zeros-are (length z)
-
-      low-z : low N z′ ≡ z
-      low-z = low-zeros z zeros

@@ -1,7 +1,8 @@
--- The first butterflies, of coefficients that are the same in every lane.
+-- The first vectors, of coefficients that are the same in every lane: butterflies of one block, and two blocks.
 --   words-same, words-other    the vector at a place after a store
 --   first-from                 one butterfly
 --   firsts-from, firsts-turn   one after the other
+--   two-from, two-turn         the vectors of two blocks, one after the other
 -- Assumes nothing.
 use mathlib.Core.Path.{_≡_, refl, sym, ap, ap₂, _∙_, subst}
 use mathlib.Core.List.{List, [], _∷_, _++_, append-assoc}
@@ -14,7 +15,7 @@ use lib.ListN.{getD, length, take, drop, length-take, List·getD-append}
 use lib.Seq.{paste, length-paste, drop-paste, getD-take, getD-drop, length-take-le, take-all}
 use Rattle.field.specs.Field.{Field, mul}
 use Rattle.field.proofs.Ring.{FullDegree, mul-comm}
-use Rattle.poly_values.specs.Planes.{lane, wordsAt, tabulate, sumWords, spreadWords, fieldBy, Multiple, Spread, First, Firsts}
+use Rattle.poly_values.specs.Planes.{lane, wordsAt, tabulate, sumWords, spreadWords, fieldBy, Multiple, Spread, First, Firsts, TwoBlocks}
 use Rattle.poly_values.proofs.Planes.{lane-sum, sum-words}
 use Rattle.poly_values.proofs.Rows.{words-at}
 use Rattle.poly_values.proofs.Lists.{length-tabulate, tabulate-below}
@@ -126,3 +127,34 @@ firsts-turn q e a h {w} {v} {p} {r} {s} k f g z = record {
     up i o d (no c) l b =
         ap (lane l) (g .others (h + i) (λ t. omega arith) (λ t. c (omega arith))) ∙ f .ups i o (omega (arith, c)) l b
         ∙ ap (λ v. bitXor (lane l v) (getD a (h + i) 0)) (sym (g .others i c (λ t. omega arith)))
+
+-- ---- two blocks
+
+pub two-from : (q b a : List ℕ) (h : ℕ) (p : List ℕ) → TwoBlocks q b a h 0 p p
+two-from q b a h p = record { long = refl; rows = λ i k l d. absurd (omega arith) }
+
+pub two-turn : (q b a : List ℕ) (h : ℕ) {w v : ℕ} {s m t p r u : List ℕ} → TwoBlocks q b a h w p r → getD a w 0 < 2 ^ length q → s ≡ spreadWords (length q) (getD a w 0)
+    → Multiple q (getD a (h + w) 0) b m → t ≡ sumWords (length q) s m → w * length q + length q ≤ length p → u ≡ paste r (w * length q) t (length q) → v ≡ suc w
+    → TwoBlocks q b a h v p u
+two-turn q b a h {w} {v} {s} {m} {t} {p} {r} {u} f small es em et room eu ev = record {
+  long = ap length eu ∙ length-paste r (w * n) t n within (omega (arith, nt)) ∙ f .long;
+  rows = λ i k l d. at i (omega arith) (ℕ-discrete i w) l d;
+}
+  where
+    n : ℕ
+    n = length q
+
+    within : w * n + n ≤ length r
+    within = omega (arith, f .long)
+
+    nt : length t ≡ n
+    nt = ap length et ∙ length-tabulate n _
+
+    S : Spread q (getD a w 0) s
+    S = spread-is q (getD a w 0) small es
+
+    at : (i : ℕ) → i < suc w → Dec (i ≡ w) → (l : ℕ) → l < 64 → lane l (wordsAt n u (i * n)) ≡ bitXor (getD a i 0) (mul (fieldBy q) (getD a (h + i) 0) (lane l b))
+    at i k (yes c) l d =
+        ap (λ (j : ℕ). lane l (wordsAt n u (j * n))) c ∙ ap (λ z. lane l (wordsAt n z (w * n))) eu ∙ ap (lane l) (words-same r t (w * n) n within nt ∙ et ∙ sum-words n s m (S .long) (em .long))
+        ∙ lane-sum l s m ∙ ap₂ bitXor (S .lanes l d) (em .lanes l) ∙ ap (λ (j : ℕ). bitXor (getD a j 0) (mul (fieldBy q) (getD a (h + j) 0) (lane l b))) (sym c)
+    at i k (no c) l d = ap (λ z. lane l (wordsAt n z (i * n))) eu ∙ ap (lane l) (words-other n r t w i within nt c) ∙ f .rows i (omega (arith, c)) l d

@@ -47,7 +47,7 @@ module _ {K : Type 0} {F : Ops K} (laws : Laws F) where
   take-map f (suc n) [] = refl
   take-map f (suc n) (x ∷ a) = ap (λ r. f x ∷ r) (take-map f n a)
 
-  drop-map : {B : Type 0} (f : K → B) (n : ℕ) (a : List K) → drop n (map f a) ≡ map f (drop n a)
+  pub drop-map : {B : Type 0} (f : K → B) (n : ℕ) (a : List K) → drop n (map f a) ≡ map f (drop n a)
   drop-map f zero a = refl
   drop-map f (suc n) [] = refl
   drop-map f (suc n) (x ∷ a) = drop-map f n a

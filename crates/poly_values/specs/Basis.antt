@@ -1,4 +1,4 @@
--- The basis of the transform, and how a polynomial comes into it.
+-- The basis of the transform.
 --   Step        a step of the space, the value of the vanishing map of the steps behind it there, and the inverse of
 --               that value
 --   vanishing   the product of z + u over the sums u of the steps: an additive map
@@ -6,20 +6,16 @@
 --   levels      the levels of a list of steps
 --   raisedIn    z times what stands in the basis: what stays in it, and the multiple of the vanishing map that falls
 --               out
---   whole       the value at z of coefficients in the basis, with one more behind them: that of the vanishing map
---   Columns     each list stands for z times what the one before it stands for
---   mix         the sum of the columns, each times its coefficient of f
---   onCoset     coefficients and the one more, brought together for the coset of c
 -- Nobody has to believe this file: it serves the inner contracts of this crate. What others cite is `Values` in
 -- Tables.
 -- Assumes nothing.
 use mathlib.Core.Path.{_≡_}
-use mathlib.Core.List.{List, [], _∷_, _++_, map}
-use Prim.Native.Nat.{ℕ, zero, suc, _+_, _^_}
+use mathlib.Core.List.{List, [], _∷_, _++_}
+use Prim.Native.Nat.{_^_}
 use lib.ListN.{getD, length, take, drop}
 use Rattle.algebra.specs.Field.{Ops}
 use Rattle.algebra.specs.Polynomial.{add}
-use Rattle.poly_values.specs.Transform.{Level, scaled, value}
+use Rattle.poly_values.specs.Transform.{Level}
 
 pub record Step (K : Type 0) : Type 0 where
   pub step : K
@@ -51,25 +47,3 @@ module _ {K : Type 0} (F : Ops K) where
   unfolding add
   raisedIn [] a = (F .zero ∷ [], getD a 0 (F .zero))
   raisedIn (s ∷ S) a = joinRaised s (raisedIn S (take (2 ^ length S) a)) (raisedIn S (drop (2 ^ length S) a))
-
-  -- one more coefficient behind the 2^k of the basis
-  unfoldable pub whole : List (Step K) → List K → K → K
-  whole S a z =
-      F .add (value F (levels S) (take (2 ^ length S) a) z) (F .mul (getD a (2 ^ length S) (F .zero)) (vanishing S z))
-
-  -- z times a column whose one more is 0
-  unfoldable pub nextColumn : List (Step K) → List K → List K
-  unfolding raisedIn
-  nextColumn S a = raisedIn S (take (2 ^ length S) a) .0 ++ raisedIn S (take (2 ^ length S) a) .1 ∷ []
-
-  abbrev pub Columns : List (Step K) → List K → List (List K) → Type 0
-  Columns S a [] = Unit {0}
-  Columns S a (b ∷ bs) = (getD a (2 ^ length S) (F .zero) ≡ F .zero) × (nextColumn S a ≡ b) × Columns S b bs
-
-  unfoldable pub mix : List K → List (List K) → List K
-  mix [] columns = []
-  mix (c ∷ f) [] = []
-  mix (c ∷ f) (a ∷ columns) = add F (scaled F c a) (mix f columns)
-
-  unfoldable pub onCoset : List (Step K) → List K → K → List K
-  onCoset S a c = add F (take (2 ^ length S) a) (F .mul (getD a (2 ^ length S) (F .zero)) (vanishing S c) ∷ [])

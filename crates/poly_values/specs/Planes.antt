@@ -11,9 +11,10 @@
 --   planeOps         planes as values that are added and multiplied;  fieldBy  the field whose polynomial has the
 --                    digits q below its top
 --   flat, treeOf     vectors in a row; the multipliers that a row holds
---   laneRow            one lane of a row;  columnsOf  vectors in a row as lists of lanes
+--   laneRow            one lane of a row;  columnsOf  vectors in a row as lists of lanes, and one more behind each
 --   mixAt            one lane of the sum of vectors, each times its coefficient
---   Multiple, FourMultiples, Spread, Mixed, First, Firsts, RowStartable, RowStarted   what the routines take and leave
+--   Multiple, FourMultiples, Spread, Mixed, First, Firsts, RowStartable, RowStarted, TwoBlocks   what the routines
+--                    take and leave
 --   taps11           the polynomial of field 11 below its top
 -- Nobody has to believe this file: it serves the inner contracts of this crate. What others cite is `Values` in
 -- Tables.
@@ -168,11 +169,16 @@ unfolding lane
 lanes l zero v = []
 lanes l (suc n) v = lane l v ∷ lanes (suc l) n v
 
--- c vectors of m words in a row, each as a list of n lanes
-unfoldable pub columnsOf : ℕ → ℕ → ℕ → List ℕ → List (List ℕ)
+-- t where no more columns come, else 0
+abbrev pub behind : ℕ → ℕ → ℕ
+behind zero t = t
+behind (suc c) t = 0
+
+-- c vectors of m words in a row, each as a list of n lanes and one more: t behind the last vector, 0 behind the others
+unfoldable pub columnsOf : ℕ → ℕ → ℕ → ℕ → List ℕ → List (List ℕ)
 unfolding lanes
-columnsOf m n zero g = []
-columnsOf m n (suc c) g = lanes 0 n (wordsAt m g 0) ∷ columnsOf m n c (drop m g)
+columnsOf m n t zero g = []
+columnsOf m n t (suc c) g = (lanes 0 n (wordsAt m g 0) ++ behind c t ∷ []) ∷ columnsOf m n t c (drop m g)
 
 -- lane l of n vectors of m words in a row
 unfoldable pub laneRow : ℕ → ℕ → ℕ → List ℕ → List ℕ
@@ -253,6 +259,13 @@ pub record Firsts (q e a : List ℕ) (h w : ℕ) (p p′ : List ℕ) : Type 0 wh
   pub ups : (i : ℕ) → 0 < i → i < w → (l : ℕ) → l < 64
       → lane l (wordsAt (length q) p′ ((h + i) * length q))
       ≡ bitXor (lane l (wordsAt (length q) p′ (i * length q))) (getD a (h + i) 0)
+
+-- the first w vectors are those of two blocks of h coefficients, the upper one times b
+pub record TwoBlocks (q b a : List ℕ) (h w : ℕ) (p p′ : List ℕ) : Type 0 where
+  pub long : length p′ ≡ length p
+  pub rows : (i : ℕ) → i < w → (l : ℕ) → l < 64
+      → lane l (wordsAt (length q) p′ (i * length q))
+      ≡ bitXor (getD a i 0) (mul (fieldBy q) (getD a (h + i) 0) (lane l b))
 
 -- the polynomial of field 11 below its top: x^2 + 1
 abbrev pub taps11 : List ℕ

@@ -18,25 +18,37 @@ ghost use Prim.Native.Nat.{_+_, _*_, _^_, _≤_, _<_};
 ghost use lib.Seq.{paste};
 ghost use mathlib.Core.List.{[], _∷_, _++_, map};
 ghost use lib.Bits.{bitAnd};
-ghost use lib.ListN.{length, take, replicate};
+ghost use lib.ListN.{getD, length, take, replicate};
 ghost use Rattle.algebra.specs.Polynomial.{Below};
 ghost use Rattle.poly_values.specs.Planes.{sum, pairWords, FourMultiples, carryFreeWords, folded, sumWords};
 ghost use Rattle.poly_values.specs.Planes.{laneProduct, taps11, wordsAt};
 ghost use Rattle.poly_values.specs.Planes.{butterflyAt, butterfliesAt, transformAt, lane};
 ghost use Rattle.poly_values.specs.Planes.{lanes, occupied, doubledWords, spreadWords, Multiple, Mixed, First};
-ghost use Rattle.poly_values.specs.Planes.{Firsts, RowStartable, RowStarted, halvesAt};
-ghost use Rattle.poly_values.specs.Tables.{steps11, TreeTable, TopTable, ColumnTable, Values};
+ghost use Rattle.poly_values.specs.Planes.{Firsts, RowStartable, RowStarted, halvesAt, TwoBlocks};
+ghost use Rattle.poly_values.specs.Tables.{steps11, TreeTable, TopTable, SquareTable, ColumnTable, FirstColumns};
+ghost use Rattle.poly_values.specs.Tables.{InBlocks, Values, vectors11, planes11, blocks11, coefficients11};
 
 mod tables;
 
 use crate::tables::COLUMNS;
 use crate::tables::MULTIPLIERS;
+use crate::tables::SQUARES;
 use crate::tables::TOP;
+use crate::tables::UPPER_COLUMNS;
 
-// The values of field 11 stand in as many vectors of 64 lanes, of 11 words each.
+// The values of field 11 stand in as many vectors of 64 lanes, of 11 words each: as many as LEVELS levels make.
 pub const VECTORS: usize = 32;
 
 pub const PLANES: usize = 11 * VECTORS;
+
+const LEVELS: usize = 5;
+
+// A block has as many coefficients as there are vectors. The most coefficients of one block, and of two: one more.
+const ONE_BLOCK: usize = VECTORS + 1;
+
+const BLOCKS: usize = 2 * VECTORS;
+
+pub const COEFFICIENTS: usize = BLOCKS + 1;
 
 // The sum in every lane.
 fn sum(a: [u64; 11], b: [u64; 11]) -> [u64; 11]
@@ -357,11 +369,25 @@ fn top11() -> [u64; 11]
     TOP
 }
 
-// Its columns.
-fn columns11() -> [u64; 363]
-    ensures { λ g. ⌜ ColumnTable taps11 steps11 32 g ⌝ }
+// Its square.
+fn squares11() -> [u64; 11]
+    ensures { λ v. ⌜ SquareTable taps11 steps11 v ⌝ }
+{
+    SQUARES
+}
+
+// The columns of z^0 to z^32.
+fn columns11() -> [u64; 11 * ONE_BLOCK]
+    ensures { λ g. ⌜ FirstColumns taps11 steps11 blocks11 vectors11 g ⌝ }
 {
     COLUMNS
+}
+
+// The columns of z^33 to z^64, the last of which has a 1 behind its blocks.
+fn upper_columns11() -> [u64; PLANES]
+    ensures { λ g. ⌜ ColumnTable taps11 steps11 blocks11 vectors11 vectors11 1 g ⌝ }
+{
+    UPPER_COLUMNS
 }
 
 // The butterfly of two coefficients x and y, into the vectors at places i and j.
@@ -459,24 +485,97 @@ fn read_lanes(v: [u64; 11], a: &mut [u16])
     }
 }
 
-// The values of f at every element of field 11, on bit planes: 32 vectors of 11 words, lane l of vector w for the
-// element 64 w + l.
-pub fn values11(f: &[u16], p: &mut [u64])
-    requires { do ⌜ Below 2048 (now f) × (1 ≤ length (now f)) × (length (now f) ≤ 33) × ((← ⟦p.len()⟧) ≡ 352) ⌝ }
-    ensures { λ _. ⌜ Values taps11 (now (f .entry)) (now (p .exit)) 32 ⌝ }
+// The values of at most ONE_BLOCK coefficients: all but the last are one block, which starts while its coefficients are
+// the same in every lane; the last is times the vanishing map, and only changes the first.
+fn one_block(f: &[u16], p: &mut [u64])
+    requires { ⌜ Below 2048 (now f) × (1 ≤ length (now f)) × (length (now f) ≤ vectors11 + 1)
+        × (length (now p) ≡ planes11) ⌝ }
+    ensures { λ _. ⌜ Values taps11 (now (f .entry)) (now (p .exit)) vectors11 ⌝ }
 {
     let columns = columns11();
     let v = mixed(&columns, f);
-    let mut a = [0u16; 33];
+    let mut a = [0u16; ONE_BLOCK];
     let n = f.len();
     read_lanes(v, &mut a[..n]);
     let top = top11();
     let b = spread(a[0]);
-    let c = multiple(a[32], top);
+    let c = multiple(a[VECTORS], top);
     let x = sum(b, c);
     let g = multipliers11();
-    let last: usize = 32;
-    start(&g, x, &a[..last], p, 5, 32);
+    let last = VECTORS;
+    start(&g, x, &a[..last], p, LEVELS, VECTORS);
+}
+
+// The coefficient of z^i: 0 behind the last.
+fn coefficient(f: &[u16], i: usize) -> u16
+    ensures { λ c. ⌜ c ≡ getD (now (f .entry)) i 0 ⌝ }
+{
+    if i < f.len() { f[i] } else { 0 }
+}
+
+// More than ONE_BLOCK coefficients in the basis: two blocks, and the one more, which is that of z^64 itself.
+fn in_blocks(f: &[u16]) -> [u16; COEFFICIENTS]
+    requires { ⌜ Below 2048 (now f) × (vectors11 + 1 ≤ length (now f)) × (length (now f) ≤ coefficients11) ⌝ }
+    ensures { λ a. ⌜ InBlocks taps11 steps11 blocks11 (now (f .entry)) a ⌝ }
+{
+    let lower = columns11();
+    let end = ONE_BLOCK;
+    let s = mixed(&lower, &f[..end]);
+    let upper = upper_columns11();
+    let t = mixed(&upper, &f[end..]);
+    let v = sum(s, t);
+    let mut a = [0u16; COEFFICIENTS];
+    let n = BLOCKS;
+    read_lanes(v, &mut a[..n]);
+    a[BLOCKS] = coefficient(f, BLOCKS);
+    a
+}
+
+// The row of two blocks of h coefficients, the upper one times b.
+fn two_rows(p: &mut [u64], b: [u64; 11], a: &[u16], h: usize)
+    requires { do ⌜ Below 2048 (now a) × (h + h ≤ (← ⟦a.len()⟧)) × (h * 11 ≡ (← ⟦p.len()⟧)) ⌝ }
+    ensures { λ _. ⌜ TwoBlocks taps11 b (now (a .entry)) h h (now (p .entry)) (now (p .exit)) ⌝ }
+{
+    let mut w: usize = 0;
+    while w < h {
+        let s = spread(a[w]);
+        let m = multiple(a[h + w], b);
+        let t = sum(s, m);
+        put_vector(p, w * 11, t);
+        w += 1;
+    }
+}
+
+// The values of more than ONE_BLOCK coefficients: no vector is the same in every lane, so all levels are butterflies.
+fn two_blocks(f: &[u16], p: &mut [u64])
+    requires { ⌜ Below 2048 (now f) × (vectors11 + 1 ≤ length (now f)) × (length (now f) ≤ coefficients11)
+        × (length (now p) ≡ planes11) ⌝ }
+    ensures { λ _. ⌜ Values taps11 (now (f .entry)) (now (p .exit)) vectors11 ⌝ }
+{
+    let a = in_blocks(f);
+    let top = top11();
+    two_rows(p, top, &a, VECTORS);
+    let squares = squares11();
+    let m = multiple(a[BLOCKS], squares);
+    let y = vector(p, 0);
+    let x = sum(y, m);
+    put_vector(p, 0, x);
+    let g = multipliers11();
+    fourier(&g, p, LEVELS, VECTORS);
+}
+
+// The values of f at every element of field 11, on bit planes: VECTORS vectors of 11 words, lane l of vector w for the
+// element 64 w + l.
+pub fn values11(f: &[u16], p: &mut [u64])
+    requires { ⌜ Below 2048 (now f) × (1 ≤ length (now f)) × (length (now f) ≤ coefficients11)
+        × (length (now p) ≡ planes11) ⌝ }
+    ensures { λ _. ⌜ Values taps11 (now (f .entry)) (now (p .exit)) vectors11 ⌝ }
+{
+    if f.len() <= ONE_BLOCK {
+        one_block(f, p);
+    } else {
+        two_blocks(f, p);
+    }
 }
 
 // The word whose digit l says whether the value in lane l of vector w is not 0.

@@ -24,7 +24,7 @@ slice-aggregate-values11 : tie.Need-slice-aggregate-values11 Inv-loop μ-loop
 slice-aggregate-values11 c = search needs
 
 values11-requires : tie.Need-values11-requires Inv-loop μ-loop
-values11-requires c κs = let s = c .before .before .before in (s .pre .0 .small, s .pre .0 .some, s .pre .0 .few, refl)
+values11-requires c κs = let s = c .before .before .before in let h = s .pre .0 .few in (s .pre .0 .small, s .pre .0 .some, omega arith, refl)
 
 loop-holds : tie.Need-loop-holds Inv-loop μ-loop
 loop-holds c = (omega arith, tried-from 11 _ _)

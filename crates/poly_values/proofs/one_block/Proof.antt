@@ -1,18 +1,17 @@
--- `poly_values::values11` meets its contract: the coefficients in the basis, and the transform.
+-- `poly_values::one_block` meets its contract: the coefficients in the basis, and the transform.
 -- Assumes nothing.
-use mathlib.Core.Path.{_≡_, refl, sym, ap, _∙_, subst}
-use mathlib.Core.List.{List, _++_}
+use mathlib.Core.Path.{refl, sym}
+use mathlib.Core.List.{_++_}
 use Prim.Native.Nat.{ℕ}
 use native.Mathlib.Omega.{arith}
-use lib.ListN.{length, take, drop, replicate}
+use lib.ListN.{length, drop, replicate}
 use lib.Seq.{length-take-le}
 use Rattle.algebra.proofs.StaysBelow.{below-at}
-use Rattle.poly_values.specs.Planes.{lanes}
 use Rattle.poly_values.proofs.Levels.{below-take}
-use Rattle.poly_values.proofs.Finishing.{lanes-read, lanes-small, lanes-long, lanes-front, first-vector, values-from}
+use Rattle.poly_values.proofs.Finishing.{lanes-read, lanes-small, lanes-long, lanes-front, first-vector, values-one}
 use borrow.Author.Needs.{needs}
-use Rattle.poly_values.proofs.values11.Statement.{statement}
-use Rattle.poly_values.proofs.values11.Tie as tie
+use Rattle.poly_values.proofs.one_block.Statement.{statement}
+use Rattle.poly_values.proofs.one_block.Tie as tie
 use Rattle.poly_values.proofs.columns11.Reads as columns11-reads
 use Rattle.poly_values.proofs.mixed.Reads as mixed-reads
 use Rattle.poly_values.proofs.multiple.Reads as multiple-reads
@@ -91,12 +90,12 @@ returns : tie.Need-returns
 returns c = let s = c .before .before .before .before .before .before .before .before .before .before .before .before .before .before .before .before .before .before .before in
     let e = (lanes-read (c .before .before .before .before .before .before .before .before .before .before .before .before .before .before .before .before .before .before .before .pre .2) (c .before .before .before .before .before .before .before .before .before .before .before .before .before .before .before .before .columns11 .ensures) (c .before .before .before .before .before .before .before .before .before .before .before .before .before .before .mixed .ensures) (c .before .before .before .before .before .before .before .before .before .before .before .before .read-lanes .ensures)) in
     let a = (c .before .before .before .before .before .before .before .before .before .before .before .before .read-lanes .last .1 .0 ++ drop (length (c .before .before .before .before .before .before .before .before .before .before .before .before .before .before .before .before .before .before .before .args .f .now)) (replicate 33 0)) in
-    values-from (s .pre .2) (s .pre .1) (s .pre .0) (c .before .before .before .before .before .before .before .before .before .before .before .before .before .before .before .before .columns11 .ensures) (c .before .before .before .before .before .before .before .before .before .before .top11 .ensures) (c .before .before .before .before .before .before .multipliers11 .ensures) (c .before .before .before .before .before .before .before .before .before .before .before .before .before .before .mixed .ensures) e
+    values-one (s .pre .0) (s .pre .1) (s .pre .2) (c .before .before .before .before .before .before .before .before .before .before .before .before .before .before .before .before .columns11 .ensures) (c .before .before .before .before .before .before .before .before .before .before .top11 .ensures) (c .before .before .before .before .before .before .multipliers11 .ensures) (c .before .before .before .before .before .before .before .before .before .before .before .before .before .before .mixed .ensures) e
     (first-vector (below-at _ a (lanes-small a (c .before .before .before .before .before .before .before .before .before .before .before .before .before .before .mixed .result) e (c .before .before .before .before .before .before .before .before .before .before .before .before .before .before .mixed .ensures .long)) 0 (omega (arith, lanes-long a (c .before .before .before .before .before .before .before .before .before .before .before .before .before .before .mixed .result) e))) (c .before .before .before .before .before .before .before .before .before .spread .ensures) (c .before .before .before .before .before .before .before .before .multiple .ensures) (c .before .before .before .before .before .before .before .sum .ensures))
     (c .before .before .start .ensures)
 
-pub values11-spec : {M : Type 1} → statement M
-values11-spec =
+pub one-block-spec : {M : Type 1} → statement M
+one-block-spec =
     tie.close
     (tie.spec
     columns11-requires
