@@ -19,7 +19,7 @@ use Rattle.algebra.proofs.Trial.{keep-same, upFrom-all}
 use Rattle.field.specs.Rows.{known}
 use Rattle.field.specs.Field.{fieldAt, mul, G, numbers, rootsAt}
 use Rattle.field.proofs.Known.{listed}
-use Rattle.field.proofs.Ring.{RingLaws, ring, power-lt, power-add}
+use Rattle.field.proofs.Ring.{RingLaws, ring, power-add}
 use Rattle.field.proofs.Generator.{generated, one-below}
 use Rattle.find_affine.specs.Affine.{termsAt, valueAt, affineRoots, spread, dense}
 
@@ -28,9 +28,6 @@ module _ (m : ℕ) (k : known m ≡ true) where
 
   abbrev pow : ℕ → ℕ → ℕ
   pow x n = power (numbers (fieldAt m)) x n
-
-  pow-lt : (x n : ℕ) → pow x n < 2 ^ m
-  pow-lt x n = power-lt (fieldAt m) (generated (listed m k) .monic) (one-below (fieldAt m) (generated (listed m k))) x n
 
   -- n zeros at the front are a factor x^n
   zeros-value : (n : ℕ) (p : List ℕ) (x y : ℕ) → y < 2 ^ m
@@ -41,7 +38,7 @@ module _ (m : ℕ) (k : known m ≡ true) where
       ap (mul (fieldAt m) y) (xor-zero-l (mul (fieldAt m) x (eval (G m) (replicate n 0 ++ p) x))) ∙ sym (mul-assoc y x (eval (G m) (replicate n 0 ++ p) x))
       ∙ zeros-value n p x (mul (fieldAt m) y x) (mul-lt y x) ∙ ap (λ a. mul (fieldAt m) a (eval (G m) p x)) (mul-assoc y x (pow x n))
 
-  pub spread-value : (cs : List ℕ) (n x : ℕ) → mul (fieldAt m) (pow x (suc n)) (eval (G m) (spread n cs) x) ≡ termsAt m cs (pow x (suc n))
+  spread-value : (cs : List ℕ) (n x : ℕ) → mul (fieldAt m) (pow x (suc n)) (eval (G m) (spread n cs) x) ≡ termsAt m cs (pow x (suc n))
   unfolding eval power spread termsAt
   spread-value [] n x = mul-comm (pow x (suc n)) 0 ∙ mul-zero-l (pow x (suc n))
   spread-value (c ∷ cs) n x =
@@ -73,7 +70,7 @@ module _ (m : ℕ) (k : known m ≡ true) where
       (λ x a b. ap (λ y. eqb y 0) (dense-value cs constant x (let l : x < 2 ^ m = omega arith in l))))
 
   -- zeros behind the coefficients
-  pub terms-zeros : (cs : List ℕ) (n x : ℕ) → termsAt m (cs ++ replicate n 0) x ≡ termsAt m cs x
+  terms-zeros : (cs : List ℕ) (n x : ℕ) → termsAt m (cs ++ replicate n 0) x ≡ termsAt m cs x
   unfolding termsAt
   terms-zeros [] zero x = refl
   terms-zeros [] (suc n) x = ap₂ bitXor (mul-zero-l x) (terms-zeros [] n (mul (fieldAt m) x x))

@@ -46,7 +46,7 @@ pub composed : (B C : ℕ → ℕ) → Additive B → Additive C → Additive (�
 composed B C b c x y = ap C (b x y) ∙ c (B x) (B y)
 
 -- a multiple by a digit
-pub additive-times : (B : ℕ → ℕ) → Additive B → (n x : ℕ) → B (n % 2 * x) ≡ n % 2 * B x
+additive-times : (B : ℕ → ℕ) → Additive B → (n x : ℕ) → B (n % 2 * x) ≡ n % 2 * B x
 additive-times B add n x =
     bit-cases (λ d. B (d * x) ≡ d * B x) (ap B (zero-mul x) ∙ additive-zero B add ∙ sym (zero-mul (B x))) (ap B (one-mul x) ∙ sym (one-mul (B x))) n
 

@@ -35,7 +35,7 @@ module _ (m : ℕ) (k : known m ≡ true) where
       (ap (termsAt m cs) (square-xor (fieldAt m) (g .monic) x y) ∙ terms-xor cs (mul (fieldAt m) x x) (mul (fieldAt m) y y))
       ∙ xor-swap (mul (fieldAt m) c x) (mul (fieldAt m) c y) (termsAt m cs (mul (fieldAt m) x x)) (termsAt m cs (mul (fieldAt m) y y))
 
-  pub terms-lt : (cs : List ℕ) (x : ℕ) → termsAt m cs x < 2 ^ m
+  terms-lt : (cs : List ℕ) (x : ℕ) → termsAt m cs x < 2 ^ m
   unfolding termsAt
   terms-lt [] x = pow-pos m
   terms-lt (c ∷ cs) x =

@@ -95,7 +95,7 @@ module _ (vectors : List ℕ) where
 
   -- ---- a number added to all
 
-  pub spanned-shifted : (n u first : ℕ) → map (bitXor u) (spanned n vectors first) ≡ spanned n vectors (bitXor u first)
+  spanned-shifted : (n u first : ℕ) → map (bitXor u) (spanned n vectors first) ≡ spanned n vectors (bitXor u first)
   unfolding spanned
   spanned-shifted zero u first = refl
   spanned-shifted (suc n) u first = go (eqb (v n) 0) (spanned-shifted n u first)

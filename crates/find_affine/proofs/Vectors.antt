@@ -24,13 +24,13 @@ use Rattle.find_affine.proofs.Turns.{Projects, digit-of, turn-none, tur
 
 -- ---- a row swept
 
-pub length-swept : (t : ℕ) (by s : List ℕ) → length (swept t by s) ≡ length s
+length-swept : (t : ℕ) (by s : List ℕ) → length (swept t by s) ≡ length s
 unfolding swept
 length-swept t by [] = refl
 length-swept t [] (a ∷ s) = refl
 length-swept t (b ∷ by) (a ∷ s) = ap suc (length-swept t by s)
 
-pub swept-at : (t : ℕ) (by s : List ℕ) (j : ℕ) → length by ≡ length s → getD (swept t by s) j 0 ≡ bitXor (getD s j 0) (getD by j 0 % 2 * t)
+swept-at : (t : ℕ) (by s : List ℕ) (j : ℕ) → length by ≡ length s → getD (swept t by s) j 0 ≡ bitXor (getD s j 0) (getD by j 0 % 2 * t)
 unfolding swept
 swept-at t [] [] j e = sym (ap (bitXor 0) (zero-mul t))
 swept-at t (b ∷ by) [] j e = absurd (let z : ⊥ = omega arith in z)
@@ -41,7 +41,7 @@ swept-at t (b ∷ by) (a ∷ s) (suc j) e = swept-at t by s j (let d : length by
 -- ---- the pivot
 
 -- there is no bit below it
-pub pivot-low : (row : List ℕ) (j : ℕ) → j < pivotOf row → getD row j 0 ≡ 0
+pivot-low : (row : List ℕ) (j : ℕ) → j < pivotOf row → getD row j 0 ≡ 0
 unfolding pivotOf
 pivot-low [] j h = absurd (not-suc-le-zero h)
 pivot-low (a ∷ row) j h = go (eqb a 0) (eqb-true a 0) (pivot-low row) j h
@@ -53,7 +53,7 @@ pivot-low (a ∷ row) j h = go (eqb a 0) (eqb-true a 0) (pivot-low row) j h
     go false e k i h = absurd (not-suc-le-zero h)
 
 -- there is one at it
-pub pivot-bit : (row : List ℕ) → pivotOf row < length row → getD row (pivotOf row) 0 ≡ 0 → ⊥
+pivot-bit : (row : List ℕ) → pivotOf row < length row → getD row (pivotOf row) 0 ≡ 0 → ⊥
 unfolding pivotOf
 pivot-bit [] h = absurd (not-suc-le-zero h)
 pivot-bit (a ∷ row) h = go (eqb a 0) (eqb-false a 0) (pivot-bit row) h

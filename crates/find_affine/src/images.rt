@@ -4,7 +4,6 @@ ghost use mathlib.Core.Bool.{true};
 ghost use Prim.Native.Nat.{_<_, _^_};
 ghost use Rattle.algebra.specs.Polynomial.{Below};
 ghost use Rattle.field.specs.Rows.{known};
-ghost use Rattle.field.specs.Field.{mul, fieldAt};
 ghost use Rattle.poly.specs.Lent.{Lent};
 ghost use Rattle.find_affine.specs.Affine.{termsAt};
 ghost use Rattle.find_affine.specs.Systems.{Imaged};
@@ -15,15 +14,7 @@ use field_tables::constants::antilogs11;
 use field_tables::constants::logs4;
 use field_tables::constants::logs8;
 use field_tables::constants::logs11;
-
-// The product of x, which is not 0, and y.
-fn product(m: u16, logs: &[u16], antilogs: &[u16], x: u16, y: u16) -> u16
-    requires { ⌜ Lent m (now logs) (now antilogs) × (0 < x) × (x < 2 ^ m) × (y < 2 ^ m) ⌝ }
-    ensures { λ r. ⌜ r ≡ mul (fieldAt m) x y ⌝ }
-{
-    let k = logs[x as usize] as usize;
-    antilogs[k + logs[y as usize] as usize]
-}
+use poly::elements::product_by_logs;
 
 // The sum of the terms c_i x^(2^i), where x is not 0.
 fn terms(m: u16, logs: &[u16], antilogs: &[u16], coeffs: &[u16], x: u16) -> u16
@@ -34,8 +25,8 @@ fn terms(m: u16, logs: &[u16], antilogs: &[u16], coeffs: &[u16], x: u16) -> u16
     let mut y = x;
     let mut i = 0;
     while i < coeffs.len() {
-        sum = sum ^ product(m, logs, antilogs, y, coeffs[i]);
-        y = product(m, logs, antilogs, y, y);
+        sum = sum ^ product_by_logs(m, logs, antilogs, y, coeffs[i]);
+        y = product_by_logs(m, logs, antilogs, y, y);
         i += 1;
     }
     sum

@@ -1,16 +1,16 @@
 -- Which polynomials are accepted, and what is known of them.
 --   polynomial-told             what a polynomial that passed the five tests is
---   roots-few                   it has no more roots than the limit
 --   nonzero-place               it has a coefficient that is not 0
+--   roots-shorter, roots-few    it has fewer roots than coefficients, and no more than the limit
 --   passed-more                 where the five pass, the tests that follow decide: by a pass
 --   passed-first, passed-rest   and where all pass, the five and those that follow do
 -- Assumes nothing.
-use mathlib.Core.Path.{_≡_, refl, sym, _∙_}
+use mathlib.Core.Path.{_≡_, refl}
 use mathlib.Core.Logic.{_≢_}
 use mathlib.Core.Bool.{Bool, true, false, _&&_}
 use mathlib.Core.Option.{Option, none, some}
 use mathlib.Core.List.{List, [], _∷_}
-use Prim.Native.Nat.{ℕ, suc, _≤_, _^_}
+use Prim.Native.Nat.{ℕ, suc, _≤_, _<_, _^_}
 use native.Mathlib.Omega.{arith}
 use borrow.Author.Tests.{eqb-false, ltb-false, not-false}
 use lib.Dec.{ltb}
@@ -19,7 +19,6 @@ use Rattle.algebra.specs.Field.{OnNumbers}
 use Rattle.algebra.specs.Routines.{norm}
 use Rattle.algebra.proofs.NumberMonic.{norm-made, norm-none}
 use Rattle.algebra.proofs.RootList.{rootsOf-degree}
-use Rattle.algebra.proofs.StaysBelow.{below-from}
 use Rattle.slices.specs.Bounded.{allBelow, allZero}
 use Rattle.slices.proofs.Bounded.{allBelow-exactly}
 use Rattle.refusals.specs.Order.{Passed}
@@ -45,21 +44,6 @@ polynomial-told m cs p =
       nonzero = failed (others fourth);
     }
 
--- no more than the limit
-pub roots-few : {m : ℕ} {f : List ℕ} → PolynomialIn m f → length (rootsAt m f) ≤ limit
-roots-few {m} {f} t = go (norm (G m) (length f) f) refl
-  where
-    N : OnNumbers (G m) (2 ^ m)
-    N = known-field m (t .field) .numbers
-
-    go : (o : Option (List ℕ)) → norm (G m) (length f) f ≡ o → length (rootsAt m f) ≤ limit
-    go none e =
-        let zeros : allZero f ≡ true = allBelow-exactly 1 f .1 (below-from 1 f (λ i l. let z : getD f i 0 ≡ 0 = norm-none N f (t .small) e i in omega arith)) in
-        let b : _≡_ {A = Bool} true false = sym zeros ∙ t .nonzero in
-        let o : _≡_ {A = ℕ} 0 1 = cc in
-        absurd (let x : ⊥ = omega arith in x)
-    go (some s) e = omega (arith, rootsOf-degree N f (t .small) e, norm-made N f (t .small) e .shorter, t .few)
-
 -- it has a coefficient that is not 0
 pub nonzero-place : {m : ℕ} {f : List ℕ} → PolynomialIn m f → (j : ℕ) × (getD f j 0 ≢ 0)
 unfolding allBelow
@@ -72,6 +56,21 @@ nonzero-place {m} {f} t = go f (t .nonzero)
         at : (b : Bool) → ltb x 1 ≡ b → (b && allBelow 1 l) ≡ false → (allBelow 1 l ≡ false → (j : ℕ) × (getD l j 0 ≢ 0)) → (j : ℕ) × (getD (x ∷ l) j 0 ≢ 0)
         at true t f rec = let r = rec f in (suc (r .0), r .1)
         at false t f rec = (0, λ z. omega (arith, ltb-false x 1 t))
+
+-- fewer than coefficients
+pub roots-shorter : {m : ℕ} {f : List ℕ} → PolynomialIn m f → length (rootsAt m f) < length f
+roots-shorter {m} {f} t = go (norm (G m) (length f) f) refl
+  where
+    N : OnNumbers (G m) (2 ^ m)
+    N = known-field m (t .field) .numbers
+
+    go : (o : Option (List ℕ)) → norm (G m) (length f) f ≡ o → length (rootsAt m f) < length f
+    go none e = let z = nonzero-place t in absurd (z .1 (norm-none N f (t .small) e (z .0)))
+    go (some s) e = omega (arith, rootsOf-degree N f (t .small) e, norm-made N f (t .small) e .shorter)
+
+-- no more than the limit
+pub roots-few : {m : ℕ} {f : List ℕ} → PolynomialIn m f → length (rootsAt m f) ≤ limit
+roots-few t = omega (arith, roots-shorter t, t .few)
 
 -- ---- further tests behind the five
 

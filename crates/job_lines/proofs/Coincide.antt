@@ -13,13 +13,12 @@ use Rattle.job_lines.specs.declared.Turn.{Turn}
 -- what stands for no place, or for one
 nextOf : List ℕ → Next
 nextOf [] = Over
-nextOf (at ∷ []) = Over
-nextOf (at ∷ k ∷ l) = On (record { at = at; k = k })
+nextOf (at ∷ l) = On at
 
 next-back : (n : Next) → nextOf (toldNext n) ≡ n
 unfolding nextOf
 next-back Over = refl
-next-back (On p) = refl
+next-back (On at) = refl
 
 pub next-told : (n o : Next) → toldNext n ≡ toldNext o → n ≡ o
 next-told n o e = sym (next-back n) ∙ ap nextOf e ∙ next-back o

@@ -1,4 +1,4 @@
-pub mod Accepted
+pub mod Solved
 pub mod Turning
 pub mod Printing
 pub mod Coincide

@@ -28,13 +28,13 @@ lined : {file : List ℕ} {at k : ℕ} {text : List ℕ} → Prints file at k te
 unfolding linesFrom Lined
 lined {file} (last {at = at} {k = k} e) = go (readAt file at) refl e
   where
-    go : (o : Outcome) → readAt file at ≡ o → onFrom k o ≡ [] → Lined file at k (lineFor file k (readAt file at))
+    go : (o : Outcome) → readAt file at ≡ o → onFrom o ≡ [] → Lined file at k (lineFor file k (readAt file at))
     go Outcome.ends f g = ([], over f, ap (lineFor file k) f)
     go (Outcome.gives n []) f g = (Outcome.gives n [] ∷ [], stop f, ap (lineFor file k) f ∙ sym (append-nil _))
     go (Outcome.gives n (next ∷ vs)) f g = never (cc)
 lined {file} (more {at = at} {k = k} {next = next} {text = text} e p) = go (readAt file at) refl e (lined p)
   where
-    go : (o : Outcome) → readAt file at ≡ o → onFrom k o ≡ next ∷ (k + 1) ∷ [] → Lined file next (k + 1) text
+    go : (o : Outcome) → readAt file at ≡ o → onFrom o ≡ next ∷ [] → Lined file next (k + 1) text
         → Lined file at k (lineFor file k (readAt file at) ++ text)
     go Outcome.ends f g r = never (cc)
     go (Outcome.gives n []) f g r = never (cc)

@@ -35,7 +35,7 @@ use Rattle.job_sheet.proofs.Counts.{bit, count-first}
 
 -- ---- sums
 
-pub sum-split : {A : Type 0} (f g h : A → ℕ) → ((x : A) → f x ≡ g x + h x) → (l : List A)
+sum-split : {A : Type 0} (f g h : A → ℕ) → ((x : A) → f x ≡ g x + h x) → (l : List A)
     → plus (map f l) ≡ plus (map g l) + plus (map h l)
 unfolding plus
 sum-split f g h e [] = refl
@@ -71,7 +71,7 @@ total : (es : List Entry)
 unfolding plus
 total es = refl
 
-pub total-more : (e : Entry) (es : List Entry)
+total-more : (e : Entry) (es : List Entry)
     → outcomesIn (figuresOf (e ∷ es)) ≡ weight (e .field) (e .number) + outcomesIn (figuresOf es)
 unfolding weight
 total-more e es =
@@ -159,11 +159,11 @@ module _ (r : List ℕ) where
           (among (λ n. weight m n ≡ 1) (g .1) (one (apart-12 m) (one (apart-11 m) (one (apart-12 m) none))))
       go (inr p) = rw (passed-decides (λ k. k) (decide (recordTests r) (λ k. k) 0) p) record-once
 
-pub here-once : (b : ℕ) (bs : List ℕ) → Once (entryHere (b ∷ bs))
+here-once : (b : ℕ) (bs : List ℕ) → Once (entryHere (b ∷ bs))
 unfolding entryHere
 here-once b bs = rw (number-tests 0 b bs) (start-once (b ∷ bs))
 
-pub entries-once : (k : ℕ) (bs : List ℕ) → All Once (entriesBehind k bs)
+entries-once : (k : ℕ) (bs : List ℕ) → All Once (entriesBehind k bs)
 unfolding entriesBehind
 entries-once k [] = tt
 entries-once (suc k) (b ∷ bs) = entries-once k bs
@@ -172,7 +172,7 @@ entries-once zero (b ∷ bs) =
 
 -- ---- all of them
 
-pub adds-up : (es : List Entry) → All Once es → outcomesIn (figuresOf es) ≡ length es
+adds-up : (es : List Entry) → All Once es → outcomesIn (figuresOf es) ≡ length es
 unfolding plus countOf
 adds-up [] a = refl
 adds-up (e ∷ es) a = total-more e es ∙ ap₂ (λ m n. m + n) (a .0) (adds-up es (a .1)) ∙ omega arith

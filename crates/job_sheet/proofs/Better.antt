@@ -32,7 +32,7 @@ product-fits {s} {l} a b =
     omega arith
 
 -- the second has a limit
-pub lower-trans : (s l t k u j : ℕ) → 0 < l → s * k < t * l → t * j < u * k → s * j < u * l
+lower-trans : (s l t k u j : ℕ) → 0 < l → s * k < t * l → t * j < u * k → s * j < u * l
 lower-trans s l t k u j h a b =
     let one : s * k * j ≤ t * l * j = mul-le-mul-right j (omega arith) in
     let two : t * j * l < u * k * l = mul-lt-mul-of-pos-right b h in
@@ -77,7 +77,7 @@ better-right p q f h e =
     let a : q .steps * p .limit ≡ 0 = rw z (zero-mul (p .limit)) in
     better-first p q h (le-ltb (p .steps * q .limit) (q .steps * p .limit) (omega (arith, a)))
 
-pub better-fair : (p q : Peak) → Fair p → Fair q → Fair (better p q)
+better-fair : (p q : Peak) → Fair p → Fair q → Fair (better p q)
 unfolding better Fair
 better-fair p q f g = go (eqb (p .limit) 0) (standsLower p q)
   where
@@ -122,7 +122,7 @@ competes-limit m e c = go (eqb (e .field) m) (eqb (e .number) 0) (e .limit) refl
     go true false l z t = absurd (true≢false (sym t))
     go false b l z t = absurd (true≢false (sym t))
 
-pub highest-fair : (m k : ℕ) (es : List Entry) → Fair (highestFrom m k es)
+highest-fair : (m k : ℕ) (es : List Entry) → Fair (highestFrom m k es)
 unfolding highestFrom Fair
 highest-fair m k [] = λ e. refl
 highest-fair m k (e ∷ es) = go (competes m e) refl (highest-fair m (suc k) es)

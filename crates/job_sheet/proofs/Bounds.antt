@@ -42,7 +42,7 @@ use Rattle.job_sheet.proofs.Counts.{sum-first, accepted-zero}
 use Rattle.job_sheet.proofs.Readings.{refused-least}
 
 -- no refusal has the number 0
-pub accepted-passes : (b : ℕ) (bs : List ℕ) → entryHere (b ∷ bs) .number ≡ 0 → Passed (recordTests (b ∷ bs))
+accepted-passes : (b : ℕ) (bs : List ℕ) → entryHere (b ∷ bs) .number ≡ 0 → Passed (recordTests (b ∷ bs))
 unfolding entryHere
 accepted-passes b bs e = go (cases (startTests (b ∷ bs))) (cases (recordTests (b ∷ bs)))
   where
@@ -66,7 +66,7 @@ accepted-passes b bs e = go (cases (startTests (b ∷ bs))) (cases (recordTests 
 abbrev pub mostSteps : ℕ
 mostSteps = widest * limit
 
-pub steps-few : (b : ℕ) (bs : List ℕ) → entryHere (b ∷ bs) .number ≡ 0 → entryHere (b ∷ bs) .steps ≤ mostSteps
+steps-few : (b : ℕ) (bs : List ℕ) → entryHere (b ∷ bs) .number ≡ 0 → entryHere (b ∷ bs) .steps ≤ mostSteps
 unfolding entryHere
 steps-few b bs e =
     let t : PolynomialIn (degreeByte (b ∷ bs)) (coefficients (b ∷ bs)) = polynomial-told _ _ (accepted-passes b bs e) in
@@ -103,7 +103,7 @@ total-few m zero (b ∷ bs) =
       added-few m b bs,
     )
 
-pub one-word-total : (t : Total) → totalOf t < 2 ^ 64 → t .high ≡ 0
+one-word-total : (t : Total) → totalOf t < 2 ^ 64 → t .high ≡ 0
 one-word-total t h = omega arith
 
 -- a line that tells of figures with five refusals and a total of one word

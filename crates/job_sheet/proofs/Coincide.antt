@@ -14,7 +14,7 @@ use Rattle.job_sheet.specs.declared.Highest.{Highest}
 use Rattle.job_sheet.specs.declared.FieldLine.{FieldLine}
 use Rattle.job_sheet.specs.declared.Sheet.{Sheet}
 
-pub total-told : (t u : Total) → t .low < 2 ^ 64 → u .low < 2 ^ 64 → totalOf t ≡ totalOf u → t ≡ u
+total-told : (t u : Total) → t .low < 2 ^ 64 → u .low < 2 ^ 64 → totalOf t ≡ totalOf u → t ≡ u
 total-told t u h k e =
     let high : t .high ≡ u .high = omega arith in
     let low : t .low ≡ u .low = omega arith in
@@ -23,7 +23,7 @@ total-told t u h k e =
 highest-told : (g h : Highest) → toldHighest g ≡ toldHighest h → g ≡ h
 highest-told g h e = λ i. record { record_number = e i .place; steps = e i .steps; limit = e i .limit }
 
-pub line-told : (l k : FieldLine) → Word l → Word k → toldField l ≡ toldField k → l ≡ k
+line-told : (l k : FieldLine) → Word l → Word k → toldField l ≡ toldField k → l ≡ k
 line-told l k h j e =
     let total : l .steps ≡ k .steps = total-told (l .steps) (k .steps) h j (ap (λ f. f .steps) e) in
     let top : l .highest ≡ k .highest = highest-told (l .highest) (k .highest) (ap (λ f. f .highest) e) in
@@ -44,7 +44,7 @@ lines-told (l ∷ ls) (k ∷ ks) h j e =
     let rest : map toldField ls ≡ map toldField ks = cc in
     ap₂ (λ x xs. x ∷ xs) (line-told l k (h .0) (j .0) first) (lines-told ls ks (h .1) (j .1) rest)
 
-pub sheet-told : (s t : Sheet) → Words (s .lines) → Words (t .lines) → toldSheet s ≡ toldSheet t → s ≡ t
+sheet-told : (s t : Sheet) → Words (s .lines) → Words (t .lines) → toldSheet s ≡ toldSheet t → s ≡ t
 sheet-told s t h j e =
     let ls : s .lines ≡ t .lines = lines-told (s .lines) (t .lines) h j (ap (λ f. f .fields) e) in
     λ i. record { lines = ls i; unknown = e i .unknown; mark = e i .mark; short = e i .short }

@@ -1,28 +1,21 @@
 -- Two peaks compared by their steps against their limits (docs/RULES.md section 13.2).
 --   AtMost, LowerThan        a peak stands at most as high as another; lower: s/l against t/k by the products s k and t l
---   most-self, most-trans   the order, over a limit that is not 0
+--   most-trans           the order, over a limit that is not 0
 --   Compared, compared   which of two the better is: the second where the first is none or stands lower, else the first
---   better-either        it is one of the two
---   most-first, most-second   it stands at least as high as each
 -- Assumes nothing.
 use mathlib.Core.Path.{_≡_, refl}
 use mathlib.Core.Bool.{Bool, true, false}
-use mathlib.Core.Logic.{_⊎_, inl, inr}
 use Prim.Native.Nat.{ℕ, zero, suc, _*_, _≤_, _<_}
-use native.Mathlib.Nat.{zero-mul}
 use native.Mathlib.Omega.{arith}
 use borrow.Author.Tests.{ltb-true, ltb-false}
 use Rattle.job_sheet.specs.Figures.{Peak, standsLower, better}
-use Rattle.job_sheet.proofs.Better.{least-trans, Fair, better-left, better-first, better-second}
+use Rattle.job_sheet.proofs.Better.{least-trans, better-left, better-first, better-second}
 
 abbrev pub AtMost : Peak → Peak → Type 0
 AtMost p q = p .steps * q .limit ≤ q .steps * p .limit
 
 abbrev pub LowerThan : Peak → Peak → Type 0
 LowerThan p q = p .steps * q .limit < q .steps * p .limit
-
-pub most-self : (p : Peak) → AtMost p p
-most-self p = omega arith
 
 pub most-trans : (p q r : Peak) → 0 < q .limit → AtMost p q → AtMost q r → AtMost p r
 most-trans p q r l a b = least-trans (r .steps) (r .limit) (q .steps) (q .limit) (p .steps) (p .limit) l b a
@@ -44,29 +37,3 @@ compared p q = by-limit (p .limit) refl
     by-limit : (l : ℕ) → p .limit ≡ l → Compared p q
     by-limit zero e = none e (better-left p q e)
     by-limit (suc l) e = by-order (omega arith) (standsLower p q) refl
-
-pub better-either : (p q : Peak) → (better p q ≡ p) ⊎ (better p q ≡ q)
-better-either p q = go (compared p q)
-  where
-    go : Compared p q → (better p q ≡ p) ⊎ (better p q ≡ q)
-    go (none l e) = inr e
-    go (second l b e) = inr e
-    go (first l b e) = inl e
-
--- what is none has no steps
-pub most-first : (p q : Peak) → Fair p → AtMost p (better p q)
-unfolding Fair
-most-first p q f = go (compared p q)
-  where
-    go : Compared p q → AtMost p (better p q)
-    go (none l e) = rw (e, f l) (omega (arith, zero-mul (q .limit)))
-    go (second l h e) = rw e (let w : AtMost p q = omega arith in w)
-    go (first l h e) = rw e (most-self p)
-
-pub most-second : (p q : Peak) → AtMost q (better p q)
-most-second p q = go (compared p q)
-  where
-    go : Compared p q → AtMost q (better p q)
-    go (none l e) = rw e (most-self q)
-    go (second l h e) = rw e (most-self q)
-    go (first l h e) = rw e h

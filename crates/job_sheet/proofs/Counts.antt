@@ -75,7 +75,7 @@ module _ (f : Entry → ℕ) (t : Entry → Bool) where
   sum-append (e ∷ es) ds = omega (arith, sum-first e (es ++ ds), sum-first e es, sum-append es ds)
 
   module _ (es : List Entry) (e : Entry) where
-    pub sum-more : sumOf f t (es ++ e ∷ []) ≡ sumOf f t es + cond (t e) (f e) 0
+    sum-more : sumOf f t (es ++ e ∷ []) ≡ sumOf f t es + cond (t e) (f e) 0
     unfolding sumOf
     sum-more = omega (arith, sum-append es (e ∷ []), sum-first e [])
 

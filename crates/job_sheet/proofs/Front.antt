@@ -44,7 +44,7 @@ complete-number (b ∷ bs) h p =
     number-tests 0 b bs ∙ passed-decides (λ k. k) (decide (recordTests (b ∷ bs)) (λ k. k) 0) p
 
 -- where reading stops it is that of the first tests
-pub stopped-number : (r : List ℕ) {k : ℕ} → 0 < length r → Given k (startTests r) → numberHere r ≡ k
+stopped-number : (r : List ℕ) {k : ℕ} → 0 < length r → Given k (startTests r) → numberHere r ≡ k
 stopped-number [] h g = absurd (let f : ⊥ = omega arith in f)
 stopped-number (b ∷ bs) h g = number-tests 0 b bs ∙ given-decides (λ k. k) (decide (recordTests (b ∷ bs)) (λ k. k) 0) g
 
@@ -68,19 +68,19 @@ module _ (r g : List ℕ) (p : Passed (startTests r)) where
   whole : recordLength r ≤ length r
   whole = whole-record r p
 
-  pub front-byte : (i : ℕ) → i < headLength → getD (r ++ g) i 0 ≡ getD r i 0
+  front-byte : (i : ℕ) → i < headLength → getD (r ++ g) i 0 ≡ getD r i 0
   front-byte i h = List·getD-append r g 0 i (omega (arith, whole))
 
-  pub front-length : recordLength (r ++ g) ≡ recordLength r
+  front-length : recordLength (r ++ g) ≡ recordLength r
   front-length = ap (λ n. headLength + 2 * n) (front-byte 4 (omega arith))
 
-  pub front-coefficients : coefficients (r ++ g) ≡ coefficients r
+  front-coefficients : coefficients (r ++ g) ≡ coefficients r
   front-coefficients =
       ap (λ n. words (part (r ++ g) headLength (2 * n))) (front-byte 4 (omega arith))
       ∙ ap (λ l. words (take (bodyLength r) l)) (drop-append-le headLength r g (omega (arith, whole)))
       ∙ ap words (take-append-le (bodyLength r) (drop headLength r) g (omega (arith, whole, length-drop headLength r)))
 
-  pub front-passed : Passed (startTests (r ++ g))
+  front-passed : Passed (startTests (r ++ g))
   front-passed =
       let l = length-append r g in
       let n = front-length in
@@ -101,7 +101,7 @@ module _ (r g : List ℕ) (p : Passed (startTests r)) where
       ∙ ap (λ ts. decide ts (λ k. k) 0) front-tests
       ∙ sym (complete-number r (omega (arith, whole)) p)
 
-  pub front-entry : entryHere (r ++ g) ≡ entryHere r
+  front-entry : entryHere (r ++ g) ≡ entryHere r
   front-entry =
       entry-from (r ++ g)
       ∙ ap₂ (λ n m. entryFrom n m (cutoffByte (r ++ g)) (coefficients (r ++ g)))

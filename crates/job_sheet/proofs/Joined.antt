@@ -51,7 +51,7 @@ counted-steps n p = go (eqb (p .limit) 0)
 abbrev by : ℕ → ℕ → ℕ → ℕ → Peak → Peak → Peak
 by l s k t p q = cond (eqb l 0) q (cond (ltb (s * k) (t * l)) q p)
 
-pub counted-better : (n : ℕ) (p q : Peak) → countedOn n (better p q) ≡ better (countedOn n p) (countedOn n q)
+counted-better : (n : ℕ) (p q : Peak) → countedOn n (better p q) ≡ better (countedOn n p) (countedOn n q)
 unfolding better
 counted-better n p q =
     go (eqb (p .limit) 0) (ltb (p .steps * q .limit) (q .steps * p .limit))
@@ -69,7 +69,7 @@ counted-better n p q =
 counted-one : (n m k : ℕ) (e : Entry) → competes m e ≡ true → countedOn n (peakOf k e) ≡ peakOf (n + k) e
 counted-one n m k e c = rw (ne-eqb (e .limit) 0 (λ z. omega (arith, competes-limit m e c)))
 
-pub highest-counted : (n m k : ℕ) (es : List Entry) → highestFrom m (n + k) es ≡ countedOn n (highestFrom m k es)
+highest-counted : (n m k : ℕ) (es : List Entry) → highestFrom m (n + k) es ≡ countedOn n (highestFrom m k es)
 unfolding highestFrom
 highest-counted n m k [] = refl
 highest-counted n m k (e ∷ es) =
@@ -84,7 +84,7 @@ highest-counted n m k (e ∷ es) =
         ap₂ better (sym (counted-one n m k e c)) h
         ∙ sym (counted-better n (peakOf k e) (highestFrom m (suc k) es))
 
-pub highest-joined : (m : ℕ) (a b : List Entry)
+highest-joined : (m : ℕ) (a b : List Entry)
     → highestFrom m 1 (a ++ b) ≡ better (highestFrom m 1 a) (countedOn (length a) (highestFrom m 1 b))
 highest-joined m a b =
     highest-append m 1 a b

@@ -56,13 +56,13 @@ same-figures : {a b s t u v : ℕ} {r q : List ℕ} {p h : Peak} → a ≡ b →
 same-figures e f g h i = cc
 
 module _ (m : ℕ) (es : List Entry) (e : Entry) where
-  pub under-number : (k : ℕ) → (e .number ≡ k → ⊥) → under m k e ≡ false
+  under-number : (k : ℕ) → (e .number ≡ k → ⊥) → under m k e ≡ false
   under-number k n = and-no (eqb (e .field) m) (eqb (e .number) k) (ne-eqb (e .number) k n)
 
-  pub under-field : (k : ℕ) → (e .field ≡ m → ⊥) → under m k e ≡ false
+  under-field : (k : ℕ) → (e .field ≡ m → ⊥) → under m k e ≡ false
   under-field k n = ap (λ b. b && eqb (e .number) k) (ne-eqb (e .field) m n)
 
-  pub under-both : (k : ℕ) → e .field ≡ m → e .number ≡ k → under m k e ≡ true
+  under-both : (k : ℕ) → e .field ≡ m → e .number ≡ k → under m k e ≡ true
   under-both k f n = ap₂ (λ a b. a && b) (eq-eqb (e .field) m f) (eq-eqb (e .number) k n)
 
   -- the refusals, where the entry is under a number that none of them has
@@ -80,7 +80,7 @@ module _ (m : ℕ) (es : List Entry) (e : Entry) where
       same-figures (count-no (acceptedIn m) es e z) (refused-kept n i d) (sum-no (λ x. x .roots) (acceptedIn m) es e z)
       (sum-no (λ x. x .steps) (acceptedIn m) es e z) (highest-same m es e z)
 
-  pub line-other : (e .field ≡ m → ⊥) → figuresAt (es ++ e ∷ []) m ≡ figuresAt es m
+  line-other : (e .field ≡ m → ⊥) → figuresAt (es ++ e ∷ []) m ≡ figuresAt es m
   unfolding isIn
   line-other n = line-kept 0 refl (λ k d. under-field k n) (under-field 0 n)
 

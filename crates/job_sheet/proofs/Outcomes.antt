@@ -58,30 +58,30 @@ number-tests at b bs =
     decided numberGiven (startTests (b ∷ bs)) _ _
     ∙ ap (decide (startTests (b ∷ bs)) (λ k. k)) (judged-number at (b ∷ bs))
 
-pub number-anywhere : (at : ℕ) (r : List ℕ) → numberHere r ≡ numberGiven (readHere at r)
+number-anywhere : (at : ℕ) (r : List ℕ) → numberHere r ≡ numberGiven (readHere at r)
 unfolding readHere
 number-anywhere at [] = refl
 number-anywhere at (b ∷ bs) = number-tests 0 b bs ∙ sym (number-tests at b bs)
 
 -- ---- the entries of bytes
 
-pub entries-behind : (k : ℕ) (bs : List ℕ) → entriesBehind k bs ≡ entries (drop k bs)
+entries-behind : (k : ℕ) (bs : List ℕ) → entriesBehind k bs ≡ entries (drop k bs)
 unfolding entriesBehind
 entries-behind zero bs = refl
 entries-behind (suc k) [] = refl
 entries-behind (suc k) (b ∷ bs) = entries-behind k bs
 
-pub entries-over : (r : List ℕ) → length r ≡ 0 → entries r ≡ []
+entries-over : (r : List ℕ) → length r ≡ 0 → entries r ≡ []
 unfolding entriesBehind
 entries-over [] e = refl
 entries-over (b ∷ bs) e = absurd (let f : ⊥ = omega arith in f)
 
-pub entries-stop : (r : List ℕ) {k : ℕ} → 0 < length r → Given k (startTests r) → entries r ≡ entryHere r ∷ []
+entries-stop : (r : List ℕ) {k : ℕ} → 0 < length r → Given k (startTests r) → entries r ≡ entryHere r ∷ []
 unfolding entriesBehind
 entries-stop [] h g = absurd (let f : ⊥ = omega arith in f)
 entries-stop (b ∷ bs) h g = rw (given-decides (λ k. false) true g)
 
-pub entries-on : (r : List ℕ) → 0 < length r → Passed (startTests r)
+entries-on : (r : List ℕ) → 0 < length r → Passed (startTests r)
     → entries r ≡ entryHere r ∷ entries (drop (recordLength r) r)
 unfolding entriesBehind
 entries-on [] h p = absurd (let f : ⊥ = omega arith in f)
@@ -148,7 +148,7 @@ read-on file at {next = next} e =
 
 -- ---- the outcomes
 
-pub numbers-read : {file : List ℕ} {at : ℕ} {os : List Outcome} → Reads file at os
+numbers-read : {file : List ℕ} {at : ℕ} {os : List Outcome} → Reads file at os
     → map (λ e. e .number) (entries (drop at file)) ≡ map numberGiven os
 numbers-read {file} {at} (over e) = ap (map (λ e. e .number)) (read-over file at e)
 numbers-read {file} {at} (stop e) =

@@ -20,7 +20,7 @@ use Rattle.job_sheet.proofs.Better.{Fair, better-right, competes-limit}
 use Rattle.job_sheet.proofs.Compared.{AtMost, LowerThan, most-trans, Compared, compared}
 use Rattle.job_sheet.proofs.Compared.Compared.{none, second, first}
 
-pub entry-place : {es : List Entry} {k : ℕ} {e : Entry} → EntryAt es k e → 0 < k
+entry-place : {es : List Entry} {k : ℕ} {e : Entry} → EntryAt es k e → 0 < k
 entry-place here = omega arith
 entry-place (later a) = omega arith
 
@@ -110,7 +110,7 @@ module _ (j m : ℕ) (d : Entry) (es : List Entry) where
 empty-has : {k : ℕ} {e : Entry} → EntryAt [] k e → ⊥
 empty-has = elim [ ]
 
-pub tops : (j m : ℕ) (es : List Entry) → Tops j m es (highestFrom m (suc j) es)
+tops : (j m : ℕ) (es : List Entry) → Tops j m es (highestFrom m (suc j) es)
 unfolding highestFrom
 tops j m [] = no-one refl (λ k e a c. empty-has a)
 tops j m (d ∷ es) = go (competes m d) refl (tops (suc j) m es)

@@ -36,7 +36,7 @@ known-among (r ∷ rs) m = ap (λ b. cond (eqb (r .0) m) true b) (known-among rs
 pub known-in : (m : ℕ) → known m ≡ true → isIn degrees m ≡ true
 known-in m e = sym (known-among rows m) ∙ e
 
-pub place-within : (ks : List ℕ) (m : ℕ) → isIn ks m ≡ true → placeIn ks m < length ks
+place-within : (ks : List ℕ) (m : ℕ) → isIn ks m ≡ true → placeIn ks m < length ks
 unfolding isIn placeIn
 place-within [] m e = absurd (true≢false (sym e))
 place-within (k ∷ ks) m e = go (eqb k m) (place-within ks m) e

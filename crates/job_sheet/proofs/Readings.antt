@@ -18,6 +18,7 @@ use Rattle.refusals.specs.Order.{Given}
 use Rattle.refusals.specs.Order.Given.{here, later}
 use Rattle.field.specs.Rows.{known}
 use Rattle.field.specs.Field.{rootsAt}
+use Rattle.input.proofs.Polynomials.{roots-shorter}
 use Rattle.job_records.specs.Layout.{headLength, degreeByte, cutoffByte, words, part, coefficients}
 use Rattle.job_records.specs.Cutoffs.{asked}
 use Rattle.job_records.specs.Reading.{Outcome, toldRead, recordTests, readAt}
@@ -28,11 +29,12 @@ use Rattle.job_records.proofs.Forward.{never, Here, here-is, among, accepts}
 use Rattle.job_records.proofs.Forward.Here.{over, stop, refuse, accept}
 use Rattle.job_records.proofs.Forward.Numbers.{none, one}
 use Rattle.job_records.proofs.Words.{length-words}
+use Rattle.job_solve.specs.Solving.{cutoffOf}
 use Rattle.job_sheet.specs.Entries.{Entry, entryHere}
 use Rattle.job_sheet.specs.Adding.{JobStands, CountedIs}
 use Rattle.job_sheet.specs.declared.Counted.{Counted}
 use Rattle.job_sheet.proofs.Outcomes.{entry-number}
-use Rattle.job_sheet.proofs.Solved.{cutoffOf, coefficientsOf, job-polynomial, roots-shorter}
+use Rattle.job_sheet.proofs.Solved.{coefficientsOf, job-polynomial}
 
 -- a test that is not the one whose number is given fails
 given-first : {k j : ℕ} {t : Bool} {ts : List (ℕ × Bool)} → Given k ((j, t) ∷ ts) → (k ≡ j → ⊥) → t ≡ false

@@ -15,11 +15,11 @@ use Rattle.job_sheet.specs.Calls.{totalOf}
 use Rattle.job_sheet.specs.declared.Total.{Total}
 use Rattle.job_sheet.specs.Text.{noneText, highestText, fieldText, unknownWord, markWord, shortWord, apartText}
 
-pub none-text : (p : Peak) → p .limit ≡ 0 → highestText p ≡ noneText
+none-text : (p : Peak) → p .limit ≡ 0 → highestText p ≡ noneText
 unfolding highestText
 none-text p e = rw (eq-eqb (p .limit) 0 e)
 
-pub highest-text : (p : Peak) → (p .limit ≡ 0 → ⊥) → highestText p ≡ spaced (p .place ∷ p .steps ∷ p .limit ∷ [])
+highest-text : (p : Peak) → (p .limit ≡ 0 → ⊥) → highestText p ≡ spaced (p .place ∷ p .steps ∷ p .limit ∷ [])
 unfolding highestText
 highest-text p n = rw (ne-eqb (p .limit) 0 n)
 

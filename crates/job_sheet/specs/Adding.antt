@@ -23,10 +23,10 @@ use Rattle.input.specs.Cutoff.{inForce}
 use Rattle.table_rules.specs.Demand.{stepsAt}
 use Rattle.table_rules.specs.Table.{stepLimit}
 use Rattle.job_records.specs.Layout.{words, part}
-use Rattle.job_records.specs.Cutoffs.{statedBy, asked}
 use Rattle.job_records.specs.Reading.{toldRead, readAt}
 use Rattle.job_records.specs.declared.Job.{Job}
 use Rattle.job_records.specs.declared.Read.the-variants.{Record}
+use Rattle.job_solve.specs.Solving.{cutoffOf}
 use Rattle.job_sheet.specs.Figures.{Peak, noPeak, better, FieldFigures}
 use Rattle.job_sheet.specs.declared.Counted.{Counted}
 use Rattle.job_sheet.specs.declared.FieldLine.{FieldLine}
@@ -89,7 +89,7 @@ pub record CountedAt (m c : ℕ) (cs : List ℕ) (r : Counted) : Type 0 where
   pub limit : r .limit ≡ stepLimit m (inForce c) (length (rootsAt m cs))
 
 abbrev pub CountedIs : List ℕ → Job → Counted → Type 0
-CountedIs file j r = CountedAt (j .m) (asked (statedBy (j .cutoff))) (words (part file (j .start) (j .len))) r
+CountedIs file j r = CountedAt (j .m) (cutoffOf j) (words (part file (j .start) (j .len))) r
 
 pub record RoomForRecord (l : FieldLine) (c : Counted) : Type 0 where
   pub accepted : l .accepted + 1 < 2 ^ 64

@@ -10,13 +10,13 @@ ghost use Rattle.job_sheet.specs.Adding.{placeOf, risen, noFigures, with
 ghost use Rattle.job_sheet.specs.Adding.{JobStands, CountedIs, RoomForRecord, RoomForRefusal};
 use field::rows::FIELDS;
 use field::rows::ROWS;
-use find_solve::solve_in;
-use input::COEFFICIENTS;
 use input::LIMIT;
-use input::in_force;
 use job_records::Job;
 use job_records::Read;
 use job_records::read_record;
+use job_solve::cutoff_in_force;
+use job_solve::solve_job;
+use table_slots::step_limit;
 
 pub mod text; // the lines that the program `sheet` prints
 
@@ -162,17 +162,13 @@ fn count_job(file: &[u8], job: Job) -> Counted
     let start = job.start;
     let len = job.len;
     let bytes = job_records::body(file, start, len);
-    let mut room = [0u16; COEFFICIENTS];
-    let n = job_records::coefficients(bytes, &mut room);
-    let m = job.m as u16;
-    let cutoff = job.cutoff;
-    let c = in_force(job_records::asked(cutoff));
     let mut roots = [0u16; LIMIT];
-    let done = solve_in(m, c, &room[..n], &mut roots);
+    let done = solve_job(job, bytes, &mut roots);
+    let limit = step_limit(job.m as u16, cutoff_in_force(job), done.s as usize);
     Counted {
         roots: done.s,
         steps: done.steps,
-        limit: m * (done.s / (c + 1)),
+        limit: limit as u16,
     }
 }
 

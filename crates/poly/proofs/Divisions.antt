@@ -80,14 +80,14 @@ module _ {m : ℕ} {ls ts : List ℕ} (l : Lent m ls ts) where
         length-take-le (length f - length p) (quo (G m) p f) (omega (arith, length-quo (G m) p f)),
       )
 
-  pub divided-below : (p f : List ℕ) → Below (2 ^ m) p → Below (2 ^ m) f → Below (2 ^ m) (divided m p f)
+  divided-below : (p f : List ℕ) → Below (2 ^ m) p → Below (2 ^ m) f → Below (2 ^ m) (divided m p f)
   unfolding divided
   divided-below p f b h =
       append-below (2 ^ m) (rem (G m) p f) (take (length f - length p) (quo (G m) p f)) (rem-below (numbers-of l) p f b h)
       (take-below (2 ^ m) (length f - length p) (quo (G m) p f) (quo-below (numbers-of l) p f b h))
 
   -- before the first digit
-  pub divided-start : (p f : List ℕ) → length f ≡ length p → divided m p f ≡ f
+  divided-start : (p f : List ℕ) → length f ≡ length p → divided m p f ≡ f
   unfolding divided
   divided-start p f e =
       let z : length f - length p ≡ 0 = omega arith in
@@ -106,7 +106,7 @@ module _ {m : ℕ} {ls ts : List ℕ} (l : Lent m ls ts) where
       ∙ append-assoc (take (length p) (c ∷ r)) (getD (c ∷ r) (length p) 0 ∷ []) q
 
   -- one digit more
-  pub divided-on : (p : List ℕ) (c : ℕ) (f : List ℕ) → length p ≤ length f
+  divided-on : (p : List ℕ) (c : ℕ) (f : List ℕ) → length p ≤ length f
       → add (G m) (c ∷ divided m p f) (map (G m .mul (getD (c ∷ divided m p f) (length p) 0)) p) ≡ divided m p (c ∷ f)
   unfolding rem shiftIn quo divided
   divided-on p c f h =

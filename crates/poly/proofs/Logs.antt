@@ -101,10 +101,10 @@ module _ {m : ℕ} {logs antilogs : List ℕ} (l : Lent m logs antilogs) where
       ∙ ap₂ (λ a b. antilogOf (fieldAt m) (a + b)) (log-at h) (sym e)
       ∙ log-product (fieldAt m) field-of t (antilogOf (fieldAt m) x) p h (antilog-lt (fieldAt m) field-of x)
 
-  pub antilog-log : {x : ℕ} → x < 2 ^ m → antilogOf (fieldAt m) (logOf (fieldAt m) x) ≡ x
+  antilog-log : {x : ℕ} → x < 2 ^ m → antilogOf (fieldAt m) (logOf (fieldAt m) x) ≡ x
   antilog-log {x} h = back (fieldAt m) field-of x h
 
-  pub log-is-log : {x : ℕ} → x < 2 ^ m → IsLog m (getD logs x 0)
+  log-is-log : {x : ℕ} → x < 2 ^ m → IsLog m (getD logs x 0)
   log-is-log {x} h = subst (IsLog m) (sym (log-at h)) (ap (logOf (fieldAt m)) (antilog-log h))
 
   -- two elements

@@ -60,7 +60,7 @@ scale-from {m} {ls} {ts} {v} {r} g = record { given = g; filling = map-from (G m
 
 module _ {m : ℕ} {ls ts : List ℕ} {v : ℕ} {r₀ r : List ℕ} {i : ℕ} (s : Scaling m ls ts v r₀ r i) where
   -- what stands at i is an element
-  pub scale-small : i < length r₀ → getD r i 0 < 2 ^ m
+  scale-small : i < length r₀ → getD r i 0 < 2 ^ m
   scale-small h = let b = below-at (2 ^ m) r₀ (s .given .small) i h in omega (arith, fill-next (s .filling) h)
 
   pub scale-logs : i < length r₀ → getD r i 0 < length ls
@@ -82,7 +82,7 @@ module _ {m : ℕ} {ls ts : List ℕ} {v : ℕ} {r₀ r : List ℕ} {i : ℕ} (s
 
 module _ (m : ℕ) where
   -- a highest coefficient that is 0 is left out
-  pub norm-zero : (k : ℕ) (r : List ℕ) → getD r k 0 ≡ 0 → norm (G m) (suc k) r ≡ norm (G m) k r
+  norm-zero : (k : ℕ) (r : List ℕ) → getD r k 0 ≡ 0 → norm (G m) (suc k) r ≡ norm (G m) k r
   unfolding norm
   norm-zero k r e = rw (eq-eqb (getD r k 0) 0 e)
 

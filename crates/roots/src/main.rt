@@ -1,7 +1,7 @@
 // Reads job records from standard input, at most 65,536 bytes, and prints the line of each (docs/RULES.md section 6).
 // Where a read or a write fails, standard error says so and the program stops; at which record reading stopped, and that
 // there is input past the limit, is said there too.
-ghost use Prim.Native.Nat.{_+_, _≤_, _<_, _^_};
+ghost use Prim.Native.Nat.{_≤_};
 ghost use lib.ListN.{length};
 ghost use Rattle.job_records.specs.Reading.{Stands};
 ghost use Rattle.job_lines.specs.Printing.{Ahead};
@@ -17,7 +17,7 @@ const FAILED: usize = usize::MAX;
 
 // Prints the line of what was read; where reading goes on, or a number past the end of any file.
 fn print_turn(read: Read, bytes: &[u8], k: u32) -> usize
-    requires { ⌜ (k + 1 < 2 ^ 32) × Stands read (now bytes) ⌝ }
+    requires { ⌜ Stands read (now bytes) ⌝ }
     ensures { λ n. ⌜ Ahead read (now (bytes .entry)) n ⌝ }
 {
     let mut out = [0u8; LINE];
@@ -28,7 +28,7 @@ fn print_turn(read: Read, bytes: &[u8], k: u32) -> usize
     }
     let next = turn.next;
     match next {
-        Next::On(place) => place.at,
+        Next::On(at) => at,
         Next::Over => OVER,
     }
 }

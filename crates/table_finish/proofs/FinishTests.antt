@@ -1,6 +1,6 @@
 -- What finish finds before it writes.
 --   admit-room, admit-unfit, admit-more, admit-done   each return of `admit`
---   closed-is, opened-asks, opened-is   what a refusal and a pass decide
+--   refused-is, done-asks, listed-is    what a refusal and a pass decide
 -- Assumes nothing.
 use mathlib.Core.Path.{_≡_, refl, sym, ap, ap₂, _∙_}
 use mathlib.Core.Bool.{Bool, true, false, not, _||_, true≢false}
@@ -9,9 +9,13 @@ use Prim.Native.Nat.{ℕ, _≤_, _<_}
 use borrow.Author.Tests.{lt-ltb, le-ltb, ltb-false, eq-eqb, ne-eqb}
 use lib.Dec.{eqb, ltb}
 use lib.ListN.{length}
+use Rattle.refusals.specs.Order.{Given, Passed}
 use Rattle.refusals.specs.Order.Passed.{none}
+use Rattle.refusals.specs.Numbers.{numberOf}
+use Rattle.refusals.specs.Admitting.{Admits}
 use Rattle.refusals.specs.declared.Refusal.{Refusal}
-use Rattle.refusals.specs.declared.Refusal.the-variants.{Room, Unsound, NotDone}
+use Rattle.refusals.specs.declared.Refusal.the-variants.{Room, NotDone}
+use Rattle.refusals.specs.declared.Admission.the-variants.{In, Out}
 use Rattle.refusals.proofs.Order.{holds, fails, passes, failed, others}
 use Rattle.refusals.proofs.Order as order
 use Rattle.input.specs.Limit.{limit}
@@ -29,18 +33,16 @@ use Rattle.table_slots.proofs.Finding.{seek-done, seek-at}
 use Rattle.table_check.specs.Verdicts.{Fit, Checks}
 use Rattle.table_check.specs.Verdicts.Checks.{short, unsound}
 use Rattle.table_check.specs.declared.Checked.the-variants.{Unfit}
-use Rattle.table_finish.specs.Calls.{finishOutcome, finishMemory, toldFinished}
-use Rattle.table_finish.specs.Finishing.{Lendable, ListedIn, Opens}
-use Rattle.table_finish.specs.Finishing.Opens.{closed, opened}
-use Rattle.table_finish.specs.declared.Opening.the-variants.{Closed, Open}
+use Rattle.table_finish.specs.Calls.{finishTests, finishOutcome, finishMemory, toldFinished}
+use Rattle.table_finish.specs.Finishing.{Lendable, ListedIn}
 use Rattle.table_finish.specs.declared.Finished.the-variants.{Listed, NotFinished}
 
 -- ---- the returns of `admit`
 
 module _ (l list : List ℕ) where
   -- refusal 7, for the list
-  pub admit-room : length list < limit → Opens l list (Closed Room)
-  admit-room h = closed {k = Room} (holds (go (not (eqb (length l) slots)) (lt-ltb (length list) limit h)))
+  pub admit-room : length list < limit → Admits (finishTests l list) (Out Room)
+  admit-room h = holds (go (not (eqb (length l) slots)) (lt-ltb (length list) limit h))
     where
       go : (a : Bool) {b : Bool} → b ≡ true → (a || b) ≡ true
       go true e = refl
@@ -60,9 +62,9 @@ module _ (l list : List ℕ) where
         go false = refl
 
     -- the refusal that the check found
-    pub admit-unfit : {k : Refusal} → Checks l (Unfit k) → Opens l list (Closed k)
-    admit-unfit (short n) = closed {k = Room} (holds (first (ap not (ne-eqb (length l) slots n))))
-    admit-unfit (unsound e u) = closed {k = Unsound} (fails (first (ap not (eq-eqb (length l) slots e))) (holds (ap not u)))
+    pub admit-unfit : {k : Refusal} → Checks l (Unfit k) → Admits (finishTests l list) (Out k)
+    admit-unfit (short n) = holds (first (ap not (ne-eqb (length l) slots n)))
+    admit-unfit (unsound e u) = fails (first (ap not (eq-eqb (length l) slots e))) (holds (ap not u))
 
     module _ {s : ℕ} (g : Fit l s) where
       -- test 7 fails
@@ -75,24 +77,24 @@ module _ (l list : List ℕ) where
         sought = e ∙ ap (λ c. soughtIn c l) (k .cutoff)
 
         -- refusal 10: there is a factor above the cutoff
-        pub admit-more : {o : ℕ} → f ≡ At o → Opens l list (Closed NotDone)
+        pub admit-more : {o : ℕ} → f ≡ At o → Admits (finishTests l list) (Out NotDone)
         admit-more a =
-            closed {k = NotDone} (fails (first long-enough) (fails (ap not (g .sound)) (holds (ap not (seek-at l (g .sound) sought a .more)))))
+            fails (first long-enough) (fails (ap not (g .sound)) (holds (ap not (seek-at l (g .sound) sought a .more))))
 
         -- no refusal
-        pub admit-done : f ≡ Nowhere → Opens l list Open
-        admit-done n = opened (passes (first long-enough) (passes (ap not (g .sound)) (passes (ap not (seek-done l (g .sound) sought n)) none)))
+        pub admit-done : f ≡ Nowhere → Admits (finishTests l list) In
+        admit-done n = passes (first long-enough) (passes (ap not (g .sound)) (passes (ap not (seek-done l (g .sound) sought n)) none))
 
 -- ---- from there to what finish promises
 
 module _ {l list : List ℕ} where
   -- a refusal writes nothing
-  pub closed-is : {k : Refusal} → Opens l list (Closed k) → (toldFinished (NotFinished k) ≡ finishOutcome l list) × (list ≡ finishMemory l list)
-  closed-is (closed g) = (sym (order.refused _ g), sym (order.unwritten _ _ g))
+  pub refused-is : {k : Refusal} → Given (numberOf k) (finishTests l list) → (toldFinished (NotFinished k) ≡ finishOutcome l list) × (list ≡ finishMemory l list)
+  refused-is g = (sym (order.refused _ g), sym (order.unwritten _ _ g))
 
   -- what the tests tell of the table and the list
-  pub opened-asks : Opens l list Open → Lendable l list
-  opened-asks (opened p) = record {
+  pub done-asks : Passed (finishTests l list) → Lendable l list
+  done-asks p = record {
     sound = unflip (isSound l) (failed (others p));
     done = unflip (slotsDone byFactor l) (failed (others (others p)));
     room = ltb-false (length list) limit (right (not (eqb (length l) slots)) (failed p));
@@ -107,6 +109,6 @@ module _ {l list : List ℕ} where
       right false e = e
 
   -- the list is made
-  pub opened-is : {k : ℕ} {list′ : List ℕ} → Opens l list Open → ListedIn l list k list′
+  pub listed-is : {k : ℕ} {list′ : List ℕ} → Passed (finishTests l list) → ListedIn l list k list′
       → (toldFinished (Listed k) ≡ finishOutcome l list) × (list′ ≡ finishMemory l list)
-  opened-is (opened p) h = (ap (λ n. (0, n ∷ [])) (h .count) ∙ sym (order.accepted _ p), h .slots ∙ sym (order.written _ _ p))
+  listed-is p h = (ap (λ n. (0, n ∷ [])) (h .count) ∙ sym (order.accepted _ p), h .slots ∙ sym (order.written _ _ p))

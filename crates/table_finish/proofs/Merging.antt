@@ -1,5 +1,5 @@
 -- The walk over the factors of a done table, whose roots are merged into one list.
---   small-solvable, roots-long, merge-asks, merge-is   one factor: its roots are found and merged
+--   roots-long, merge-asks, merge-is   one factor: its roots are found and merged
 --   table-long, table-known           a sound table has its slots, and its field is known
 --   head-there                        its head
 --   lent-on                           the tables of the field are lent
@@ -13,7 +13,7 @@ use mathlib.Core.Path.{_≡_, refl, sym, ap, ap₂, _∙_, subst}
 use mathlib.Core.Logic.{_↔_, _⊎_, inl, inr, ⊎-elim}
 use mathlib.Core.Bool.{Bool, true, false, not, _||_, and-eq-true-iff}
 use mathlib.Core.List.{List, [], _∷_, _++_, append-assoc, List·Memᴰ, List·Memᴰ·not-nil, List·Memᴰ·append-cases, Memᴰ·append-left, Memᴰ·append-right}
-use Prim.Native.Nat.{ℕ, _+_, _-_, _*_, _^_, _≤_, _<_}
+use Prim.Native.Nat.{ℕ, _+_, _-_, _^_, _≤_, _<_}
 use native.Mathlib.Omega.{arith}
 use borrow.Author.Tests.{ltb-false}
 use lib.Dec.{T}
@@ -26,8 +26,7 @@ use Rattle.algebra.proofs.RootList.{rootsOf-member}
 use Rattle.field.specs.Rows.{known}
 use Rattle.slices.specs.Ordered.{Merged}
 use Rattle.slices.proofs.Ordered.{merged-none, merged-append, merged-count, merged-kept}
-use Rattle.poly.specs.Lent.{Lent}
-use Rattle.poly_small.specs.Roots.{SmallSolvable, RootsOut}
+use Rattle.poly_small.specs.Roots.{RootsOut}
 use Rattle.input.specs.Cutoff.{highestCutoff}
 use Rattle.input.specs.Limit.{limit}
 use Rattle.table_rules.specs.Entries.{above, done}
@@ -48,10 +47,6 @@ use Rattle.poly.proofs.Lending.{lent-at, halves-at}
 -- ---- one factor
 
 module _ {m : ℕ} {ls ts hs p roots : List ℕ} {n : ℕ} (g : Mergeable m ls ts hs p roots n) where
-  -- what the solver asks
-  pub small-solvable : (out : List ℕ) → length out ≡ 3 → SmallSolvable m ls ts hs p out
-  small-solvable out e = record { tables = g .tables; halves = g .halves; small = g .small; low = g .low; room = omega arith }
-
   module _ {k : ℕ} {out : List ℕ} (e : length out ≡ 3) (o : RootsOut m p k out) where
     -- as many as it says
     pub roots-long : length (take k out) ≡ k
@@ -149,7 +144,7 @@ zero-none m x z = z .1
 -- a sound table has its slots, and its field is known
 module _ {l list : List ℕ} (g : Lendable l list) where
   -- its slots
-  pub table-long : length l ≡ slots
+  table-long : length l ≡ slots
   table-long = sound-rules byFactor known limit l .0 (g .sound) .size
 
   -- its field
@@ -228,7 +223,7 @@ module _ {ls ts hs l list : List ℕ} (g : Listable ls ts hs l list) where
         pub split : f .ahead ≡ first ∷ others
 
       -- there is one
-      pub factor-here : FactorHere
+      factor-here : FactorHere
       factor-here = go (f .ahead) refl
         where
           go : (fs : List Factor) → f .ahead ≡ fs → FactorHere
@@ -248,15 +243,15 @@ module _ {ls ts hs l list : List ℕ} (g : Listable ls ts hs l list) where
       all-ahead = subst (All (Fair (widthOf l))) (factor-here .split) (f .fair)
 
       -- it is there, whole
-      pub factor-within : at + factorSlots + length p ≤ length l
+      factor-within : at + factorSlots + length p ≤ length l
       factor-within = omega (arith, f .place, ap length spread, ahead-long (factor-here .first) (factor-here .others) (f .pre) (f .after))
 
       -- its degree stands before it
-      pub front-degree : degreeAt l at ≡ length p
+      front-degree : degreeAt l at ≡ length p
       front-degree = ap₂ (λ u j. getD u (j + 1) 0) spread (f .place) ∙ ahead-degree (factor-here .first) (factor-here .others) (f .pre) (f .after)
 
       -- its coefficients stand there
-      pub front-is : factorAt l at ≡ p
+      front-is : factorAt l at ≡ p
       front-is =
           ap (λ n. take n (drop (at + 2) l)) front-degree ∙ ap₂ (λ u j. take (length p) (drop (j + 2) u)) spread (f .place)
           ∙ ahead-coefficients (factor-here .first) (factor-here .others) (f .pre) (f .after)

@@ -4,7 +4,6 @@
 --   Lendable    a sound table that is done, and a list with room for its roots
 --   Listable    the same with the tables of its field lent
 --   ListedIn    the list that finish makes stands in front, and k elements are in it
---   Opens       what finish finds before it writes
 -- Assumes nothing.
 use mathlib.Core.Path.{_≡_}
 use mathlib.Core.Logic.{_↔_}
@@ -14,9 +13,6 @@ use Prim.Native.Nat.{ℕ, _+_, _^_, _≤_}
 use lib.ListN.{length}
 use Rattle.algebra.specs.Polynomial.{Below}
 use Rattle.algebra.specs.Routines.{monic}
-use Rattle.refusals.specs.Numbers.{numberOf}
-use Rattle.refusals.specs.Order.{Given, Passed}
-use Rattle.refusals.specs.declared.Refusal.{Refusal}
 use Rattle.slices.specs.Lists.{copied}
 use Rattle.slices.specs.Ordered.{Merged}
 use Rattle.field.specs.Field.{fieldAt, G, rootsAt}
@@ -28,9 +24,6 @@ use Rattle.table_rules.specs.Layout.{byFactor}
 use Rattle.table_rules.specs.Splitting.{slotsDone, slotsRoots}
 use Rattle.table_rules.specs.Sizes.{isSound}
 use Rattle.table_slots.specs.Slots.{widthOf}
-use Rattle.table_finish.specs.Calls.{finishTests}
-use Rattle.table_finish.specs.declared.Opening.{Opening}
-use Rattle.table_finish.specs.declared.Opening.the-variants.{Closed, Open}
 
 -- room for as many roots as its degree
 pub record Mergeable (m : ℕ) (ls ts hs p roots : List ℕ) (n : ℕ) : Type 0 where
@@ -64,8 +57,3 @@ pub record ListedIn (table roots : List ℕ) (k : ℕ) (roots′ : List ℕ) : T
   pub few : k ≤ limit
   pub count : k ≡ length (slotsRoots byFactor table)
   pub slots : roots′ ≡ copied (slotsRoots byFactor table) roots
-
--- the first test that holds, or none
-pub data Opens (table roots : List ℕ) : Opening → Type 0 where
-  closed : {k : Refusal} → Given (numberOf k) (finishTests table roots) → Opens table roots (Closed k)
-  opened : Passed (finishTests table roots) → Opens table roots Open

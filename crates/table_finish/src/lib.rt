@@ -1,7 +1,8 @@
 // Finish (docs/RULES.md section 4.4): the roots of each factor of a done table, merged into the front of the list,
 // ascending and once each.
-ghost use Rattle.table_finish.specs.Calls.{Finishes};
-ghost use Rattle.table_finish.specs.Finishing.{Mergeable, RootsIn, Listable, ListedIn, Lendable, Opens};
+ghost use Rattle.refusals.specs.Admitting.{Admits};
+ghost use Rattle.table_finish.specs.Calls.{finishTests, Finishes};
+ghost use Rattle.table_finish.specs.Finishing.{Mergeable, RootsIn, Listable, ListedIn, Lendable};
 use field_tables::constants::antilogs4;
 use field_tables::constants::antilogs8;
 use field_tables::constants::antilogs11;
@@ -13,6 +14,7 @@ use field_tables::constants::logs8;
 use field_tables::constants::logs11;
 use input::LIMIT;
 use poly_small::small_roots;
+use refusals::Admission;
 use refusals::Refusal;
 use table_check::Checked;
 use table_check::check;
@@ -29,26 +31,20 @@ pub enum Finished {
     NotFinished(Refusal),
 }
 
-// What finish finds before it writes: a refusal, or a table that is done.
-pub enum Opening {
-    Closed(Refusal),
-    Open,
-}
-
 // Refusals 7, 8 and 10, or none of them.
-fn admit(table: &[u16], roots: &[u16]) -> Opening
-    ensures { λ r. ⌜ Opens (now (table .entry)) (now (roots .entry)) r ⌝ }
+fn admit(table: &[u16], roots: &[u16]) -> Admission
+    ensures { λ r. ⌜ Admits (finishTests (now (table .entry)) (now (roots .entry))) r ⌝ }
 {
     if roots.len() < LIMIT {
-        return Opening::Closed(Refusal::Room);
+        return Admission::Out(Refusal::Room);
     }
     match check(table) {
-        Checked::Unfit(k) => Opening::Closed(k),
+        Checked::Unfit(k) => Admission::Out(k),
         Checked::Sound(_) => {
             let h = head_of(table);
             match first_above(table, h.cutoff) {
-                Spot::At(_) => Opening::Closed(Refusal::NotDone),
-                Spot::Nowhere => Opening::Open,
+                Spot::At(_) => Admission::Out(Refusal::NotDone),
+                Spot::Nowhere => Admission::In,
             }
         }
     }
@@ -117,7 +113,7 @@ pub fn finish(table: &[u16], roots: &mut [u16]) -> Finished
     ensures { λ r. ⌜ Finishes (now (table .entry)) (now (roots .entry)) r (now (roots .exit)) ⌝ }
 {
     match admit(table, &roots[..]) {
-        Opening::Closed(k) => Finished::NotFinished(k),
-        Opening::Open => Finished::Listed(finish_in(table, roots) as u16),
+        Admission::Out(k) => Finished::NotFinished(k),
+        Admission::In => Finished::Listed(finish_in(table, roots) as u16),
     }
 }

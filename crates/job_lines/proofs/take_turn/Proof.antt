@@ -1,14 +1,12 @@
 -- `job_lines::take_turn` meets its contract: by what was read.
 -- Assumes nothing.
-use mathlib.Core.Path.{_∙_, ap}
-use Rattle.job_records.specs.Reading.{bytesOf}
-use Rattle.job_lines.proofs.Turning.{turn-over, turn-stop, turn-refuse, turn-record, record-solvable}
+use mathlib.Core.Path.{sym, ap, _∙_}
+use Rattle.job_records.specs.Reading.{toldRead, bytesOf}
+use Rattle.job_solve.proofs.Solving.{job-accepted}
+use Rattle.job_lines.proofs.Turning.{turn-over, turn-stop, turn-refuse, turn-record}
 use borrow.Author.Needs.{needs}
 use Rattle.job_lines.proofs.take_turn.Statement.{statement}
 use Rattle.job_lines.proofs.take_turn.Tie as tie
-
-add-after : tie.Need-add-after
-add-after c = search needs
 
 enum-told : tie.Need-enum-told
 enum-told c = search needs
@@ -28,18 +26,12 @@ turned-line-requires-2 c κs = search needs
 enum-known-read-3 : tie.Need-enum-known-read-3
 enum-known-read-3 c = search needs
 
-cast-solved-line : tie.Need-cast-solved-line
-cast-solved-line c = search needs
-
-asked-requires : tie.Need-asked-requires
-asked-requires c κs = search needs
-
 solved-line-requires : tie.Need-solved-line-requires
 solved-line-requires c κs =
-    let j = c .before .before .before .before in
-    let start = j .before .before .before .before in
-    let s = start .pre .2 in
-    record-solvable (s .file) (s .at) _ (s .read) (j .read3 .given .1) (c .before .asked .ensures) (s .lent ∙ ap (bytesOf (s .file)) (j .read3 .given .1)) (start .pre .0)
+    let f = c .before .before .read3 .given .1 in
+    let start = c .before .before .before .before .before .before in
+    let s = start .pre .1 in
+    (job-accepted (s .file) (s .at) (ap toldRead (sym f) ∙ s .read) (s .lent ∙ ap (bytesOf (s .file)) f), start .pre .0)
 
 returns : tie.Need-returns
 returns c file at e b = turn-over e (c .enum-told .given .1)
@@ -61,23 +53,19 @@ same-length-3 c = search needs
 
 returns-4 : tie.Need-returns-4
 returns-4 c file at e b =
-    let v = c .before .before .before .before in
-    let f = v .before .before .before .read3 .given .1 in
-    turn-record e f (v .asked .ensures) (b ∙ ap (bytesOf file) f) (c .before .before .solved-line .ensures)
+    let f = c .before .before .before .before .before .read3 .given .1 in
+    turn-record e f (b ∙ ap (bytesOf file) f) (c .before .before .solved-line .ensures)
 
 pub take-turn-spec : {M : Type 1} → statement M
 take-turn-spec =
     tie.close
     (tie.spec
-    add-after
     enum-told
     enum-known-read
     turned-line-requires
     enum-known-read-2
     turned-line-requires-2
     enum-known-read-3
-    cast-solved-line
-    asked-requires
     solved-line-requires
     returns
     same-length

@@ -1,6 +1,6 @@
 -- `job_lines::turned_line` meets its contract: no roots are written behind a number that is not 0.
 -- Assumes nothing.
-use Rattle.job_lines.proofs.Accepted.{line-turned}
+use Rattle.job_lines.proofs.Solved.{line-turned}
 use borrow.Author.Needs.{needs}
 use Rattle.job_lines.proofs.turned_line.Statement.{statement}
 use Rattle.job_lines.proofs.turned_line.Tie as tie

@@ -23,14 +23,14 @@ slice-aggregate-print c = search needs
 array-share-prefix-out : tie.Need-array-share-prefix-out
 array-share-prefix-out c =
     let t = c .before .before in
-    let s = t .before .before .before .pre .1 in
+    let s = t .before .before .before .pre in
     let same = t .take-turn .kept .1 .1 .1 .0 in
     omega (arith, turn-fits (t .take-turn .ensures (s .file) (s .at) (s .read) (s .lent)) same, same)
 
 slice-aggregate-print-2 : tie.Need-slice-aggregate-print-2
 slice-aggregate-print-2 c =
     let t = c .before .before .before in
-    let s = t .before .before .before .pre .1 in
+    let s = t .before .before .before .pre in
     let same = t .take-turn .kept .1 .1 .1 .0 in
     sym (length-take-le _ _ (omega (arith, turn-fits (t .take-turn .ensures (s .file) (s .at) (s .read) (s .lent)) same, same)))
 

@@ -225,7 +225,7 @@ module _ {M : Type 1} (𝓤 : URA M) (H : Heap 𝓤) (A : Atoms 𝓤) (W : Given
   abbrev to-print : Read → Val → RefT (List ℕ) → Val → ℕ → Print 𝓤 H A mem run .Ghost
   to-print t w b z k = (((κ, tt), (q, tt), tt, (t, (b, (k, tt))), (w ∷ [], (z ∷ [], (vint w32 k ∷ [], tt)))), tt)
 
-  goes-print : (t : Read) (w : Val) (b : RefT (List ℕ)) (z : Val) (k : ℕ) → Is S.the-row t (w ∷ []) → k < 2 ^ 32 → (k + 1 < 2 ^ 32) × Stands t (now b)
+  goes-print : (t : Read) (w : Val) (b : RefT (List ℕ)) (z : Val) (k : ℕ) → Is S.the-row t (w ∷ []) → k < 2 ^ 32 → Stands t (now b)
       → ent 𝓤 (⋆ 𝓤 H A (‵ (P .own b (z ∷ [])) ∷ token ∷ [])) (Print 𝓤 H A mem run .pre (to-print t w b z k))
   goes-print t w b z k is fits asked =
       qed W (‵ (P .own b (z ∷ [])) ∷ token ∷ []) ∵ says ! asked $ move ! (1 ∷ []) $ frame ! $ nothing ! $ owned ! u32 (Is u32) (uint-makes 𝓤 H A W w32) k _ (refl, fits) $ fjoin ! $
@@ -355,7 +355,7 @@ module _ {M : Type 1} (𝓤 : URA M) (H : Heap 𝓤) (A : Atoms 𝓤) (W : Given
         peeks ! P (Is P) (shows 𝓤 H A P) b (z ∷ []) (λ is₂.
         land ! (from ! (stop !)) (init ! 9 refl (shr-slice-lawful 𝓤 H A W erased κ u8 .typed b (z ∷ []) is₂ .0)) $
         -- [what the bytes own; the token; what the reader owns; what file owns; …]: its line
-        use2 W (raw (Print 𝓤 H A mem run .pre (to-print x w b z k))) (goes-print x w b z k is₁ (f .k-fits) (k-next f ahead, record { file = now (r .file); at = r .at; read = e₁; lent = e₂ })) $
+        use2 W (raw (Print 𝓤 H A mem run .pre (to-print x w b z k))) (goes-print x w b z k is₁ (f .k-fits) (record { file = now (r .file); at = r .at; read = e₁; lent = e₂ })) $
         calls-at ! fm (Print 𝓤 H A mem run) known-print (to-print x w b z k) (and-then ! (load ! (from ! (stop !)) (look ! 7 refl)) (and-then ! (load ! (from ! (stop !)) (look ! 8 refl)) (and-then ! (load ! (from ! (stop !)) (look ! 5 refl)) (no-more !)))) (λ y.
         use1 W (later (some (λ (m : ℕ). (token ⊛ ‵ (usize .own m (y ∷ []))) ⊛ raw (ensured 𝓤 H A print.ended (print.clauses 𝓤 H A mem run) (κ, tt) (x, (b, (k, tt))) tt m)))) (id⊢ 𝓤 _) $ await ! tt $ pick ! (λ m.
         split ! $ move ! (1 ∷ []) $ use1 W (raw (fact 𝓤 (Ahead x (now b) m))) (print-said x b k m) $ heard ! (Ahead x (now b) m) (λ e₃. split ! $ move ! (1 ∷ []) $

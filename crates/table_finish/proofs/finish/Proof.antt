@@ -1,8 +1,7 @@
 -- `table_finish::finish` meets its contract: a refusal writes nothing, and else the list is made.
 -- Assumes nothing.
-use mathlib.Core.Path.{subst}
-use Rattle.table_finish.specs.Finishing.{Opens}
-use Rattle.table_finish.proofs.FinishTests.{closed-is, opened-asks, opened-is}
+use Rattle.refusals.proofs.Admitting.{let-in, turned-away}
+use Rattle.table_finish.proofs.FinishTests.{refused-is, done-asks, listed-is}
 use borrow.Author.Needs.{needs}
 use Rattle.table_finish.proofs.finish.Statement.{statement}
 use Rattle.table_finish.proofs.finish.Tie as tie
@@ -17,7 +16,7 @@ enum-told : tie.Need-enum-told
 enum-told c = search needs
 
 finish-in-requires : tie.Need-finish-in-requires
-finish-in-requires c κs = opened-asks (subst (Opens _ _) (c .before .enum-told .given .1) (c .before .before .before .admit .ensures))
+finish-in-requires c κs = done-asks (let-in (c .before .before .before .admit .ensures) (c .before .enum-told .given .1))
 
 cast-t11 : tie.Need-cast-t11
 cast-t11 c = search needs
@@ -26,13 +25,13 @@ same-length : tie.Need-same-length
 same-length c = search needs
 
 returns : tie.Need-returns
-returns c = closed-is (subst (Opens _ _) (c .before .k .given .1) (c .before .before .before .admit .ensures))
+returns c = refused-is (turned-away (c .before .before .before .admit .ensures) (c .before .k .given .1))
 
 same-length-2 : tie.Need-same-length-2
 same-length-2 c = search needs
 
 returns-2 : tie.Need-returns-2
-returns-2 c = opened-is (subst (Opens _ _) (c .before .before .before .before .enum-told .given .1) (c .before .before .before .before .before .before .admit .ensures)) (c .before .before .finish-in .ensures)
+returns-2 c = listed-is (let-in (c .before .before .before .before .before .before .admit .ensures) (c .before .before .before .before .enum-told .given .1)) (c .before .before .finish-in .ensures)
 
 pub finish-spec : {M : Type 1} → statement M
 finish-spec =

@@ -19,21 +19,21 @@ abbrev μ-loop : tie.MeasureT-loop
 loop-holds : tie.Need-loop-holds Inv-loop μ-loop
 loop-holds c = let p = c .before .before .before .pre in summing-from _ _ _ (p .2) (p .3)
 
-mul-product : tie.Need-mul-product Inv-loop μ-loop
-mul-product c = search needs
+mul-product-by-logs : tie.Need-mul-product-by-logs Inv-loop μ-loop
+mul-product-by-logs c = search needs
 
-shared-slice-read-product : tie.Need-shared-slice-read-product Inv-loop μ-loop
-shared-slice-read-product c = search needs
+shared-slice-read-product-by-logs : tie.Need-shared-slice-read-product-by-logs Inv-loop μ-loop
+shared-slice-read-product-by-logs c = search needs
 
-product-requires : tie.Need-product-requires Inv-loop μ-loop
-product-requires c κs =
+product-by-logs-requires : tie.Need-product-by-logs-requires Inv-loop μ-loop
+product-by-logs-requires c κs =
     let s = c .before .before .before .before .before .before in
     let l = c .before .before .loop in
     let h : l .i < length (now (s .args .coeffs)) = omega arith in
     (s .pre .0, l .inv .positive, l .inv .element, below-at _ (now (s .args .coeffs)) (s .pre .1) (l .i) h)
 
-product-requires-2 : tie.Need-product-requires-2 Inv-loop μ-loop
-product-requires-2 c κs = let p = c .before .before .before .before .before .before .before .pre in let i = c .before .before .before .loop .inv in (p .0, i .positive, i .element, i .element)
+product-by-logs-requires-2 : tie.Need-product-by-logs-requires-2 Inv-loop μ-loop
+product-by-logs-requires-2 c κs = let p = c .before .before .before .before .before .before .before .pre in let i = c .before .before .before .loop .inv in (p .0, i .positive, i .element, i .element)
 
 add-i : tie.Need-add-i Inv-loop μ-loop
 add-i c = search needs
@@ -42,7 +42,7 @@ loop-less : tie.Need-loop-less Inv-loop μ-loop
 loop-less c = search needs
 
 loop-again : tie.Need-loop-again Inv-loop μ-loop
-loop-again c = summing-on (c .before .before .before .before .before .before .before .before .pre .0 .degree) (c .before .before .before .before .loop .inv) (omega arith) (c .before .product .ensures) (c .product2 .ensures)
+loop-again c = summing-on (c .before .before .before .before .before .before .before .before .pre .0 .degree) (c .before .before .before .before .loop .inv) (omega arith) (c .before .product-by-logs .ensures) (c .product-by-logs2 .ensures)
 
 returns : tie.Need-returns Inv-loop μ-loop
 returns c = summing-end (c .before .loop .inv) (omega arith)
@@ -54,10 +54,10 @@ terms-spec =
     Inv-loop
     μ-loop
     loop-holds
-    mul-product
-    shared-slice-read-product
-    product-requires
-    product-requires-2
+    mul-product-by-logs
+    shared-slice-read-product-by-logs
+    product-by-logs-requires
+    product-by-logs-requires-2
     add-i
     loop-less
     loop-again

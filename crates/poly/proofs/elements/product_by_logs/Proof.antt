@@ -1,10 +1,10 @@
--- `find_affine::images::product` meets its contract, by the law of the product by logs.
+-- `poly::elements::product_by_logs` meets its contract, by the law of the product by logs.
 -- Assumes nothing.
 use native.Mathlib.Omega.{arith}
 use Rattle.poly.proofs.Logs.{logs-fit, product-fits, product-at}
 use borrow.Author.Needs.{needs}
-use Rattle.find_affine.proofs.images.product.Statement.{statement}
-use Rattle.find_affine.proofs.images.product.Tie as tie
+use Rattle.poly.proofs.elements.product_by_logs.Statement.{statement}
+use Rattle.poly.proofs.elements.product_by_logs.Tie as tie
 
 mul-k : tie.Need-mul-k
 mul-k c = search needs
@@ -36,8 +36,8 @@ shared-slice-read-result-2 c = let p = c .before .before .before .pre in product
 returns : tie.Need-returns
 returns c = let p = c .before .before .before .pre in product-at (p .0) (p .1) (p .2) (p .3)
 
-pub product-spec : {M : Type 1} → statement M
-product-spec =
+pub product-by-logs-spec : {M : Type 1} → statement M
+product-by-logs-spec =
     tie.close
     (tie.spec
     mul-k

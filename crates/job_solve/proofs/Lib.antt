@@ -1,0 +1,2 @@
+-- Why: what the reader accepts the engine takes.
+pub mod Solving
