@@ -41,7 +41,7 @@ use Rattle.demands.proofs.Agreement.{agree-list, agree-beside}
 use Rattle.demands.specs.Demand2.{valueAt, RootList, HasMultiplicity, MultiplicityList, Holds, Demand2}
 
 -- the roots of an accepted polynomial
-pub root-list : (m : ℕ) (f : List ℕ) → PolynomialIn m f → RootList m f (rootsAt m f)
+root-list : (m : ℕ) (f : List ℕ) → PolynomialIn m f → RootList m f (rootsAt m f)
 root-list m f t = record {
   ascending = rootsOf-ascending (G m) (2 ^ m) f;
   once = rootsOf-distinct (G m) (2 ^ m) f;
@@ -114,7 +114,7 @@ pub search-passes : (m c : ℕ) (f list mults : List ℕ) → Passed (solveTests
 search-passes m c f list mults p = passed-more m f (passed-first m f p) (others (passed-rest m f p))
 
 -- and so back, at each cutoff up to the highest
-pub solve-passes : (m c : ℕ) (f list mults : List ℕ) → c ≤ highestCutoff → Passed (searchTests m f list mults) → Passed (solveTests m c f list mults)
+solve-passes : (m c : ℕ) (f list mults : List ℕ) → c ≤ highestCutoff → Passed (searchTests m f list mults) → Passed (solveTests m c f list mults)
 solve-passes m c f list mults h p = passed-more m f (passed-first m f p) (passes (le-ltb highestCutoff c h) (passed-rest m f p))
 
 pub demand-2 : (m c : ℕ) (f list mults : List ℕ) → Passed (solveTests m c f list mults) → Demand2 m c f list mults

@@ -13,7 +13,7 @@
 --   STEPS-ARE      they are as many as demand 3 counts
 -- Assumes nothing.
 use mathlib.Core.Path.{_≡_, refl, sym, ap, ap₂, _∙_, subst}
-use mathlib.Core.Bool.{Bool, true, false, not, cond, _&&_}
+use mathlib.Core.Bool.{Bool, not, _&&_}
 use mathlib.Core.List.{List, [], _∷_}
 use Prim.Native.Nat.{ℕ, zero, suc, _+_, _-_, _*_, _/_, _%_, _^_, _≤_, _<_}
 use native.Mathlib.Decide.{ℕ-discrete, decLt}
@@ -22,7 +22,7 @@ use native.Mathlib.Numerals.{add-one}
 use native.Mathlib.Omega.{arith}
 use borrow.Author.Tests.{eq-eqb, ne-eqb, le-ltb, lt-ltb}
 use lib.Bits.{bitXor, xor-shr, xor-mod, xor-block}
-use lib.Dec.{T, eqb, ltb, eqb→eq}
+use lib.Dec.{T, eqb, eqb→eq}
 use lib.Pow.{pow-mono}
 use lib.ListN.{length, getD, drop, drop-of-length-le, length-append}
 use lib.Seq.{drop-cons}
@@ -48,7 +48,7 @@ use Rattle.find_direct.specs.Steps.{traceWord, under, stepsUnder, Counte
 
 -- ---- trace words
 
-pub word-lt : (x : ℕ) → traceWord x < 2048
+word-lt : (x : ℕ) → traceWord x < 2048
 unfolding traceWord
 word-lt x = mod-lt _ (zero-lt-suc 2047)
 
@@ -172,7 +172,7 @@ module _ (k p : ℕ) (rs : List ℕ) where
       ∙ every (λ x. ap (λ (v : ℕ). eqb v p && digitBit k x) (above (traceWord x) k) ∙ by-half-odd (traceWord x / 2 ^ k) p)
 
   -- they are as many together
-  pub under-parts : length (under (suc k) p rs) ≡ length (under k (p * 2) rs) + length (under k (p * 2 + 1) rs)
+  under-parts : length (under (suc k) p rs) ≡ length (under k (p * 2) rs) + length (under k (p * 2 + 1) rs)
   under-parts = sym (keep-both (digitBit k) (under (suc k) p rs)) ∙ ap₂ _+_ (ap length zeros-under) (ap length ones-under)
 
   -- the level whose trace bit stands at place k
@@ -193,7 +193,7 @@ module _ (k p : ℕ) (rs : List ℕ) where
         keep-same (traceBitAt 11 (11 - suc k)) (digitBit k) (under (suc k) p rs) (all-map at-level (under (suc k) p rs) inside) ∙ ones-under
 
 -- from place 11 on all agree
-pub under-all : (rs : List ℕ) → under 11 0 rs ≡ rs
+under-all : (rs : List ℕ) → under 11 0 rs ≡ rs
 under-all rs = every 0 0 rs (λ x. eq-eqb (traceWord x / 2048) 0 (div-eq-of-lt (word-lt x))) ∙ keep-all rs
 
 -- ---- how many are in a group
@@ -232,17 +232,17 @@ module _ {k p : ℕ} {rs : List ℕ} {n i : ℕ} (s : Sharing k p rs n i) where
 -- ---- steps
 
 module _ (c : ℕ) (rs : List ℕ) where
-  pub none-under : (k p : ℕ) → length (under k p rs) ≤ c → stepsUnder c rs k p ≡ 0
+  none-under : (k p : ℕ) → length (under k p rs) ≤ c → stepsUnder c rs k p ≡ 0
   unfolding stepsUnder
   none-under zero p h = refl
   none-under (suc k) p h = rw (le-ltb c (length (under (suc k) p rs)) h)
 
-  pub some-under : (k p : ℕ) → c < length (under (suc k) p rs)
+  some-under : (k p : ℕ) → c < length (under (suc k) p rs)
       → stepsUnder c rs (suc k) p ≡ suc (stepsUnder c rs k (p * 2) + stepsUnder c rs k (p * 2 + 1))
   unfolding stepsUnder
   some-under k p h = rw (lt-ltb c (length (under (suc k) p rs)) h)
 
-  pub steps-lt : (k p : ℕ) → stepsUnder c rs k p < 2 ^ k
+  steps-lt : (k p : ℕ) → stepsUnder c rs k p < 2 ^ k
   unfolding stepsUnder
   steps-lt zero p = zero-lt-suc 0
   steps-lt (suc k) p = go (steps-lt k) (decLt c (length (under (suc k) p rs)))

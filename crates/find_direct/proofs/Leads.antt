@@ -1,21 +1,20 @@
 -- A polynomial that was let in, divided by its leading coefficient.
 --   leads         its lower coefficients are then divided by that one
 --   coefficient   each is an element;  leading-positive  and the leading one is not 0
---   leads-few     it has no more roots than its degree
 --   quadratic-is  of degree 2 it has the roots of z^2 + az + b;  linear-is  of degree 1 the quotient
 -- Assumes nothing.
-use mathlib.Core.Path.{_≡_, refl, sym, ap, ap₂, _∙_, subst}
+use mathlib.Core.Path.{_≡_, refl, sym, ap, ap₂, _∙_}
 use mathlib.Core.Logic.{_≢_}
-use mathlib.Core.Option.{Option, some}
+use mathlib.Core.Option.{some}
 use mathlib.Core.List.{List, [], _∷_, map}
-use Prim.Native.Nat.{ℕ, zero, suc, _-_, _^_, _≤_, _<_}
+use Prim.Native.Nat.{ℕ, suc, _-_, _^_, _≤_, _<_}
 use native.Mathlib.Nat.{not-suc-le-zero, le-of-suc-le-suc}
 use native.Mathlib.Omega.{arith}
-use lib.ListN.{length, getD, take, length-take, length-map}
+use lib.ListN.{length, getD, take}
 use Rattle.algebra.specs.Field.{OnNumbers}
 use Rattle.algebra.specs.Routines.{norm}
 use Rattle.algebra.proofs.StaysBelow.{below-at}
-use Rattle.algebra.proofs.RootList.{rootsOf-norm, rootsOf-degree, rootsOf-one}
+use Rattle.algebra.proofs.RootList.{rootsOf-norm, rootsOf-one}
 use Rattle.field.specs.Field.{fieldAt, mul, inverse, G, rootsAt}
 use Rattle.field.specs.Quadratics.{rootsOfQuadratic}
 use Rattle.poly.proofs.Monics.{norm-skip, norm-lead}
@@ -49,11 +48,6 @@ module _ {n : ℕ} {f : List ℕ} (g : Leading n f) where
   leading-positive k e =
       let nonzero : getD f k 0 ≢ 0 = λ z. g .top .nonzero (omega arith) (ap (λ (i : ℕ). getD f i 0) (let h : n - 1 ≡ k = omega arith in h) ∙ z) in
       omega arith
-
-  pub leads-few : (k : ℕ) → n ≡ suc k → length (rootsAt 11 f) ≤ k
-  leads-few k e =
-      let h = rootsOf-degree N f (g .polynomial .small) (leads k e) in
-      omega (arith, h, length-map (take k f) (G 11 .mul (G 11 .inv (getD f k 0))), length-take k f)
 
   pub quadratic-is : n ≡ 3 → {v a b : ℕ} → v ≡ inverse (fieldAt 11) (getD f 2 0) → a ≡ mul (fieldAt 11) v (getD f 1 0)
       → b ≡ mul (fieldAt 11) v (getD f 0 0) → rootsOfQuadratic (fieldAt 11) a b ≡ rootsAt 11 f

@@ -16,7 +16,7 @@ pub mod steps; // the steps of a list of roots
 pub mod tried; // degrees 3 and 4
 
 // Writes the root of an accepted polynomial of degree 1 to the front of the list.
-pub fn linear_root(coeffs: &[u16], roots: &mut [u16])
+fn linear_root(coeffs: &[u16], roots: &mut [u16])
     requires { ⌜ Leading 2 (now coeffs) × (1 ≤ length (now roots)) ⌝ }
     ensures { λ _. ⌜ Listed (rootsAt 11 (now (coeffs .entry))) (now (roots .entry)) 1 (now (roots .exit)) ⌝ }
 {
@@ -44,7 +44,7 @@ fn write_roots(a: u16, b: u16, roots: &mut [u16]) -> u16
 
 // Writes the roots of an accepted polynomial of degree 2, ascending, to the front of the list. Returns how many there
 // are.
-pub fn quadratic_roots(coeffs: &[u16], roots: &mut [u16]) -> u16
+fn quadratic_roots(coeffs: &[u16], roots: &mut [u16]) -> u16
     requires { ⌜ Leading 3 (now coeffs) × (2 ≤ length (now roots)) ⌝ }
     ensures { λ k. ⌜ Listed (rootsAt 11 (now (coeffs .entry))) (now (roots .entry)) k (now (roots .exit)) ⌝ }
 {

@@ -36,7 +36,7 @@ use Rattle.input.specs.Limit.{limit}
 use Rattle.input.specs.Polynomials.{PolynomialIn}
 use Rattle.find_search.specs.Searching.{Searchable, SearchedOut}
 use Rattle.poly_resultants.specs.Maps.{Led}
-use Rattle.poly_resultants.specs.Levels.{Polynomial, Climbs, Levelled}
+use Rattle.poly_resultants.specs.Levels.{Climbs, Levelled}
 use Rattle.poly_resultants.specs.Chains.{Chained, chainOf, endOf}
 use Rattle.poly_resultants.proofs.Numbers.{few-roots}
 use Rattle.poly_resultants.proofs.Reaching.{chained-of}
@@ -157,7 +157,7 @@ module _ {m : ℕ} {f ls ts chain : List ℕ} {end : ℕ} {roots : List ℕ} (a 
         λ h. l .whole x (h .0) (eval-cut x (h .0) ∙ isRoot-is N f small x (h .0) .0 (h .1)) (a .chained .reach x (h .0)),
       )
 
-      pub found-few : length (take k xs) ≤ 32
+      found-few : length (take k xs) ≤ 32
       found-few =
           let n = few-roots m (a .searchable .tables .degree) (take j f) (take k xs) (take-below (2 ^ m) j f small) led (l .distinct) (l .roots) in
           let w = t .within in

@@ -27,7 +27,7 @@ use poly_resultants::levels::TOP;
 use poly_resultants::levels::level;
 
 // Lists every element at which f is 0 at the front of the roots, ascending. Returns how many there are.
-pub fn find_lent(
+fn find_lent(
     m: u16,
     f: &[u16],
     logs: &[u16],

@@ -88,7 +88,7 @@ unfolding upFrom copied
 tried-from m f roots = record { within = omega arith; count = refl; slots = refl; long = refl; fewer = omega arith }
 
 -- where two branches meet
-pub tried-moved : {m : ℕ} {f roots s r : List ℕ} {x k j : ℕ} → Tried m f roots x k s → j ≡ k → r ≡ s → Tried m f roots x j r
+tried-moved : {m : ℕ} {f roots s r : List ℕ} {x k j : ℕ} → Tried m f roots x k s → j ≡ k → r ≡ s → Tried m f roots x j r
 tried-moved h e g = rw (e, g) h
 
 -- a root found has its slot, as all roots have

@@ -4,20 +4,18 @@
 --   Reading                   what the loop over the digits keeps: its start, its turn and its end
 --   free-from                 the complement of the occupied lanes says which elements are roots
 -- Assumes nothing.
-use mathlib.Core.Path.{_≡_, refl, sym, ap, ap₂, _∙_, subst}
+use mathlib.Core.Path.{_≡_, refl, sym, ap, _∙_}
 use mathlib.Core.List.{List}
 use Prim.Native.Nat.{ℕ, zero, suc, _+_, _-_, _*_, _/_, _%_, _^_, _≤_, _<_}
 use native.Mathlib.Nat.{pow-suc, div-div-eq-div-mul, div-one, mul-comm, div-eq-of-lt, div-le-self, add-zero}
 use native.Mathlib.Decide.{decLt}
-use native.Mathlib.Numerals.{add-one}
 use native.Mathlib.Omega.{arith}
 use lib.Pow.{pow-pos, pow-mono, pow-add}
 use lib.Bits.{bitXor, xor-lt}
 use lib.Count.{trailingZeros, under}
 use lib.ListN.{length, set}
 use Rattle.algebra.specs.Polynomial.{eval}
-use Rattle.field.specs.Field.{rootsAt, G}
-use Rattle.field.proofs.Digits.{bit-cases}
+use Rattle.field.specs.Field.{G}
 use Rattle.poly_values.specs.Planes.{occupied, wordsAt, taps11}
 use Rattle.poly_values.specs.Tables.{Values}
 use Rattle.poly_values.proofs.Finishing.{free-hit, free-miss}
@@ -30,7 +28,7 @@ use Rattle.find_search.proofs.Trying.{tried-hit, tried-miss, tried-room
 digit-half : (q s : ℕ) → q / 2 / 2 ^ s ≡ q / 2 ^ suc s
 digit-half q s = div-div-eq-div-mul q 2 (2 ^ s) ∙ ap (λ (t : ℕ). q / t) (mul-comm 2 (2 ^ s) ∙ sym (pow-suc 2 s))
 
-pub tz-below : (d q s : ℕ) → s < trailingZeros d q → q / 2 ^ s % 2 ≡ 0
+tz-below : (d q s : ℕ) → s < trailingZeros d q → q / 2 ^ s % 2 ≡ 0
 unfolding trailingZeros
 tz-below zero q s h = absurd (omega arith)
 tz-below (suc d) q s h = go (q % 2) refl s h (λ i k. tz-below d (q / 2) i k)
@@ -40,7 +38,7 @@ tz-below (suc d) q s h = go (q % 2) refl s h (λ i k. tz-below d (q / 2) i k)
     go zero e (suc s) k rec = ap (λ (t : ℕ). t % 2) (sym (digit-half q s)) ∙ rec s (omega arith)
     go (suc b) e s k rec = absurd (omega arith)
 
-pub tz-odd : (d q : ℕ) → 0 < q → q < 2 ^ d → (q / 2 ^ trailingZeros d q % 2 ≡ 1) × (trailingZeros d q < d)
+tz-odd : (d q : ℕ) → 0 < q → q < 2 ^ d → (q / 2 ^ trailingZeros d q % 2 ≡ 1) × (trailingZeros d q < d)
 unfolding trailingZeros
 tz-odd zero q h k = absurd (omega arith)
 tz-odd (suc d) q h k = go (q % 2) refl (λ p. tz-odd d (q / 2) p (omega (arith, pow-suc 2 d)))
@@ -52,7 +50,7 @@ tz-odd (suc d) q h k = go (q % 2) refl (λ p. tz-odd d (q / 2) p (omega (arith, 
 
 -- ---- elements that are no roots
 
-pub tried-skip : {m : ℕ} {f roots r : List ℕ} {x k : ℕ} (d : ℕ) → Tried m f roots x k r → x + d ≤ 2 ^ m
+tried-skip : {m : ℕ} {f roots r : List ℕ} {x k : ℕ} (d : ℕ) → Tried m f roots x k r → x + d ≤ 2 ^ m
     → ((j : ℕ) → j < d → eval (G m) f (x + j) ≡ 0 → ⊥) → Tried m f roots (x + d) k r
 tried-skip {x = x} zero h l z = tried-next h (add-zero x)
 tried-skip {m} {f} {x = x} (suc d) h l z =

@@ -58,7 +58,7 @@ fn try_first(m: u16, f: &[u16], logs: &[u16], antilogs: &[u16], roots: &mut [u16
 }
 
 // Lists every element at which f is 0 at the front of the roots, ascending. Returns how many there are.
-pub fn search_lent(m: u16, f: &[u16], logs: &[u16], antilogs: &[u16], roots: &mut [u16]) -> u16
+fn search_lent(m: u16, f: &[u16], logs: &[u16], antilogs: &[u16], roots: &mut [u16]) -> u16
     requires { ⌜ Searchable m (now f) (now logs) (now antilogs) (now roots) ⌝ }
     ensures { λ k. ⌜ SearchedOut m (now (f .entry)) (now (roots .entry)) k (now (roots .exit)) ⌝ }
 {

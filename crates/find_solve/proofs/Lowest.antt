@@ -5,10 +5,10 @@
 --   few-steps           no more roots than the cutoff take no step
 --   low-empty, low-single   what the whole call answers then
 -- Assumes nothing.
-use mathlib.Core.Path.{_≡_, refl, sym, ap, _∙_, subst}
+use mathlib.Core.Path.{_≡_, refl, sym, ap, _∙_}
 use mathlib.Core.Bool.{Bool, true, false}
 use mathlib.Core.Logic.{_≢_}
-use mathlib.Core.Option.{Option, some}
+use mathlib.Core.Option.{some}
 use mathlib.Core.List.{List, [], _∷_, map}
 use Prim.Native.Nat.{ℕ, suc, _-_, _^_, _≤_, _<_}
 use native.Mathlib.Nat.{not-suc-le-zero}
@@ -46,7 +46,7 @@ set-first (y ∷ s) x h = refl
 -- ---- roots and steps
 
 -- no part of them has more
-pub few-steps : (m c : ℕ) (roots : List ℕ) → length roots ≤ c → stepCount m c roots ≡ 0
+few-steps : (m c : ℕ) (roots : List ℕ) → length roots ≤ c → stepCount m c roots ≡ 0
 few-steps m c roots h = count-left (traceBitAt m) c m roots ∙ left-none (traceBitAt m) c m 0 roots h
 
 module _ {m n : ℕ} {f : List ℕ} (g : AtMostLinear m f n) where

@@ -85,7 +85,7 @@ module _ {m c : ℕ} {f table : List ℕ} (s : Stepping m c f table) where
   cutoff-now = ap cutoffOf (s .slots-are)
 
   -- so that the tables lent are those of its field
-  pub lent-now : {ls ts : List ℕ} → Lent m ls ts → Lent (widthOf table) ls ts
+  lent-now : {ls ts : List ℕ} → Lent m ls ts → Lent (widthOf table) ls ts
   lent-now {ls} {ts} l = subst (λ (w : ℕ). Lent w ls ts) (sym width-now) l
 
   done-now : slotsDone byFactor table ≡ isDone (groupsAfter m c (rootsAt m f) n)
@@ -168,7 +168,7 @@ module _ {m c : ℕ} {f table : List ℕ} (s : Stepping m c f table) where
 -- ---- at the end
 
 -- the table that is done is a begun one too
-pub out-stepping : {m c : ℕ} {f table table′ : List ℕ} → Stepping m c f table → RunOut m c f table′ → Stepping m c f table′
+out-stepping : {m c : ℕ} {f table table′ : List ℕ} → Stepping m c f table → RunOut m c f table′ → Stepping m c f table′
 out-stepping {m} {c} {f} {table′ = table′} s r =
     let n : ℕ = stepCount m c (rootsAt m f) in
     let k : takenOf table′ ≡ n = ap takenOf (r .slots-are) ∙ taken-at m c f n in

@@ -83,14 +83,14 @@ sum-most m n (suc k) b rows =
     (omega (arith, length-map (held m (take n rows)) (G m .mul b), held-long m (take n rows))) (sum-most m n k (G m .mul b b) (drop n rows))
 
 -- as long as a row
-pub level-long : (m n : ℕ) (rows : List ℕ) (k : ℕ) → length (levelSum m n rows k) ≡ n
+level-long : (m n : ℕ) (rows : List ℕ) (k : ℕ) → length (levelSum m n rows k) ≡ n
 unfolding levelSum
 level-long m n rows k =
     let z : length (replicate {A = ℕ} n 0) ≡ n = length-replicate n 0 in
     length-add-left (G m) (replicate n 0) (traceSum m n m (power (G m) 2 k) rows) (omega (arith, sum-most m n m (power (G m) 2 k) rows)) ∙ z
 
 -- and its coefficients are elements
-pub level-below : {m : ℕ} {ls ts : List ℕ} → Lent m ls ts → (n : ℕ) (rows : List ℕ) (k : ℕ) → Below (2 ^ m) (levelSum m n rows k)
+level-below : {m : ℕ} {ls ts : List ℕ} → Lent m ls ts → (n : ℕ) (rows : List ℕ) (k : ℕ) → Below (2 ^ m) (levelSum m n rows k)
 unfolding levelSum
 level-below {m} l n rows k =
     let N : OnNumbers (G m) (2 ^ m) = numbers-of l in
@@ -215,7 +215,7 @@ module _ (m n : ℕ) (rows : List ℕ) where
           ∙ take-all n (levelSum m n rows k) (omega (arith, level-long m n rows k)) ∙ ap (levelSum m n rows) e
 
   -- in the list that holds them
-  pub traced-at : {i k : ℕ} {traces : List ℕ} → i < k → k * n ≤ length traces → Traced m n rows k traces → take n (drop (i * n) traces) ≡ levelSum m n rows i
+  traced-at : {i k : ℕ} {traces : List ℕ} → i < k → k * n ≤ length traces → Traced m n rows k traces → take n (drop (i * n) traces) ≡ levelSum m n rows i
   traced-at {i} {k} {traces} h r t =
       let a : suc i * n ≤ k * n = mul-le-mul-right n h in
       let b : suc i * n ≡ i * n + n = suc-mul i n in
@@ -241,10 +241,10 @@ module _ {m n : ℕ} {f ls ts rows : List ℕ} (l : Lent m ls ts) (hf : Below (2
   z = 0 ∷ 1 ∷ []
 
   -- the polynomial made monic
-  pub small-low : Below (2 ^ m) (g .low)
+  small-low : Below (2 ^ m) (g .low)
   small-low = norm-below N (length f) f hf (g .made)
 
-  pub small-z : Below (2 ^ m) z
+  small-z : Below (2 ^ m) z
   small-z = (N .zero-below, (N .one-below, tt))
 
   -- a^i is an element
@@ -261,7 +261,7 @@ module _ {m n : ℕ} {f ls ts rows : List ℕ} (l : Lent m ls ts) (hf : Below (2
     zeros-value = eval-top N [] n tt r hr
 
     -- and the sum of the level is Tr(a^i r)
-    pub level-value : eval (G m) (levelSum m n rows i) r ≡ eval (G m) (traceOf (G m) m (power (G m) 2 i)) r
+    level-value : eval (G m) (levelSum m n rows i) r ≡ eval (G m) (traceOf (G m) m (power (G m) 2 i)) r
     unfolding levelSum
     level-value =
         let b : ℕ = power (G m) 2 i in
@@ -308,7 +308,7 @@ module _ {m n : ℕ} {f ls ts rows : List ℕ} (l : Lent m ls ts) (hf : Below (2
   each-entry Q empty whole (w ∷ ws) (suc k) = each-entry Q empty whole ws k
 
   -- THE LAW: the factor that a step splits is parted by the sum of any level as by the trace
-  pub begun-same : {c : ℕ} {table : List ℕ} {o : ℕ} → Stepping m c f table → Chosen table o → (i : ℕ)
+  begun-same : {c : ℕ} {table : List ℕ} {o : ℕ} → Stepping m c f table → Chosen table o → (i : ℕ)
       → gcd (G m) (factorAt table o) (levelSum m n rows i) ≡ halvingAt m .low i (factorAt table o)
   unfolding gcd euclid
   begun-same {c} {table} {o} s h i =
@@ -353,7 +353,7 @@ module _ {m : ℕ} {ls ts : List ℕ} {n : ℕ} {rows traces : List ℕ} {k : �
 -- ---- `run`
 
 -- the degree of the polynomial is at most the limit
-pub powers-few : {m : ℕ} {f ls ts low : List ℕ} → Lent m ls ts → PolynomialIn m f → norm (G m) (length f) f ≡ some low → length low ≤ limit
+powers-few : {m : ℕ} {f ls ts low : List ℕ} → Lent m ls ts → PolynomialIn m f → norm (G m) (length f) f ≡ some low → length low ≤ limit
 powers-few {m} {f} l t e = omega (arith, norm-made (numbers-of l) f (t .small) e .shorter, t .few)
 
 -- so that the sums of all levels have their room

@@ -146,7 +146,7 @@ pub struct Counts {
 }
 
 // Begins a table, steps it until it is done, and lists its roots at the front of the list.
-pub fn solve_lent(
+fn solve_lent(
     m: u16,
     c: u16,
     coeffs: &[u16],

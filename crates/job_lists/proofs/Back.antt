@@ -44,7 +44,7 @@ digit-on w d n rest h e =
     let z : soFar w * 10 + (digitByte d - digitByte 0) ≡ n = omega arith in
     rw (digit-is d h) (ap (λ k. numbersFrom (some k) rest) z)
 
-pub word-back : (x : ℕ) (rest : List ℕ) → numbersFrom none (decimal x ++ rest) ≡ numbersFrom (some x) rest
+word-back : (x : ℕ) (rest : List ℕ) → numbersFrom none (decimal x ++ rest) ≡ numbersFrom (some x) rest
 word-back = by-tenths (λ x l. (rest : List ℕ) → numbersFrom none (l ++ rest) ≡ numbersFrom (some x) rest)
     (λ x h rest. digit-on none x x rest h (omega arith))
     (λ x h p rest. ap (numbersFrom none) (append-assoc (decimal (x / 10)) (digitByte (x % 10) ∷ []) rest)
@@ -71,7 +71,7 @@ unfolding isDigit isBlank legible spaced
 spaced-legible [] = refl
 spaced-legible (x ∷ xs) = digits-legible (spaced xs) (decimal-digits x) ∙ spaced-legible xs
 
-pub legible-back : (x : ℕ) (xs : List ℕ) → legible (decimal x ++ spaced xs) ≡ true
+legible-back : (x : ℕ) (xs : List ℕ) → legible (decimal x ++ spaced xs) ≡ true
 legible-back x xs = digits-legible (spaced xs) (decimal-digits x) ∙ spaced-legible xs
 
 -- ---- numbers of 16 bits
@@ -84,11 +84,11 @@ capped-id n h = go (ltb n highestNumber) refl
     go true e = refl
     go false e = let l = ltb-false n highestNumber e in omega arith
 
-pub capped-back : (l : List ℕ) → Below (suc highestNumber) l → map capped l ≡ l
+capped-back : (l : List ℕ) → Below (suc highestNumber) l → map capped l ≡ l
 capped-back [] b = refl
 capped-back (x ∷ l) b = ap₂ (λ y s. y ∷ s) (capped-id x (b .0)) (capped-back l (b .1))
 
-pub numbers-back : (x : ℕ) (xs : List ℕ) → Below (suc highestNumber) (x ∷ xs) → length (x ∷ xs) ≤ mostNumbers
+numbers-back : (x : ℕ) (xs : List ℕ) → Below (suc highestNumber) (x ∷ xs) → length (x ∷ xs) ≤ mostNumbers
     → numbersOf (decimal x ++ spaced xs) ≡ x ∷ xs
 numbers-back x xs b h =
     ap (take mostNumbers) (words-back x xs ∙ capped-back (x ∷ xs) b) ∙ take-all mostNumbers (x ∷ xs) h
@@ -104,7 +104,7 @@ second : (x y : Bool) → (x && y) ≡ true → y ≡ true
 second true y h = h
 second false y h = absurd (true≢false (sym h))
 
-pub line-alone : (line rest : List ℕ) → legible line ≡ true → lineLength (line ++ (lineFeed ∷ rest)) ≡ length line
+line-alone : (line rest : List ℕ) → legible line ≡ true → lineLength (line ++ (lineFeed ∷ rest)) ≡ length line
 unfolding isDigit isBlank legible lineLength
 line-alone [] rest h = refl
 line-alone (b ∷ l) rest h = go (eqb b lineFeed) refl (line-alone l rest (second (isLegible b) (legible l) h))

@@ -33,7 +33,7 @@ same-numbers {m} {c} {m′} {c′} {roots} {roots′} room {x} {y} {r} {s} e p q
     let t = write-coincide m c roots room r s x y p (subst (λ l. Writes m c l room s y) d u) in
     (ap Answer (t .0), t .1)
 
-pub lists-once : {line room : List ℕ} {r s : Listed} {x y : List ℕ} → Lists line room r x → Lists line room s y
+lists-once : {line room : List ℕ} {r s : Listed} {x y : List ℕ} → Lists line room r x → Lists line room s y
     → (r ≡ s) × (x ≡ y)
 lists-once (illegible f) (illegible g) = (refl, refl)
 lists-once (illegible f) (alone t e) = (refl, refl)

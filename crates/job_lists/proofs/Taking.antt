@@ -46,7 +46,7 @@ capped-low : (n : ℕ) → ltb n highestNumber ≡ true → capped n ≡ n
 unfolding capped
 capped-low n e = rw e
 
-pub capped-again : (n d : ℕ) → capped (capped n * 10 + d) ≡ capped (n * 10 + d)
+capped-again : (n d : ℕ) → capped (capped n * 10 + d) ≡ capped (n * 10 + d)
 capped-again n d = go (ltb n highestNumber) refl
   where
     go : (b : Bool) → ltb n highestNumber ≡ b → capped (capped n * 10 + d) ≡ capped (n * 10 + d)
@@ -64,7 +64,7 @@ pub grow-on : {word : Word} (b : ℕ) {n r : ℕ} → word ≡ Open n → r ≡ 
     → Open r ≡ grownWord word b
 grow-on {word} b e k = ap Open k ∙ ap (λ w. grownWord w b) (sym e)
 
-pub grown-held : (w : Option ℕ) (b : ℕ) → grownWord (heldWord w) b ≡ heldWord (longer w b)
+grown-held : (w : Option ℕ) (b : ℕ) → grownWord (heldWord w) b ≡ heldWord (longer w b)
 grown-held none b = refl
 grown-held (some n) b = ap Open (capped-again n _)
 

@@ -42,7 +42,7 @@ read-back (Record j) =
 read-back (Refused k next) = refused-back (λ r. Refused r next) End k
 read-back (Stopped k) = refused-back Stopped End k
 
-pub read-told : (r s : Read) → toldRead r ≡ toldRead s → r ≡ s
+read-told : (r s : Read) → toldRead r ≡ toldRead s → r ≡ s
 read-told = way-back toldRead answerOf read-back
 
 pub read-coincide : (file : List ℕ) (at : ℕ) (r s : Read) → ReadsAt file at r → ReadsAt file at s → r ≡ s

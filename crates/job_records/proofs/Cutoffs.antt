@@ -1,9 +1,8 @@
 -- The cutoff that a record states.
 --   never-zero            the reader never makes a stated 0
 --   asked-stated          the cutoff that is asked for is the byte
---   statedCutoff-once     two cutoffs that state the same are one
 -- Assumes nothing.
-use mathlib.Core.Path.{_≡_, refl, sym, ap, _∙_}
+use mathlib.Core.Path.{_≡_, refl, sym, _∙_}
 use mathlib.Core.Bool.{Bool, true, false, cond}
 use mathlib.Core.List.{List, [], _∷_}
 use Prim.Native.Nat.{ℕ}
@@ -46,6 +45,3 @@ pub cutoff-back : (c : Cutoff) → cutoffFrom (statedBy c) ≡ c
 unfolding cutoffFrom
 cutoff-back House = refl
 cutoff-back (Stated c) = refl
-
-pub statedCutoff-once : (c d : Cutoff) → statedBy c ≡ statedBy d → c ≡ d
-statedCutoff-once c d e = sym (cutoff-back c) ∙ ap cutoffFrom e ∙ cutoff-back d

@@ -31,7 +31,7 @@ module _ (r : List ℕ) where
 
   module _ (h : 2 ≤ length r) (e : getD r 0 0 ≡ markLow) (f : getD r 1 0 ≡ markHigh) where
     -- the mark is there
-    pub its-mark : not (marked r) ≡ false
+    its-mark : not (marked r) ≡ false
     its-mark = ap₂ (λ b c. not (b && c)) (eq-eqb (getD r 0 0) markLow e) (eq-eqb (getD r 1 0) markHigh f)
 
     pub start-short : length r < recordLength r → Given 12 (startTests r)

@@ -103,7 +103,7 @@ module _ {r : List ℕ} (c : Complete r) (more : List ℕ) where
       ap (take (bodyLength r)) (drop-append-le headLength r more (omega (arith, c .whole)))
       ∙ take-append-le (bodyLength r) (drop headLength r) more (omega (arith, c .whole, length-drop headLength r))
 
-  pub front-judged : (at : ℕ) → judged at (r ++ more) ≡ judged at r
+  front-judged : (at : ℕ) → judged at (r ++ more) ≡ judged at r
   unfolding judged
   front-judged at = simp (own 2 (omega arith), own 3 (omega arith), own 4 (omega arith), own-part)
 
@@ -140,7 +140,7 @@ on-behind {file} {r} {at} {os} c e h =
     subst (λ o. Reads file at (o ∷ os)) (sym (g .2)) (on (e ∙ g .2) (subst (λ i. Reads file i os) n h))
 
 -- a file in which the records of rs stand behind pre, and tail behind them
-pub reads-through : {file : List ℕ} {at : ℕ} (pre : List ℕ) {rs : List (List ℕ)} (tail : List ℕ) {os : List Outcome} → AllComplete rs
+reads-through : {file : List ℕ} {at : ℕ} (pre : List ℕ) {rs : List (List ℕ)} (tail : List ℕ) {os : List Outcome} → AllComplete rs
     → file ≡ pre ++ (joinedFile rs ++ tail) → at ≡ length pre → Reads file (at + length (joinedFile rs)) os → Reads file at (outcomesOf at rs ++ os)
 unfolding joinedFile outcomesOf
 reads-through pre tail none f a h = rw add-zero at h

@@ -61,14 +61,14 @@ pub enum Ending {
 }
 
 // The number that two bytes spell.
-pub fn word(low: u8, high: u8) -> u16
+fn word(low: u8, high: u8) -> u16
     ensures { λ r. ⌜ r ≡ word low high ⌝ }
 {
     (low as u16) + 256 * (high as u16)
 }
 
 // House default or stated number.
-pub fn cutoff_of(c: u8) -> Cutoff
+fn cutoff_of(c: u8) -> Cutoff
     ensures { λ r. ⌜ statedBy r ≡ statedCutoff c ⌝ }
 {
     if c == 0 {

@@ -56,7 +56,7 @@ module _ (file room : List ℕ) where
           let b : bytes ≡ length (keptFile file) = cc in
           record { fits = ltb-false (length room) (length file) (failed p); count = n; long = b; holds = h .1 ∙ written _ _ p }
 
-  pub says-kept : {r : Salvaged} (after : List ℕ) → length file ≤ length room → Salvages file room r after
+  says-kept : {r : Salvaged} (after : List ℕ) → length file ≤ length room → Salvages file room r after
       → (r ≡ Kept (length (keptRecords file)) (length (keptFile file))) × (after ≡ copied (keptFile file) room)
   says-kept {r} after l h =
       let p = passes (le-ltb (length room) (length file) l) none in

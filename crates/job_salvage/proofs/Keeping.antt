@@ -43,7 +43,7 @@ given-record r g =
     (one (omega arith) (one (omega arith) (one (omega arith) (one (omega arith) (one (omega arith) (one (omega arith) none))))))
 
 module _ (at : ℕ) (r : List ℕ) where
-  pub keeps-passed : accepts (readHere at r) ≡ true → Passed (startTests r) × Passed (recordTests r)
+  keeps-passed : accepts (readHere at r) ≡ true → Passed (startTests r) × Passed (recordTests r)
   keeps-passed e = go (here-is at r) e
     where
       go : {o : Outcome} → Here at r o → accepts o ≡ true → Passed (startTests r) × Passed (recordTests r)
@@ -52,7 +52,7 @@ module _ (at : ℕ) (r : List ℕ) where
       go (refuse {k = k} p g) f = absurd (let b : ⊥ = omega (arith, eqb-true k 0 f, given-record r g) in b)
       go (accept p q) f = (p, q)
 
-  pub passed-keeps : Passed (startTests r) → Passed (recordTests r) → accepts (readHere at r) ≡ true
+  passed-keeps : Passed (startTests r) → Passed (recordTests r) → accepts (readHere at r) ≡ true
   unfolding judged
   passed-keeps p q = ap accepts (goes-on at r (omega (arith, whole-record r p)) p ∙ passed-decides _ _ q)
 

@@ -24,7 +24,7 @@ use Rattle.job_salvage.proofs.Keeping.{keeps-whole}
 
 -- ---- at the front of bytes
 
-pub pieces-behind : (k : ℕ) (bs : List ℕ) → piecesBehind k bs ≡ pieces (drop k bs)
+pieces-behind : (k : ℕ) (bs : List ℕ) → piecesBehind k bs ≡ pieces (drop k bs)
 unfolding piecesBehind
 pieces-behind zero bs = refl
 pieces-behind (suc k) [] = refl
@@ -65,7 +65,7 @@ gap-on file (suc d) at h none =
     ∙ ap (λ ps. Piece.dropped (getD file at 0) ∷ ps) (gap-on file d (suc at) (omega arith) (λ i a b. none i (omega arith) (omega arith)))
     ∙ ap₂ (λ l i. allDropped (take (suc d) l) ++ pieces (drop i file)) (sym c) e
 
-pub pieces-gap : (file : List ℕ) {at start : ℕ} → at ≤ start → start ≤ length file → NoneKept file at start
+pieces-gap : (file : List ℕ) {at start : ℕ} → at ≤ start → start ≤ length file → NoneKept file at start
     → pieces (drop at file) ≡ allDropped (part file at (start - at)) ++ pieces (drop start file)
 pieces-gap file {at} {start} a b none =
     let e : at + (start - at) ≡ start = omega arith in

@@ -55,7 +55,7 @@ unfolding stretchRows stretch gapRow
 stretch-rows start zero more = refl
 stretch-rows start (suc n) more = refl
 
-pub report-next : {file : List ℕ} {at start end : ℕ} → Gap file at start end
+report-next : {file : List ℕ} {at start end : ℕ} → Gap file at start end
     → stretchRows (stretchesFrom at 0 (pieces (drop at file))) ≡ gapRow at (start - at) ++ stretchRows (stretchesFrom end 0 (pieces (drop end file)))
 report-next {file} {at} {start} {end} g = ap stretchRows (next-stretches g) ∙ stretch-rows at (start - at) _
 

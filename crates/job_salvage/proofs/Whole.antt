@@ -6,8 +6,7 @@
 --   few-records     there are no more acceptable records than bytes
 --   all-kept        each record that is kept is acceptable
 --   kept-back       A FILE OF ACCEPTABLE RECORDS COMES BACK: its records are kept, each as it was
---   file-back       so does the file;  nothing-dropped  and nothing of it is dropped
---   kept-again      SALVAGING WHAT WAS KEPT CHANGES NOTHING: the records and the file are the same
+--   nothing-dropped and nothing of it is dropped
 -- Assumes nothing.
 use mathlib.Core.Path.{_≡_, refl, sym, ap, ap₂, _∙_}
 use mathlib.Core.Bool.{Bool, true, false}
@@ -95,7 +94,7 @@ unfolding total stretch
 stretch-total start zero more = omega arith
 stretch-total start (suc n) more = refl
 
-pub total-dropped : (start n : ℕ) (ps : List Piece) → total (stretchesFrom start n ps) ≡ n + droppedOf ps
+total-dropped : (start n : ℕ) (ps : List Piece) → total (stretchesFrom start n ps) ≡ n + droppedOf ps
 unfolding stretchesFrom droppedOf total
 total-dropped start n [] = stretch-total start n []
 total-dropped start n (Piece.dropped b ∷ ps) = omega (arith, total-dropped start (suc n) ps)
@@ -139,7 +138,7 @@ unfoldable pub allKept : List (List ℕ) → List Piece
 allKept [] = []
 allKept (r ∷ rs) = Piece.kept r ∷ allKept rs
 
-pub pieces-back : {rs : List (List ℕ)} → AllAcceptable rs → pieces (joinedFile rs) ≡ allKept rs
+pieces-back : {rs : List (List ℕ)} → AllAcceptable rs → pieces (joinedFile rs) ≡ allKept rs
 unfolding piecesBehind joinedFile allKept
 pieces-back none = refl
 pieces-back (one {r = r} {rs = rs} a more) = first-kept a (joinedFile rs) ∙ ap (λ ps. Piece.kept r ∷ ps) (pieces-back more)
@@ -157,14 +156,8 @@ stretches-all start (r ∷ rs) = stretches-all (start + 0 + length r) rs
 pub kept-back : {rs : List (List ℕ)} → AllAcceptable rs → keptRecords (joinedFile rs) ≡ rs
 kept-back {rs} a = ap recordsOf (pieces-back a) ∙ records-all rs
 
-pub file-back : {rs : List (List ℕ)} → AllAcceptable rs → keptFile (joinedFile rs) ≡ joinedFile rs
-file-back a = ap joinedFile (kept-back a)
-
 pub nothing-dropped : {rs : List (List ℕ)} → AllAcceptable rs → stretches (joinedFile rs) ≡ []
 nothing-dropped {rs} a = ap (stretchesFrom 0 0) (pieces-back a) ∙ stretches-all 0 rs
-
-pub kept-again : (file : List ℕ) → (keptRecords (keptFile file) ≡ keptRecords file) × (keptFile (keptFile file) ≡ keptFile file)
-kept-again file = (kept-back (all-kept file), file-back (all-kept file))
 
 -- a record has bytes
 pub few-records : {rs : List (List ℕ)} → AllAcceptable rs → length rs ≤ length (joinedFile rs)

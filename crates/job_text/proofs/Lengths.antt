@@ -11,7 +11,7 @@ use lib.ListN.{length, getD, length-append}
 use Rattle.job_text.specs.Lines.{decimal, spaced, lineFeed, lineOf, lineRoom}
 use Rattle.job_text.proofs.Writing.{five-digits, ten-digits}
 
-pub spaced-short : (xs : List ℕ) → ((i : ℕ) → i < length xs → getD xs i 0 < 65536) → length (spaced xs) ≤ 6 * length xs
+spaced-short : (xs : List ℕ) → ((i : ℕ) → i < length xs → getD xs i 0 < 65536) → length (spaced xs) ≤ 6 * length xs
 unfolding spaced
 spaced-short [] h = omega arith
 spaced-short (x ∷ xs) h =

@@ -106,7 +106,7 @@ pub wrote-spaced : (x : ℕ) {at end end′ : ℕ} {s s′ s″ : List ℕ} → 
     → Wrote (spaced (x ∷ [])) at s end′ s″
 wrote-spaced x h p q = rw (spaced-one x) (wrote-then h p q)
 
-pub spaced-end : (x : ℕ) {w at end : ℕ} {s s′ : List ℕ} → length (decimal x) < w → Wrote (spaced (x ∷ [])) at s end s′ → end ≤ at + w
+spaced-end : (x : ℕ) {w at end : ℕ} {s s′ : List ℕ} → length (decimal x) < w → Wrote (spaced (x ∷ [])) at s end s′ → end ≤ at + w
 spaced-end x h p =
     let n : length (spaced (x ∷ [])) ≡ suc (length (decimal x)) = ap length (spaced-one x) in
     omega (arith, p .ended)

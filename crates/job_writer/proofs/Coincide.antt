@@ -27,7 +27,7 @@ unfolding writtenOf
 written-back (Bytes n) = refl
 written-back (NotWritten k) = refused-back NotWritten (Bytes 0) k
 
-pub written-told : (r s : Written) → toldWritten r ≡ toldWritten s → r ≡ s
+written-told : (r s : Written) → toldWritten r ≡ toldWritten s → r ≡ s
 written-told = way-back toldWritten writtenOf written-back
 
 pub write-coincide : (m c : ℕ) (roots room : List ℕ) (r s : Written) (x y : List ℕ)

@@ -55,7 +55,6 @@ use Rattle.claims.specs.declared.Checked.the-variants.{Accepted, No, NotChecked
 use Rattle.locator.specs.Calls.{asValue, asPair, asFound, asSpace, asStepped, asCorrected, asEncoded, asWritten, asClaim, asProved}
 use Rattle.locator.specs.declared.LocatorPair.{LocatorPair}
 use Rattle.locator.specs.declared.LocatorSpace.{LocatorSpace}
-use Rattle.locator.specs.declared.LocatorClaim.{LocatorClaim}
 
 -- ---- element calls
 

@@ -157,18 +157,18 @@ module _ {m : ℕ} {ls ts a : List ℕ} {n : ℕ} {b : List ℕ} {k : ℕ} (t : 
         ∙ ap (λ (o : Option (List ℕ)). Option·elim o (take n a) (λ r. gcd (G m) r (monic (G m) (take n a)))) (ap (λ i. norm (G m) i left) long-p ∙ d .made)
 
     -- the divisor stands where it stood
-    pub turn-kept : take n a₁ ≡ take n a
+    turn-kept : take n a₁ ≡ take n a
     turn-kept = sym (take-take n (n + 1) a₁ (omega arith)) ∙ ap (take n) (d .lead) ∙ take-at (take n a) (1 ∷ []) n long-p
 
     -- the remainder is 0
-    pub turn-last : j ≡ 0 → take n a₁ ≡ gcd (G m) (take n a) (take k b)
+    turn-last : j ≡ 0 → take n a₁ ≡ gcd (G m) (take n a) (take k b)
     unfolding Option·elim
     turn-last z =
         turn-kept ∙ sym (step ∙ ap (λ (o : Option (List ℕ)). Option·elim o (take n a) (λ r. gcd (G m) r (monic (G m) (take n a)))) (monicLow-none j b₁ z))
 
     module _ (h : j ≢ 0) where
       -- it goes on with the remainder and the divisor
-      pub turn-same : gcd (G m) (take (j - 1) b₁) (take (n + 1) a₁) ≡ gcd (G m) (take n a) (take k b)
+      turn-same : gcd (G m) (take (j - 1) b₁) (take (n + 1) a₁) ≡ gcd (G m) (take n a) (take k b)
       unfolding Option·elim
       turn-same =
           ap (gcd (G m) (take (j - 1) b₁)) (d .lead)

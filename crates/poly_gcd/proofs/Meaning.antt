@@ -26,7 +26,7 @@ module _ {m : ℕ} {ls ts p t g g′ : List ℕ} {n : ℕ} (c : Commonable m ls 
   gcd-means =
       subst (λ u. IsGcdBelow (G m) (2 ^ m) (monic (G m) p) t (monic (G m) u)) (sym (d .low)) (gcd-right (numbers-of (c .tables)) p t (c .small-p) (c .small-t))
 
-  pub gcd-below : Below (2 ^ m) (take n g′)
+  gcd-below : Below (2 ^ m) (take n g′)
   gcd-below = subst (Below (2 ^ m)) (sym (d .low)) (S.gcd-below (numbers-of (c .tables)) p t (c .small-p) (c .small-t))
 
 module _ {m : ℕ} {ls ts r : List ℕ} {j : ℕ} {r′ : List ℕ} (l : Lent m ls ts) (b : Below (2 ^ m) r) (d : MadeMonic m r j r′) where

@@ -134,7 +134,7 @@ module _ {m : ℕ} {ls ts row w : List ℕ} (g : Squarable m ls ts row w) where
           remainder-long r (f ∙ ap (divided m (held m row)) (stands ∙ e)) (h ∙ ap (λ u. copied u w) (take-append-le (length row) y₁ z₁ (omega (arith, y₁-long))))
 
   -- the square can be squared again
-  pub square-again : {w₁ : List ℕ} → w₁ ≡ rem (G m) (held m row) (square (G m) w) → Squarable m ls ts row w₁
+  square-again : {w₁ : List ℕ} → w₁ ≡ rem (G m) (held m row) (square (G m) w) → Squarable m ls ts row w₁
   square-again e = record {
     tables = g .tables;
     logs = g .logs;

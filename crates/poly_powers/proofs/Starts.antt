@@ -78,7 +78,7 @@ module _ {m : ℕ} {ls ts p w : List ℕ} (g : Startable m ls ts p w) {b : ℕ} 
   pub low-fits : length p ≤ length (w₁ ++ drop (length p) (replicate limit 0))
   low-fits = omega (arith, ap length (s .low), length-rem (G m) p (0 ∷ b ∷ []), length-append w₁ (drop (length p) (replicate limit 0)))
 
-  pub low-stands : rowIn (length p) w₁ ≡ w₁
+  low-stands : rowIn (length p) w₁ ≡ w₁
   low-stands = take-at w₁ (drop (length p) (replicate limit 0)) (length p) (ap length (s .low) ∙ length-rem (G m) p (0 ∷ b ∷ []))
 
   pub low-started : Started m p b y (rowIn (length p) w₁)

@@ -120,7 +120,7 @@ module _ {m : ℕ} {ls ts row : List ℕ} {k : ℕ} {w₀ s₀ rows₀ w s rows 
 -- ---- `add_trace`
 
 -- a part of a list of logs is one
-pub part-of-row : {m : ℕ} {rows : List ℕ} (n at : ℕ) → at + n ≤ length rows → LogRow m rows → LogRow m (take n (drop at rows))
+part-of-row : {m : ℕ} {rows : List ℕ} (n at : ℕ) → at + n ≤ length rows → LogRow m rows → LogRow m (take n (drop at rows))
 part-of-row {m} {rows} n at h r =
     let long : length (take n (drop at rows)) ≡ n = length-take-le n (drop at rows) (omega (arith, length-drop at rows)) in
     record {

@@ -74,7 +74,7 @@ module _ {m : ℕ} {ls ts roots f₀ f : List ℕ} {i : ℕ} (s : Multiplying m 
   slot-long h = omega (arith, product-long m (drop i roots), length-drop i roots, s .within)
 
   -- what a turn lends
-  pub multiply-part : 0 < i → take (length roots + 1 - (i - 1)) (drop (i - 1) f) ≡ getD f₀ (i - 1) 0 ∷ behind m roots i
+  multiply-part : 0 < i → take (length roots + 1 - (i - 1)) (drop (i - 1) f) ≡ getD f₀ (i - 1) 0 ∷ behind m roots i
   unfolding slot
   multiply-part h =
       ap (take (length roots + 1 - (i - 1)))
@@ -131,7 +131,7 @@ module _ {m : ℕ} {ls ts roots f₀ f : List ℕ} {i : ℕ} (s : Multiplying m 
       }
 
   -- the product over all
-  pub multiply-end : i ≤ 0 → f ≡ copied (fromRoots (G m) roots) f₀
+  multiply-end : i ≤ 0 → f ≡ copied (fromRoots (G m) roots) f₀
   unfolding copied
   multiply-end h =
       let z : i ≡ 0 = omega arith in

@@ -56,7 +56,7 @@ module _ (m : ℕ) (k : known m ≡ true) where
         ∙ low-monic numbers (monicRoots (elems numbers) u) ∙ ap (monic (G m)) (low-monicRoots numbers u)) roots h
 
     -- the last coefficient
-    pub product-top : getD (fromRoots (G m) roots) (length roots) 0 ≡ 1
+    product-top : getD (fromRoots (G m) roots) (length roots) 0 ≡ 1
     product-top =
         ap (λ f. getD f (length roots) 0) product-monic
         ∙ getD-at (monicRoots (G m) roots) 1 [] 0 (length roots) (length-monicRoots (G m) roots)

@@ -46,7 +46,7 @@ module _ (m : ℕ) where
   once N (c ∷ p) h = ap₂ (λ x u. x ∷ u) (N .one-mul c (h .0)) (once N p (h .1))
 
   -- times z, and r times
-  pub linear-stretched : OnNumbers (G m) (2 ^ m) → (r : ℕ) (p : List ℕ) → Below (2 ^ m) p → 0 < length p
+  linear-stretched : OnNumbers (G m) (2 ^ m) → (r : ℕ) (p : List ℕ) → Below (2 ^ m) p → 0 < length p
       → stretched m r (0 ∷ p) ≡ mul (G m) (linear (G m) r) p
   unfolding mul add
   linear-stretched N r [] h l = absurd (not-suc-le-zero l)
@@ -163,7 +163,7 @@ module _ {m r top i : ℕ} {ls ts f₀ f : List ℕ} (s : Stretching m ls ts r f
       }
 
   -- the last coefficient is as it was
-  pub stretch-end : top ≤ i → f ≡ mul (G m) (linear (G m) r) (drop 1 f₀)
+  stretch-end : top ≤ i → f ≡ mul (G m) (linear (G m) r) (drop 1 f₀)
   stretch-end h =
       let q : List ℕ = map (G m .mul r) (drop 1 f₀) in
       let e : i ≡ length q = omega (arith, length-map (drop 1 f₀) (G m .mul r), length-drop 1 f₀, s .ends, s .within) in

@@ -65,7 +65,7 @@ module _ {m : ℕ} {ls ts p g : List ℕ} (c : Cubic m ls ts p g) where
   power-long e = ap length e ∙ length-frobeniusMod (G m) p m z (length-rem (G m) p (0 ∷ 1 ∷ [])) ∙ c .three
 
   -- z is added
-  pub with-z : {w : List ℕ} → w ≡ frobeniusMod (G m) p m z → set w 1 (bitXor (getD w 1 0) 1) ≡ add (G m) (frobeniusMod (G m) p m z) z
+  with-z : {w : List ℕ} → w ≡ frobeniusMod (G m) p m z → set w 1 (bitXor (getD w 1 0) 1) ≡ add (G m) (frobeniusMod (G m) p m z) z
   with-z {w} e = add-z m w (power-long e) ∙ ap₂ (add (G m)) e (sym z-is)
 
   -- what the gcd with z^(2^m) + z asks

@@ -36,11 +36,11 @@ pub front-none : (out : List ℕ) {rs : List ℕ} → rs ≡ [] → Front rs 0 o
 front-none out e = record { count = sym (ap length e); front = sym e }
 
 -- one number
-pub front-one : (out : List ℕ) (x : ℕ) {rs : List ℕ} → 0 < length out → rs ≡ x ∷ [] → Front rs 1 (set out 0 x)
+front-one : (out : List ℕ) (x : ℕ) {rs : List ℕ} → 0 < length out → rs ≡ x ∷ [] → Front rs 1 (set out 0 x)
 front-one out x h e = record { count = sym (ap length e); front = take-suc-set out 0 x h ∙ sym e }
 
 -- two numbers
-pub front-two : (out : List ℕ) (x y : ℕ) {rs : List ℕ} → 1 < length out → rs ≡ x ∷ y ∷ [] → Front rs 2 (set (set out 0 x) 1 y)
+front-two : (out : List ℕ) (x y : ℕ) {rs : List ℕ} → 1 < length out → rs ≡ x ∷ y ∷ [] → Front rs 2 (set (set out 0 x) 1 y)
 front-two out x y h e = record {
   count = sym (ap length e);
   front = take-suc-set (set out 0 x) 1 y (omega (arith, length-set out 0 x)) ∙ ap (λ u. u ++ y ∷ []) (take-suc-set out 0 x (omega arith)) ∙ sym e;

@@ -35,7 +35,7 @@ use Rattle.poly_small.specs.Parting.{GcdOf, Parts, CubicPartable, CubicP
 use Rattle.poly_small.proofs.LowDegrees.{front-out, front-within}
 
 -- x^(2^m) = x
-pub field-laws : {m : ℕ} {ls ts : List ℕ} → Lent m ls ts → (x : ℕ) → x < 2 ^ m → squared (G m) m x ≡ x
+field-laws : {m : ℕ} {ls ts : List ℕ} → Lent m ls ts → (x : ℕ) → x < 2 ^ m → squared (G m) m x ≡ x
 field-laws {m} l = squared-size (fieldAt m) (field-of l)
 
 -- ---- two parts

@@ -28,7 +28,7 @@ use Rattle.slices.proofs.Lists.{copied-front}
 use Rattle.field.specs.Field.{G, rootsAt}
 use Rattle.poly.specs.Lent.{Lent}
 use Rattle.poly.proofs.Logs.{numbers-of}
-use Rattle.poly_small.specs.Roots.{Front, RootsOut, SmallSolvable}
+use Rattle.poly_small.specs.Roots.{RootsOut, SmallSolvable}
 use Rattle.poly_small.specs.Guessing.{Triable, Guessable, Guessed}
 use Rattle.poly_small.proofs.LowDegrees.{front-out}
 
@@ -101,7 +101,7 @@ one-there (suc (suc (suc (suc zero)))) h = refl
 one-there (suc (suc (suc (suc (suc k))))) h = absurd (omega arith)
 
 -- with 1 behind the low coefficients
-pub lead-front : (m : ℕ) (p : List ℕ) {f : List ℕ} → length p ≤ 4 → f ≡ copied p ones → take (length p + 1) f ≡ monic (G m) p
+lead-front : (m : ℕ) (p : List ℕ) {f : List ℕ} → length p ≤ 4 → f ≡ copied p ones → take (length p + 1) f ≡ monic (G m) p
 unfolding copied
 lead-front m p h e = ap (take (length p + 1)) e ∙ take-append-add p (drop (length p) ones) 1 ∙ ap (λ t. p ++ t) (one-there (length p) h)
 

@@ -69,7 +69,7 @@ module _ {H : Ops ℕ} {q : ℕ} (N : OnNumbers H q) where
   low-zeros (suc n) = ap (λ l. H .zero ∷ l) (low-zeros n)
 
   -- and of numbers
-  pub field-run-top : (m n : ℕ) (p : List ℕ) → Below q p
+  field-run-top : (m n : ℕ) (p : List ℕ) → Below q p
       → gcd H p (fieldPoly H m) ≡ gcd H p (add H (frobeniusMod H p m (rem H p (linear H (H .zero))) ++ replicate n (H .zero)) (linear H (H .zero)))
   field-run-top m n =
       by-elements N (λ p. gcd H p (fieldPoly H m) ≡ gcd H p (add H (frobeniusMod H p m (rem H p (linear H (H .zero))) ++ replicate n (H .zero)) (linear H (H .zero)))) λ u.

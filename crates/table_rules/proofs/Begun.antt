@@ -49,7 +49,7 @@ use Rattle.table_rules.proofs.TraceBits.{bits-apart, group-commutes}
 use Rattle.table_rules.proofs.Keeping.{step-valid, trace-halves, entry-fair}
 
 -- n steps on a table are n steps on its factors
-pub after-is : (H : Halving ℕ) (n : ℕ) (t : Table)
+after-is : (H : Halving ℕ) (n : ℕ) (t : Table)
     → tableAfter H n t ≡ record { width = t .width; cutoff = t .cutoff; taken = t .taken + n; factors = steps H (t .cutoff) n (t .factors) }
 unfolding tableAfter steps
 after-is H zero t =
@@ -69,7 +69,7 @@ module _ {G : Ops ℕ} {m a : ℕ} (B : BinaryField G m a) (c : ℕ) (roots : Li
       (distinct-keep (agrees (traceBit G m a) 0 w) roots distinct)))
 
   -- THE FACTORS AFTER n STEPS are the products over the groups after n steps
-  pub factors-after : (n : ℕ) → steps (traceHalving G m a) c n (unlessEmpty 0 (monicRoots G roots)) ≡ map (carry (monicRoots G)) (reached (traceBit G m a) c roots n)
+  factors-after : (n : ℕ) → steps (traceHalving G m a) c n (unlessEmpty 0 (monicRoots G roots)) ≡ map (carry (monicRoots G)) (reached (traceBit G m a) c roots n)
   factors-after n =
       ap (steps (traceHalving G m a) c n) (carry-entry (monicRoots G) (length-monicRoots G) 0 roots)
       ∙ carry-steps (monicRoots G) (length-monicRoots G) (byBit (traceBit G m a)) (traceHalving G m a) c n (begun (traceBit G m a) roots) cut-commutes whole
@@ -195,7 +195,7 @@ module _ {G : Ops ℕ} {m a : ℕ} (B : BinaryField G m a) (c : ℕ) (positive :
       go (no k) = omega arith
 
   -- s, of a begun table, stays the number of roots
-  pub degrees-stay : (n : ℕ) → degreeSum (table n .factors) ≡ length roots
+  degrees-stay : (n : ℕ) → degreeSum (table n .factors) ≡ length roots
   degrees-stay n = degrees (monicRoots G) (length-monicRoots G) (at n) ∙ cut-length bit (cut-at n)
 
   -- refusal 9 is never met

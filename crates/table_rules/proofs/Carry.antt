@@ -68,7 +68,7 @@ module _ {A B : Type 0} (f : List A → List B) (keeps : (s : List A) → length
     carry-split zero (e ∷ l) h = ap (λ u. u ++ map (carry f) l) (carry-parts e (h .0)) ∙ sym (map-append (carry f) (parts H e) l)
     carry-split (suc k) (e ∷ l) h = ap (λ u. carry f e ∷ u) (carry-split k l (h .1))
 
-    pub carry-step : (c : ℕ) (l : List (Entry A)) → All (Commutes H J f) l → step J c (map (carry f) l) ≡ map (carry f) (step H c l)
+    carry-step : (c : ℕ) (l : List (Entry A)) → All (Commutes H J f) l → step J c (map (carry f) l) ≡ map (carry f) (step H c l)
     unfolding step
     carry-step c l h = ap (λ k. splitAt J k (map (carry f) l)) (carry-first c l) ∙ carry-split (firstAbove c l) l h
 

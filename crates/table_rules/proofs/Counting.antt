@@ -50,7 +50,7 @@ module _ {A : Type 0} (bit : ℕ → A → Bool) where
   abbrev ones : ℕ → List A → List A
   ones i = keep (bit i)
 
-  pub sharing : ℕ → ℕ → ℕ → List A → ℕ
+  sharing : ℕ → ℕ → ℕ → List A → ℕ
   sharing c zero i s = large c s
   sharing c (suc n) i s = sharing c n (suc i) (zeros i s) + sharing c n (suc i) (ones i s)
 
@@ -101,7 +101,7 @@ module _ {A : Type 0} (bit : ℕ → A → Bool) where
       go n false true h k = refl
       go n false false h k = refl
 
-  pub groups-counted : (c i : ℕ) (roots : List A) → length (largerThan c (groupsAt bit i roots)) ≡ sharing c i 0 roots
+  groups-counted : (c i : ℕ) (roots : List A) → length (largerThan c (groupsAt bit i roots)) ≡ sharing c i 0 roots
   unfolding groupsAt
   groups-counted c i roots = ap length (nonempty-larger c (members 0 roots (bitWords i))) ∙ sharing-words c i 0 roots
 

@@ -40,7 +40,7 @@ module _ {A : Type 0} where
 
   module _ (H : Halving A) where
     -- the place is in the first list
-    pub split-left : (k : ℕ) (l r : List (Entry A)) → k < length l → splitAt H k (l ++ r) ≡ splitAt H k l ++ r
+    split-left : (k : ℕ) (l r : List (Entry A)) → k < length l → splitAt H k (l ++ r) ≡ splitAt H k l ++ r
     unfolding splitAt
     split-left k [] r h = absurd (not-suc-le-zero h)
     split-left zero (e ∷ l) r h = sym (append-assoc (parts H e) l r)

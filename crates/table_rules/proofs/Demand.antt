@@ -2,7 +2,6 @@
 -- specs/Demand.antt is the one record to read.
 --   DEMAND-3        it holds
 --   begin-slots     what begin writes is the encoding of the groups after no step
---   begin-sound     and it is sound
 --   stepped-encode  a step on the slots of a valid table
 --   steps-to-done   a loop that stops where the table is done has taken as many steps as there are groups above c
 -- Assumes nothing.
@@ -21,7 +20,7 @@ use Rattle.field.specs.Field.{rootsAt, G}
 use Rattle.input.specs.Cutoff.{highestCutoff}
 use Rattle.input.proofs.Fields.{BinaryField, known-field}
 use Rattle.table_rules.specs.Layout.{Layout, Lawful}
-use Rattle.table_rules.specs.Table.{Table, slotsFor, encode, sound}
+use Rattle.table_rules.specs.Table.{Table, slotsFor, encode}
 use Rattle.table_rules.specs.Splitting.{isDone, stepTable, traceBitAt, halvingAt, slotsStepped, slotsAfter, slotsBegun}
 use Rattle.table_rules.specs.Demand.{groupsAfter, stepCount, Demand3}
 use Rattle.table_rules.proofs.Counting.{count-bound}
@@ -37,7 +36,7 @@ module _ {Y : Layout} (L : Lawful Y) where
   slots-more (suc n) l = slots-more n (slotsStepped Y l)
 
   -- a step on the slots of a valid table
-  pub stepped-encode : {fields : ℕ → Bool} {limit : ℕ} {t : Table} → Valid fields limit t
+  stepped-encode : {fields : ℕ → Bool} {limit : ℕ} {t : Table} → Valid fields limit t
       → slotsStepped Y (encode Y (slotsFor limit) t) ≡ encode Y (slotsFor limit) (stepTable (halvingAt (t .width)) t)
   unfolding slotsStepped
   stepped-encode {limit = limit} {t = t} v =
@@ -86,10 +85,6 @@ module _ (m : ℕ) (field : known m ≡ true) (c : ℕ) (positive : 1 ≤ c) (f 
   pub begin-slots : (Y : Layout) (slots : ℕ) → slotsBegun Y slots m c f ≡ encode Y slots (groupsAfter m c roots 0)
   unfolding slotsBegun
   begin-slots Y slots = ap (encode Y slots) (T.begin-is B c positive roots below distinct)
-
-  -- which is sound
-  pub begin-sound : {Y : Layout} → Lawful Y → (limit : ℕ) → c ≤ highestCutoff → length roots ≤ limit → sound Y known limit (slotsBegun Y (slotsFor limit) m c f) ≡ true
-  begin-sound {Y} L limit most few = rw (begin-slots Y (slotsFor limit)) (demand-3 .sounds L limit most few 0 (omega arith))
 
   -- a loop that stops where the table is done has taken that many steps
   pub steps-to-done : (n : ℕ) → n ≤ stepCount m c roots → isDone (groupsAfter m c roots n) ≡ true → n ≡ stepCount m c roots

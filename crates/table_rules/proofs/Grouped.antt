@@ -53,13 +53,13 @@ ascending-join (v ∷ vs) ws h k = (
 )
 
 -- all words of n bits, as `groupsAt` takes them, ascend
-pub bitWords-ascend : (n : ℕ) → InOrder (bitWords n)
+bitWords-ascend : (n : ℕ) → InOrder (bitWords n)
 unfolding bitWords
 bitWords-ascend zero = (tt, tt)
 bitWords-ascend (suc n) = ascending-join (bitWords n) (bitWords n) (bitWords-ascend n) (bitWords-ascend n)
 
 -- and they are all of them
-pub bitWords-complete : (w : List Bool) → List·Memᴰ w (bitWords (length w))
+bitWords-complete : (w : List Bool) → List·Memᴰ w (bitWords (length w))
 unfolding bitWords
 bitWords-complete [] = List·Memᴰ·head refl
 bitWords-complete (false ∷ w) = Memᴰ·append-left (under true (bitWords (length w))) (Memᴰ·map (λ v. false ∷ v) (bitWords-complete w))

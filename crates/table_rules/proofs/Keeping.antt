@@ -112,13 +112,13 @@ trace-halves {G} {m} {a} B i p h =
     record { sum = length-parts G p t; low = g; high = cofactor-below (B .numbers) p (gcd G p t) h g }
 
 -- of two lists, one behind the other
-pub degreeSum-append : (l r : List Factor) → degreeSum (l ++ r) ≡ degreeSum l + degreeSum r
+degreeSum-append : (l r : List Factor) → degreeSum (l ++ r) ≡ degreeSum l + degreeSum r
 unfolding degreeSum
 degreeSum-append [] r = omega arith
 degreeSum-append (e ∷ l) r = omega (arith, degreeSum-append l r)
 
 -- of one entry, or none
-pub degreeSum-entry : (i : ℕ) (s : List ℕ) → degreeSum (unlessEmpty i s) ≡ length s
+degreeSum-entry : (i : ℕ) (s : List ℕ) → degreeSum (unlessEmpty i s) ≡ length s
 unfolding degreeSum unlessEmpty
 degreeSum-entry i [] = refl
 degreeSum-entry i (x ∷ s) = omega arith
@@ -139,7 +139,7 @@ module _ (H : Halving ℕ) (m : ℕ) (halves : (i : ℕ) (p : List ℕ) → Belo
       ∙ halves (e .0) (e .1) (h .coefficients) .sum
 
   -- and are within the rules, one level further
-  pub parts-fair : (e : Factor) → Fair m e → e .0 < m → All (Fair m) (parts H e)
+  parts-fair : (e : Factor) → Fair m e → e .0 < m → All (Fair m) (parts H e)
   unfolding parts
   parts-fair e h g =
       let t = halves (e .0) (e .1) (h .coefficients) in

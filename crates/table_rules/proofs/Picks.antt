@@ -47,7 +47,7 @@ module _ {A : Type 0} (H : Halving A) where
 
   -- TWO PICKS CHANGE PLACES: the entry that stands d places behind the one after place j moves back by as many places
   -- as the parts at j take
-  pub picks-commute : (j d : ℕ) (l : List (Entry A)) → j < length l
+  picks-commute : (j d : ℕ) (l : List (Entry A)) → j < length l
       → splitAt H (j + (length (parts H (entryAt l j)) + d)) (splitAt H j l) ≡ splitAt H j (splitAt H (suc (j + d)) l)
   unfolding splitAt
   picks-commute j d [] h = absurd (not-suc-le-zero h)
@@ -59,7 +59,7 @@ module _ {A : Type 0} (H : Halving A) where
       ∙ ap (λ u. e ∷ u) (picks-commute j d l (omega arith) ∙ ap (λ k. splitAt H j (splitAt H k l)) (omega arith))
 
   -- and each finds its entry still there
-  pub behind-stays : (j d : ℕ) (l : List (Entry A)) → j < length l → entryAt (splitAt H j l) (j + (length (parts H (entryAt l j)) + d)) ≡ entryAt l (suc (j + d))
+  behind-stays : (j d : ℕ) (l : List (Entry A)) → j < length l → entryAt (splitAt H j l) (j + (length (parts H (entryAt l j)) + d)) ≡ entryAt l (suc (j + d))
   unfolding splitAt
   behind-stays j d [] h = absurd (not-suc-le-zero h)
   behind-stays zero d (e ∷ l) h =
@@ -68,7 +68,7 @@ module _ {A : Type 0} (H : Halving A) where
       ap (entryAt (e ∷ splitAt H j l)) {x = suc j + (length (parts H (entryAt l j)) + d)} {y = suc (j + (length (parts H (entryAt l j)) + d))} (omega arith)
       ∙ behind-stays j d l (omega arith) ∙ ap (entryAt l) (omega arith)
 
-  pub before-stays : (j d : ℕ) (l : List (Entry A)) → entryAt (splitAt H (suc (j + d)) l) j ≡ entryAt l j
+  before-stays : (j d : ℕ) (l : List (Entry A)) → entryAt (splitAt H (suc (j + d)) l) j ≡ entryAt l j
   unfolding splitAt
   before-stays j d [] = refl
   before-stays zero d (e ∷ l) = refl
@@ -76,7 +76,7 @@ module _ {A : Type 0} (H : Halving A) where
 
   -- ---- picks keep cuts, and a cut that is done is the only one
 
-  pub picks-cut : {c n i : ℕ} {s : List A} {l r : List (Entry A)} → Picks c n l r → Cut H c i s l → Cut H c i s r
+  picks-cut : {c n i : ℕ} {s : List A} {l r : List (Entry A)} → Picks c n l r → Cut H c i s l → Cut H c i s r
   picks-cut stop p = p
   picks-cut {c} (pick k h q) p = picks-cut q (cut-split H c k p h)
 
@@ -97,7 +97,7 @@ module _ {A : Type 0} (H : Halving A) where
   not-whole c i [] h k = not-suc-le-zero h
   not-whole c i (x ∷ s) h k = omega (arith, k .0)
 
-  pub one-end : {c i : ℕ} {s : List A} {l r : List (Entry A)} → Cut H c i s l → Cut H c i s r → Small c l → Small c r → l ≡ r
+  one-end : {c i : ℕ} {s : List A} {l r : List (Entry A)} → Cut H c i s l → Cut H c i s r → Small c l → Small c r → l ≡ r
   one-end whole whole hl hr = refl
   one-end {c} {i} {s} whole (parted a p q) hl hr = absurd (not-whole c i s a hl)
   one-end {c} {i} {s} (parted a p q) whole hl hr = absurd (not-whole c i s a hr)
@@ -117,7 +117,7 @@ module _ {A : Type 0} (bit : ℕ → A → Bool) (c m : ℕ) (positive : 1 ≤ c
 
   -- EVERY ORDER of picks, carried to "done", takes as many steps as there are groups above c, and ends in the same
   -- list
-  pub any-order : {n : ℕ} {r : List (Entry A)} → Picks (byBit bit) c n (begun bit roots) r → done c r ≡ true
+  any-order : {n : ℕ} {r : List (Entry A)} → Picks (byBit bit) c n (begun bit roots) r → done c r ≡ true
       → (n ≡ groupCount bit c m roots) × (r ≡ reached bit c roots (groupCount bit c m roots))
   any-order {n} {r} q d =
       let total : ℕ = groupCount bit c m roots in (
@@ -141,7 +141,7 @@ module _ {A B : Type 0} (f : List A → List B) (keeps : (s : List A) → length
   above-carried (e ∷ l) zero h = subst (λ n. ltb c n ≡ true) (keeps (e .1)) h
   above-carried (e ∷ l) (suc k) h = above-carried l k h
 
-  pub picks-carried : {n i : ℕ} {s : List A} {l′ r′ : List (Entry B)} → ((k : List (Entry A)) → Cut H c i s k → All (Commutes H J f) k)
+  picks-carried : {n i : ℕ} {s : List A} {l′ r′ : List (Entry B)} → ((k : List (Entry A)) → Cut H c i s k → All (Commutes H J f) k)
       → Picks J c n l′ r′ → (l : List (Entry A)) → l′ ≡ map (carry f) l → Cut H c i s l → (r : List (Entry A)) × Picks H c n l r × (r′ ≡ map (carry f) r)
   picks-carried ok stop l e p = (l, stop, e)
   picks-carried ok (pick {n = n} {l = l′} k h q) l e p =

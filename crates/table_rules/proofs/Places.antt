@@ -32,14 +32,14 @@ use Rattle.table_rules.proofs.Keeping.{LosslessHalving, parts-sum}
 
 module _ {A : Type 0} (H : Halving A) where
   -- the others are untouched
-  pub split-is : (k : ℕ) (l : List (Entry A)) → k < length l → splitAt H k l ≡ take k l ++ (parts H (entryAt l k) ++ drop (suc k) l)
+  split-is : (k : ℕ) (l : List (Entry A)) → k < length l → splitAt H k l ≡ take k l ++ (parts H (entryAt l k) ++ drop (suc k) l)
   unfolding splitAt
   split-is k [] h = absurd (not-suc-le-zero h)
   split-is zero (e ∷ l) h = refl
   split-is (suc k) (e ∷ l) h = ap (λ u. e ∷ u) (split-is k l (omega arith))
 
   -- so also in a step
-  pub step-is : (c : ℕ) (l : List (Entry A)) → done c l ≡ false
+  step-is : (c : ℕ) (l : List (Entry A)) → done c l ≡ false
       → step H c l ≡ take (firstAbove c l) l ++ (parts H (entryAt l (firstAbove c l)) ++ drop (suc (firstAbove c l)) l)
   unfolding step
   step-is c l d = split-is (firstAbove c l) l (within c l (firstAbove c l) (first-above c l d))
@@ -87,7 +87,7 @@ module _ {fields : ℕ → Bool} {limit : ℕ} (t : Table) (v : Valid fields lim
   first-fair = at-above (t .cutoff) (Fair (t .width)) (t .factors) _ (v .factors) (first-above (t .cutoff) (t .factors) d)
 
   -- its degree is above the cutoff, so above 1
-  pub first-large : t .cutoff < length (firstFactor t .1)
+  first-large : t .cutoff < length (firstFactor t .1)
   first-large = ltb-true (t .cutoff) (length (firstFactor t .1)) (first-above (t .cutoff) (t .factors) d)
 
   blocks-around : blocks (t .factors) ≡ blocks (ahead t) ++ (slotsOf (firstFactor t) ++ blocks (beyond t))
@@ -138,7 +138,7 @@ module _ {fields : ℕ → Bool} {limit : ℕ} (t : Table) (v : Valid fields lim
     length-new = length-blocks (parts H (firstFactor t)) ∙ ap (λ n. 2 * length (parts H (firstFactor t)) + n) (parts-sum H (t .width) halves (firstFactor t) first-fair)
 
     -- one factor goes, and its parts come
-    pub count-after : length (step H (t .cutoff) (t .factors)) ≡ length (t .factors) - 1 + length (parts H (firstFactor t))
+    count-after : length (step H (t .cutoff) (t .factors)) ≡ length (t .factors) - 1 + length (parts H (firstFactor t))
     count-after =
         ap length (step-is H (t .cutoff) (t .factors) d)
         ∙ omega (arith, counted, length-append (ahead t) (parts H (firstFactor t) ++ beyond t), length-append (parts H (firstFactor t)) (beyond t))

@@ -96,7 +96,7 @@ length-read zero l = refl
 length-read (suc n) l = ap suc (length-read n (behindFactor l))
 
 -- each of the n degrees is at least 1
-pub count-follows : (m left n : ℕ) (l : List ℕ) → fairBlocks m left n l ≡ true → n ≤ left
+count-follows : (m left n : ℕ) (l : List ℕ) → fairBlocks m left n l ≡ true → n ≤ left
 count-follows m left n l h =
     let s : Scanned m left n l = scan-told m left n l h in
     omega (arith, count-stated (readBlocks n l) (s .factors .degrees), length-read n l, s .sum)

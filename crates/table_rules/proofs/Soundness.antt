@@ -148,7 +148,7 @@ module _ {Y : Layout} (L : Lawful Y) where
   filledSlots t = t .width ∷ Y .mark (t .cutoff) ∷ length (t .factors) ∷ t .taken ∷ Y .write (t .factors)
 
   -- a valid table fits
-  pub filledSlots-within : {known : ℕ → Bool} {limit : ℕ} {t : Table} → Valid known limit t → length (filledSlots t) ≤ slotsFor limit
+  filledSlots-within : {known : ℕ → Bool} {limit : ℕ} {t : Table} → Valid known limit t → length (filledSlots t) ≤ slotsFor limit
   filledSlots-within {t = t} v = omega (arith, L .length-write (t .factors), fair-count (t .width) (t .factors) (v .factors), v .sum)
 
   -- so its slots are as many as there should be

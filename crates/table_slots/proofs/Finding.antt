@@ -60,7 +60,7 @@ module _ (e : Factor) (fs : List Factor) (pre z : List ℕ) where
   degree = getD-append-add pre (blocks (e ∷ fs) ++ z) 1 0
 
 -- the place is behind the slots of the factors before
-pub seek-of : (c : ℕ) (fs : List Factor) (pre z : List ℕ)
+seek-of : (c : ℕ) (fs : List Factor) (pre z : List ℕ)
     → seek c (pre ++ (blocks fs ++ z)) (length fs) (length pre) ≡ cond (done c fs) Nowhere (At (length pre + length (blocks (take (firstAbove c fs) fs))))
 unfolding seek done firstAbove blocks
 seek-of c [] pre z = refl

@@ -55,7 +55,7 @@ pub record FairFactor (m room : ℕ) (s : List ℕ) : Type 0 where
   pub slots : frontSlots m room s ≡ getD s 1 0 + 2
 
 -- an answer other than 0 tells that
-pub front-tells : {m room : ℕ} {s : List ℕ} → frontSlots m room s ≢ 0 → FairFactor m room s
+front-tells : {m room : ℕ} {s : List ℕ} → frontSlots m room s ≢ 0 → FairFactor m room s
 unfolding frontSlots
 front-tells {m} {room} {s} n = go (fairFront m room s) refl
   where
@@ -68,7 +68,7 @@ front-tells {m} {room} {s} n = go (fairFront m room s) refl
         record { fair = e; least = leb-true 1 d (both (leb (getD s 0 0) m) (leb 1 d) (q .0) .1); most = leb-true d room (q .1); slots = rw e }
 
 -- 0 tells that some rule is broken
-pub front-fails : (m room : ℕ) (s : List ℕ) → frontSlots m room s ≡ 0 → fairFront m room s ≡ false
+front-fails : (m room : ℕ) (s : List ℕ) → frontSlots m room s ≡ 0 → fairFront m room s ≡ false
 unfolding frontSlots
 front-fails m room s n = go (fairFront m room s) n
   where

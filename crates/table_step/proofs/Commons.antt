@@ -45,7 +45,7 @@ module _ {m : ℕ} {ls ts p : List ℕ} {i : ℕ} (s : Splittable m ls ts p i) w
   level-power = level-entry .1
 
   -- a^i is an element
-  pub power-small : power (G m) 2 i < 2 ^ m
+  power-small : power (G m) 2 i < 2 ^ m
   power-small = power-below (numbers-of (s .tables)) 2 i (field-of (s .tables) .two)
 
   -- so is the entry

@@ -51,7 +51,7 @@ module _ (l : List ℕ) where
   check-given (unsound e u) = fails (ap not (eq-eqb (length l) slots e)) (holds (ap not u))
 
   -- no test holds
-  pub step-passes : isSound l ≡ true → slotsStuck byFactor l ≡ false → Passed (stepTests l)
+  step-passes : isSound l ≡ true → slotsStuck byFactor l ≡ false → Passed (stepTests l)
   step-passes s f = passes (sound-first s) (passes (ap not s) (passes f none))
 
   -- a done table is not stuck

@@ -70,7 +70,7 @@ module _ (l : List ℕ) {o : ℕ} (c : Chosen l o) where
   P = firstFactor t
 
   -- its field is known
-  pub is-known : known (widthOf l) ≡ true
+  is-known : known (widthOf l) ≡ true
   unfolding decode
   is-known = sound-valid byFactor-lawful known limit l (c .sound) .field
 
@@ -88,12 +88,12 @@ module _ (l : List ℕ) {o : ℕ} (c : Chosen l o) where
   open-still = c .more
 
   -- the factor is below level m, and the steps below their limit
-  pub is-free : Free t
+  is-free : Free t
   unfolding slotsStuck
   is-free = free t valid open-still (c .free)
 
   -- the level that the code reads
-  pub level-is : levelAt l o ≡ P .0
+  level-is : levelAt l o ≡ P .0
   level-is = ap₂ levelAt (sym encoded) (c .at) ∙ level-at t valid open-still slots
 
   -- it is below the degree of the field
@@ -134,7 +134,7 @@ module _ (l : List ℕ) {o : ℕ} (c : Chosen l o) where
   taken-is = refl
 
   -- where it stands
-  pub slots-read : SlotsRead l o
+  slots-read : SlotsRead l o
   slots-read = record {
     long = sound-length byFactor-lawful limit l (c .sound);
     room = omega (arith, degree-is, c .at, around-long);
@@ -248,7 +248,7 @@ module _ (l : List ℕ) {o : ℕ} (c : Chosen l o) where
       pub most : q ≤ degreeAt l o + 2 * factorSlots
 
     -- as they are
-    pub slot-sizes : SlotSizes
+    slot-sizes : SlotSizes
     slot-sizes = record {
       least = omega (arith, new-long, parts-some H (t .width) halves P (first-fair t valid open-still));
       most = omega (arith, new-long, parts-few H P);
