@@ -30,7 +30,7 @@ use Rattle.slices.specs.Lists.{copied}
 use Rattle.slices.proofs.Lists.{copied-front, length-copied}
 use Rattle.poly.proofs.Lending.{lent-at}
 use Rattle.poly.proofs.Logs.{numbers-of}
-use Rattle.poly_product.proofs.RootProducts.{product-below}
+use Rattle.poly.proofs.RootProducts.{product-below}
 use Rattle.input.specs.Cutoff.{houseDefault}
 use Rattle.input.specs.Limit.{limit, widest}
 use Rattle.input.specs.Polynomials.{PolynomialIn, polynomialTests}

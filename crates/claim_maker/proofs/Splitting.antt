@@ -31,8 +31,8 @@ use Rattle.poly.specs.Lent.{LogRow, Loggable, held, logRow}
 use Rattle.poly.specs.Division.{Divisible, divided}
 use Rattle.poly.proofs.Divisions.{divided-behind, length-divided}
 use Rattle.poly.proofs.Logs.{held-long, held-row, numbers-of, row-is-row}
-use Rattle.poly_product.specs.Products.{Multipliable}
-use Rattle.poly_product.proofs.RootProducts.{product-below}
+use Rattle.poly.specs.Products.{Multipliable}
+use Rattle.poly.proofs.RootProducts.{product-below}
 use Rattle.input.specs.Limit.{limit}
 use Rattle.input.proofs.Polynomials.{nonzero-place}
 use Rattle.claim_rules.specs.Claims.{spreadOut}

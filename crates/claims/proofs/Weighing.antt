@@ -27,8 +27,8 @@ use Rattle.poly.specs.Monic.{MadeMonic, monicLow}
 use Rattle.poly.proofs.Logs.{numbers-of}
 use Rattle.poly.proofs.Sums.{add-assoc}
 use Rattle.poly_powers.specs.Powers.{Startable}
-use Rattle.poly_product.specs.Products.{Multipliable}
-use Rattle.poly_product.proofs.RootProducts.{product-below, product-long}
+use Rattle.poly.specs.Products.{Multipliable}
+use Rattle.poly.proofs.RootProducts.{product-below, product-long}
 use Rattle.input.specs.Limit.{limit}
 use Rattle.claim_rules.specs.Claims.{claimOf, combined, fieldRemainder}
 use Rattle.claim_rules.proofs.Remainders.{remainder-below, remainder-of}

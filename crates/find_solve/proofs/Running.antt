@@ -28,7 +28,7 @@ use Rattle.find_solve.specs.Solving.{Stepping, RunOut, Solvable}
 use Rattle.field.specs.Field.{fieldAt, rootsAt}
 use Rattle.field.specs.Tables.{Halves}
 use Rattle.table_finish.specs.Finishing.{Listable}
-use Rattle.table_check.specs.Verdicts.{Chosen}
+use Rattle.table_slots.specs.Verdicts.{Chosen}
 use Rattle.table_slots.specs.Slots.{widthOf, cutoffOf, takenOf}
 use Rattle.table_slots.specs.Walk.{soughtIn}
 use Rattle.table_slots.specs.declared.Spot.{Spot}

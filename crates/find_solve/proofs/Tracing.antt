@@ -54,7 +54,7 @@ use Rattle.poly.proofs.Logs.{field-of, numbers-of, held-long}
 use Rattle.poly_powers.proofs.TraceLoops.{rows-fit, next-place, part-front, part-long}
 use Rattle.poly_powers.proofs.TraceValues.{traceSum-below, powerRows-long, powerRows-row, trace-value}
 use Rattle.table_rules.specs.Sizes.{slots}
-use Rattle.table_check.specs.Verdicts.{Chosen}
+use Rattle.table_slots.specs.Verdicts.{Chosen}
 use Rattle.table_step.specs.Parting.{StepReady}
 use Rattle.table_slots.specs.Slots.{takenOf, levelAt, factorAt}
 use Rattle.table_begin.specs.SplitPart.{Powered}

@@ -34,7 +34,7 @@ use Rattle.slices.specs.Lists.{copied}
 use Rattle.field.specs.Field.{fieldAt, G, rootsAt}
 use Rattle.field.specs.Tables.{Halves}
 use Rattle.table_slots.specs.Slots.{widthOf, takenOf, levelAt, factorAt}
-use Rattle.table_check.specs.Verdicts.{Chosen}
+use Rattle.table_slots.specs.Verdicts.{Chosen}
 use Rattle.table_begin.specs.SplitPart.{Powered}
 use Rattle.find_solve.specs.declared.Counts.{Counts}
 

@@ -14,7 +14,7 @@ use Rattle.refusals.proofs.Order.{cases, refused, accepted, written}
 use Rattle.slices.specs.Lists.{copied}
 use Rattle.slices.proofs.Lists.{copied-front, copied-behind}
 use Rattle.job_records.proofs.Forward.{never}
-use Rattle.poly_product.proofs.RootProducts.{product-long}
+use Rattle.poly.proofs.RootProducts.{product-long}
 use Rattle.job_writer.specs.Records.{rootPolynomial, recordOf, lengthFor}
 use Rattle.job_writer.specs.Calls.{writeTests, Writes, Writable}
 use Rattle.job_writer.specs.declared.Written.the-variants.{Bytes}

@@ -16,7 +16,7 @@ use Rattle.field.proofs.Generator.{generated, one-below}
 use Rattle.field.proofs.Ring.{ring}
 use Rattle.slices.specs.Lists.{copied}
 use Rattle.poly.proofs.Lending.{lent-at}
-use Rattle.poly_product.specs.Products.{Multipliable}
+use Rattle.poly.specs.Products.{Multipliable}
 use Rattle.job_writer.specs.Records.{rootPolynomial}
 use Rattle.job_writer.specs.Writing.{Expandable}
 

@@ -30,8 +30,8 @@ use Rattle.job_records.specs.Files.{Reads, Complete}
 use Rattle.job_records.specs.Files.Reads.{over, on}
 use Rattle.job_records.proofs.Exactly.{ends-exactly}
 use Rattle.job_records.proofs.Whole.{record-read}
-use Rattle.poly_product.proofs.RootProducts.{product-long, product-below, product-nonzero}
-use Rattle.poly_product.proofs.RootProducts.{product-roots, product-simple}
+use Rattle.poly.proofs.RootProducts.{product-long, product-below, product-nonzero}
+use Rattle.poly.proofs.RootProducts.{product-roots, product-simple}
 use Rattle.job_writer.specs.Records.{rootPolynomial, wordBytes, recordOf, lengthFor}
 use Rattle.job_writer.specs.Calls.{Writable}
 use Rattle.job_writer.proofs.Bytes.{length-wordBytes, words-back}

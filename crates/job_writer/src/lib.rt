@@ -24,7 +24,7 @@ use input::HIGHEST_CUTOFF;
 use input::LIMIT;
 use job_records::HEAD;
 use job_records::MARK;
-use poly_product::product_over;
+use poly::product::product_over;
 use refusals::Admission;
 use refusals::Refusal;
 use slices::all_below;

@@ -13,3 +13,7 @@ pub mod Remainders
 pub mod Monics
 pub mod Horner
 pub mod HornerFour
+-- the product over roots: what it is, and what its loops hold at each turn
+pub mod RootProducts
+pub mod Stretching
+pub mod Multiplying

@@ -3,3 +3,4 @@ pub mod Lent
 pub mod Division
 pub mod Monic
 pub mod Values
+pub mod Products

@@ -6,3 +6,4 @@ pub mod rows; // the kernel: a multiple of a row is added
 pub mod division; // remainder and quotient
 pub mod monic; // the degree, and division by the leading coefficient
 pub mod values; // evaluation
+pub mod product; // the product of z + r over roots

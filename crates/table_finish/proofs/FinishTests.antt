@@ -11,7 +11,6 @@ use lib.Dec.{eqb, ltb}
 use lib.ListN.{length}
 use Rattle.refusals.specs.Order.{Given, Passed}
 use Rattle.refusals.specs.Order.Passed.{none}
-use Rattle.refusals.specs.Numbers.{numberOf}
 use Rattle.refusals.specs.Admitting.{Admits}
 use Rattle.refusals.specs.declared.Refusal.{Refusal}
 use Rattle.refusals.specs.declared.Refusal.the-variants.{Room, NotDone}
@@ -30,12 +29,12 @@ use Rattle.table_slots.specs.declared.Head.{Head}
 use Rattle.table_slots.specs.declared.Spot.{Spot}
 use Rattle.table_slots.specs.declared.Spot.the-variants.{At, Nowhere}
 use Rattle.table_slots.proofs.Finding.{seek-done, seek-at}
-use Rattle.table_check.specs.Verdicts.{Fit, Checks}
-use Rattle.table_check.specs.Verdicts.Checks.{short, unsound}
-use Rattle.table_check.specs.declared.Checked.the-variants.{Unfit}
+use Rattle.table_slots.specs.Verdicts.{Fit, Checks}
+use Rattle.table_slots.specs.Verdicts.Checks.{short, unsound}
+use Rattle.table_slots.specs.declared.check.Checked.the-variants.{Unfit}
 use Rattle.table_finish.specs.Calls.{finishTests, finishOutcome, finishMemory, toldFinished}
 use Rattle.table_finish.specs.Finishing.{Lendable, ListedIn}
-use Rattle.table_finish.specs.declared.Finished.the-variants.{Listed, NotFinished}
+use Rattle.table_finish.specs.declared.Finished.the-variants.{Listed}
 
 -- ---- the returns of `admit`
 
@@ -87,9 +86,9 @@ module _ (l list : List ℕ) where
 
 -- ---- from there to what finish promises
 
-module _ {l list : List ℕ} where
+module _ (l list : List ℕ) where
   -- a refusal writes nothing
-  pub refused-is : {k : Refusal} → Given (numberOf k) (finishTests l list) → (toldFinished (NotFinished k) ≡ finishOutcome l list) × (list ≡ finishMemory l list)
+  pub refused-is : {k : ℕ} → Given k (finishTests l list) → ((k, []) ≡ finishOutcome l list) × (list ≡ finishMemory l list)
   refused-is g = (sym (order.refused _ g), sym (order.unwritten _ _ g))
 
   -- what the tests tell of the table and the list

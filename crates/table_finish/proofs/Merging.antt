@@ -223,7 +223,7 @@ module _ {ls ts hs l list : List ℕ} (g : Listable ls ts hs l list) where
         pub split : f .ahead ≡ first ∷ others
 
       -- there is one
-      factor-here : FactorHere
+      pub factor-here : FactorHere
       factor-here = go (f .ahead) refl
         where
           go : (fs : List Factor) → f .ahead ≡ fs → FactorHere

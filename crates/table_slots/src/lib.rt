@@ -18,6 +18,8 @@ use field::rows::row_of;
 use input::HIGHEST_CUTOFF;
 use input::LIMIT;
 
+pub mod check; // what is decided of a table before anything is written
+
 // The slots of the head.
 const WIDTH: usize = 0;
 

@@ -22,13 +22,13 @@ use Rattle.table_rules.specs.Sizes.{slots, isSound}
 use Rattle.table_rules.proofs.Layouts.{byFactor-lawful}
 use Rattle.table_rules.proofs.Keeping.{sound-length}
 use Rattle.table_step.specs.Calls.{stepTests, stepOutcome, stepMemory, toldStepped}
-use Rattle.table_check.specs.Verdicts.{Checks, Chosen, Judged}
-use Rattle.table_check.specs.Verdicts.Checks.{short, unsound}
-use Rattle.table_check.specs.Verdicts.Judged.{unfit, stuck, over, split}
+use Rattle.table_slots.specs.Verdicts.{Checks, Chosen, Judged}
+use Rattle.table_slots.specs.Verdicts.Checks.{short, unsound}
+use Rattle.table_slots.specs.Verdicts.Judged.{unfit, stuck, over, split}
 use Rattle.table_step.specs.declared.Stepped.{Stepped}
 use Rattle.table_step.specs.declared.Stepped.the-variants.{Taken, Done, NotStepped}
-use Rattle.table_check.specs.declared.Checked.the-variants.{Unfit}
-use Rattle.table_check.specs.declared.Verdict.the-variants.{Refused, Over, Split}
+use Rattle.table_slots.specs.declared.check.Checked.the-variants.{Unfit}
+use Rattle.table_slots.specs.declared.check.Verdict.the-variants.{Refused, Over, Split}
 
 -- what a step promises of its answer and of the slots that it leaves
 abbrev Promise : List ℕ → Stepped → List ℕ → Type 0

@@ -37,7 +37,7 @@ use Rattle.table_rules.proofs.Places.{encode-around, level-at, degree-at, coeff
 use Rattle.table_rules.specs.Sizes.{slots, twoFactors}
 use Rattle.table_slots.specs.Slots.{widthOf, countOf, takenOf, Heads, levelAt, degreeAt, factorAt, nextAt, StandsWhole, Replaceable, replacedAt}
 use Rattle.table_slots.specs.declared.Head.{Head}
-use Rattle.table_check.specs.Verdicts.{Chosen}
+use Rattle.table_slots.specs.Verdicts.{Chosen}
 use Rattle.table_step.specs.Parting.{Splittable, Partable, Parted, StepReady}
 use Rattle.table_step.proofs.Commons.{traced-long, trace-small, traced-same}
 

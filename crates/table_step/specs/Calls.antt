@@ -12,7 +12,7 @@ use Rattle.refusals.specs.Order.{outcome, memory, Answers}
 use Rattle.refusals.specs.Numbers.{numberOf}
 use Rattle.table_rules.specs.Layout.{byFactor}
 use Rattle.table_rules.specs.Splitting.{slotsDone, slotsStuck, slotsStepped}
-use Rattle.table_check.specs.Verdicts.{tableTests}
+use Rattle.table_slots.specs.Verdicts.{tableTests}
 use Rattle.table_step.specs.declared.Stepped.{Stepped}
 use Rattle.table_step.specs.declared.Stepped.the-variants.{Taken, Done, NotStepped}
 

@@ -19,7 +19,7 @@ use Rattle.table_rules.specs.Entries.{parts}
 use Rattle.table_rules.specs.Layout.{blocks}
 use Rattle.table_rules.specs.Splitting.{halvingAt}
 use Rattle.table_slots.specs.Slots.{widthOf, levelAt, factorAt}
-use Rattle.table_check.specs.Verdicts.{Chosen}
+use Rattle.table_slots.specs.Verdicts.{Chosen}
 
 -- over the field of degree m
 pub record Splittable (m : ℕ) (ls ts p : List ℕ) (i : ℕ) : Type 0 where

@@ -10,7 +10,7 @@ use Rattle.claim_maker.proofs.roots_row.Tie as tie
 use Rattle.claim_maker.proofs.sum_of.Reads as sum-of-reads
 use Rattle.claims.proofs.spread_into.Reads as spread-into-reads
 use Rattle.poly.proofs.rows.log_row.Reads as log-row-reads
-use Rattle.poly_product.proofs.product_over.Reads as product-over-reads
+use Rattle.poly.proofs.product.product_over.Reads as product-over-reads
 
 sum-of-requires : tie.Need-sum-of-requires
 sum-of-requires c κs = c .before .before .before .before .before .pre .few

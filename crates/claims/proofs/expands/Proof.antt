@@ -6,7 +6,7 @@ use borrow.Author.Needs.{needs}
 use Rattle.claims.proofs.expands.Statement.{statement}
 use Rattle.claims.proofs.expands.Tie as tie
 use Rattle.claims.proofs.add_product.Reads as add-product-reads
-use Rattle.poly_product.proofs.product_over.Reads as product-over-reads
+use Rattle.poly.proofs.product.product_over.Reads as product-over-reads
 use Rattle.slices.proofs.all_zero.Reads as all-zero-reads
 use Rattle.slices.proofs.copy.Reads as copy-reads
 

@@ -14,7 +14,7 @@ use Rattle.field_tables.proofs.constants.antilogs8.Reads as antilogs8-reads
 use Rattle.field_tables.proofs.constants.logs11.Reads as logs11-reads
 use Rattle.field_tables.proofs.constants.logs4.Reads as logs4-reads
 use Rattle.field_tables.proofs.constants.logs8.Reads as logs8-reads
-use Rattle.poly_product.proofs.product_over.Reads as product-over-reads
+use Rattle.poly.proofs.product.product_over.Reads as product-over-reads
 
 slice-write-f : tie.Need-slice-write-f
 slice-write-f c = search needs

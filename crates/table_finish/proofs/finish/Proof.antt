@@ -1,5 +1,6 @@
 -- `table_finish::finish` meets its contract: a refusal writes nothing, and else the list is made.
 -- Assumes nothing.
+use denote.Ref.{now}
 use Rattle.refusals.proofs.Admitting.{let-in, turned-away}
 use Rattle.table_finish.proofs.FinishTests.{refused-is, done-asks, listed-is}
 use borrow.Author.Needs.{needs}
@@ -16,7 +17,10 @@ enum-told : tie.Need-enum-told
 enum-told c = search needs
 
 finish-in-requires : tie.Need-finish-in-requires
-finish-in-requires c κs = done-asks (let-in (c .before .before .before .admit .ensures) (c .before .enum-told .given .1))
+finish-in-requires c κs =
+    let a = c .before .before .before in
+    let s = a .before .before .before .before in
+    done-asks (now (s .args .table)) (now (s .args .roots)) (let-in (a .admit .ensures) (c .before .enum-told .given .1))
 
 cast-t11 : tie.Need-cast-t11
 cast-t11 c = search needs
@@ -25,13 +29,19 @@ same-length : tie.Need-same-length
 same-length c = search needs
 
 returns : tie.Need-returns
-returns c = refused-is (turned-away (c .before .before .before .admit .ensures) (c .before .k .given .1))
+returns c =
+    let a = c .before .before .before in
+    let s = a .before .before .before .before in
+    refused-is (now (s .args .table)) (now (s .args .roots)) (turned-away (a .admit .ensures) (c .before .k .given .1))
 
 same-length-2 : tie.Need-same-length-2
 same-length-2 c = search needs
 
 returns-2 : tie.Need-returns-2
-returns-2 c = listed-is (let-in (c .before .before .before .before .before .before .admit .ensures) (c .before .before .before .before .enum-told .given .1)) (c .before .before .finish-in .ensures)
+returns-2 c =
+    let a = c .before .before .before .before .before .before in
+    let s = a .before .before .before .before in
+    listed-is (now (s .args .table)) (now (s .args .roots)) (let-in (a .admit .ensures) (c .before .before .before .before .enum-told .given .1)) (c .before .before .finish-in .ensures)
 
 pub finish-spec : {M : Type 1} → statement M
 finish-spec =

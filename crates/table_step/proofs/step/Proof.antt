@@ -2,7 +2,7 @@
 -- Assumes nothing.
 use mathlib.Core.Path.{subst}
 use denote.Ref.{now}
-use Rattle.table_check.specs.Verdicts.{Judged}
+use Rattle.table_slots.specs.Verdicts.{Judged}
 use Rattle.table_step.proofs.Outcomes.{step-refused, step-over, chosen-of, step-taken}
 use borrow.Author.Needs.{needs}
 use Rattle.table_step.proofs.step.Statement.{statement}

@@ -22,10 +22,10 @@ use Rattle.table_rules.specs.Table.{decode}
 use Rattle.table_rules.specs.Splitting.{slotsDone, slotsStuck}
 use Rattle.table_rules.specs.Places.{place}
 use Rattle.table_rules.specs.Sizes.{slots, isSound}
-use Rattle.table_check.specs.declared.Checked.{Checked}
-use Rattle.table_check.specs.declared.Checked.the-variants.{Unfit, Sound}
-use Rattle.table_check.specs.declared.Verdict.{Verdict}
-use Rattle.table_check.specs.declared.Verdict.the-variants.{Refused, Over, Split}
+use Rattle.table_slots.specs.declared.check.Checked.{Checked}
+use Rattle.table_slots.specs.declared.check.Checked.the-variants.{Unfit, Sound}
+use Rattle.table_slots.specs.declared.check.Verdict.{Verdict}
+use Rattle.table_slots.specs.declared.check.Verdict.the-variants.{Refused, Over, Split}
 
 abbrev pub tableTests : List ℕ → List (ℕ × Bool) → List (ℕ × Bool)
 tableTests l more = (7, not (eqb (length l) slots)) ∷ (8, not (isSound l)) ∷ more

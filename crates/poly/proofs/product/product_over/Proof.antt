@@ -1,13 +1,13 @@
--- `poly_product::product_over` meets its contract. The loop's invariant: the product over the roots from i on stands
+-- `poly::product::product_over` meets its contract. The loop's invariant: the product over the roots from i on stands
 -- from place i on.
 -- Assumes nothing.
 use native.Mathlib.Omega.{arith}
-use Rattle.poly_product.proofs.Multiplying.{Multiplying, multiply-from, multiply-lent}
-use Rattle.poly_product.proofs.Multiplying.{multiply-on, multiply-long, multiply-whole}
+use Rattle.poly.proofs.Multiplying.{Multiplying, multiply-from, multiply-lent}
+use Rattle.poly.proofs.Multiplying.{multiply-on, multiply-long, multiply-whole}
 use borrow.Author.Needs.{needs}
-use Rattle.poly_product.proofs.product_over.Statement.{statement}
-use Rattle.poly_product.proofs.product_over.Tie as tie
-use Rattle.poly_product.proofs.times_linear.Reads as times-linear-reads
+use Rattle.poly.proofs.product.product_over.Statement.{statement}
+use Rattle.poly.proofs.product.product_over.Tie as tie
+use Rattle.poly.proofs.product.times_linear.Reads as times-linear-reads
 
 abbrev Inv-loop : tie.InvT-loop
 Inv-loop m roots logs antilogs f₀ n end i₀ f i = Multiplying m logs antilogs roots f₀ f i

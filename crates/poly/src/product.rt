@@ -6,7 +6,7 @@ ghost use lib.ListN.{drop};
 ghost use Rattle.algebra.specs.Polynomial.{fromRoots, linear, mul};
 ghost use Rattle.field.specs.Field.{G};
 ghost use Rattle.slices.specs.Lists.{copied};
-ghost use Rattle.poly_product.specs.Products.{Multipliable, Stretchable};
+ghost use Rattle.poly.specs.Products.{Multipliable, Stretchable};
 
 // Multiplies the polynomial that stands in f from place 1 on by z + r. The product takes all of f; what stood at place
 // 0 is not read.

@@ -1,14 +1,14 @@
--- `table_check::judge_sound` meets its contract: each return gives its verdict.
+-- `table_slots::check::judge_sound` meets its contract: each return gives its verdict.
 -- Assumes nothing.
 use native.Mathlib.Omega.{arith}
-use Rattle.table_check.proofs.Judging.{head-there, sum-small, place-within, judge-over, judge-level, judge-steps, judge-split}
+use Rattle.table_slots.proofs.Judging.{head-there, sum-small, place-within, judge-over, judge-level, judge-steps, judge-split}
 use borrow.Author.Needs.{needs}
-use Rattle.table_check.proofs.judge_sound.Statement.{statement}
-use Rattle.table_check.proofs.judge_sound.Tie as tie
+use Rattle.table_slots.proofs.check.judge_sound.Statement.{statement}
+use Rattle.table_slots.proofs.check.judge_sound.Tie as tie
 use Rattle.table_slots.proofs.first_above.Reads as first-above-reads
 use Rattle.table_slots.proofs.head_of.Reads as head-of-reads
 use Rattle.table_slots.proofs.level_at.Reads as level-at-reads
 use Rattle.table_slots.proofs.step_limit.Reads as step-limit-reads
 
 head-of-requires : tie.Need-head-of-requires
 head-of-requires c κs = head-there _ (c .before .pre)

@@ -25,19 +25,19 @@ use Rattle.table_rules.specs.Sizes.{slots, isSound}
 use Rattle.table_rules.proofs.Layouts.{byFactor-lawful}
 use Rattle.table_rules.proofs.Soundness.{Valid, sound-valid}
 use Rattle.table_rules.proofs.Keeping.{stuck-order, sound-length}
 use Rattle.table_slots.specs.Slots.{cutoffOf, levelAt, Heads}
 use Rattle.table_slots.specs.Walk.{soughtIn, summed}
 use Rattle.table_slots.specs.declared.Head.{Head}
 use Rattle.table_slots.specs.declared.Sum.{Sum}
 use Rattle.table_slots.specs.declared.Sum.the-variants as sums
 use Rattle.table_slots.specs.declared.Spot.{Spot}
 use Rattle.table_slots.specs.declared.Spot.the-variants.{At, Nowhere}
 use Rattle.table_slots.proofs.Finding.{Standing, seek-done, seek-at}
-use Rattle.table_check.specs.Verdicts.{Fit, Checks, Judged}
-use Rattle.table_check.specs.Verdicts.Checks.{unsound, fits}
-use Rattle.table_check.specs.Verdicts.Judged.{stuck, over, split}
-use Rattle.table_check.specs.declared.Checked.the-variants.{Unfit, Sound}
-use Rattle.table_check.specs.declared.Verdict.the-variants.{Refused, Over, Split}
+use Rattle.table_slots.specs.Verdicts.{Fit, Checks, Judged}
+use Rattle.table_slots.specs.Verdicts.Checks.{unsound, fits}
+use Rattle.table_slots.specs.Verdicts.Judged.{stuck, over, split}
+use Rattle.table_slots.specs.declared.check.Checked.the-variants.{Unfit, Sound}
+use Rattle.table_slots.specs.declared.check.Verdict.the-variants.{Refused, Over, Split}
 
 module _ (l : List ℕ) where
   -- the table that the slots hold

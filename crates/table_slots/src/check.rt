@@ -1,15 +1,15 @@
 // What is decided of a work table before anything is written: whether it is sound (docs/RULES.md section 4.5), and
 // what a step finds in it.
-ghost use Rattle.table_check.specs.Verdicts.{Checks, Fit, Judged};
+ghost use Rattle.table_slots.specs.Verdicts.{Checks, Fit, Judged};
+use crate::SLOTS;
+use crate::Spot;
+use crate::Sum;
+use crate::degrees;
+use crate::first_above;
+use crate::head_of;
+use crate::level_at;
+use crate::step_limit;
 use refusals::Refusal;
-use table_slots::SLOTS;
-use table_slots::Spot;
-use table_slots::Sum;
-use table_slots::degrees;
-use table_slots::first_above;
-use table_slots::head_of;
-use table_slots::level_at;
-use table_slots::step_limit;
 
 // What slots are: turned away, or those of a sound table, with the sum of its degrees.
 pub enum Checked {

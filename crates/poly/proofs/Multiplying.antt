@@ -15,8 +15,8 @@ use Rattle.algebra.specs.Polynomial.{fromRoots, linear, mul}
 use Rattle.algebra.proofs.StaysBelow.{below-at, drop-below}
 use Rattle.field.specs.Field.{G}
 use Rattle.slices.specs.Lists.{copied}
-use Rattle.poly_product.specs.Products.{Multipliable, Stretchable}
-use Rattle.poly_product.proofs.RootProducts.{product-below, product-long}
+use Rattle.poly.specs.Products.{Multipliable, Stretchable}
+use Rattle.poly.proofs.RootProducts.{product-below, product-long}
 
 -- the product over the roots from i on
 abbrev behind : ℕ → List ℕ → ℕ → List ℕ

@@ -1,11 +1,11 @@
--- `table_check::check` meets its contract: each return names the test that holds.
+-- `table_slots::check::check` meets its contract: each return names the test that holds.
 -- Assumes nothing.
-use Rattle.table_check.specs.Verdicts.Checks.{short}
-use Rattle.table_check.proofs.Judging.{check-sound, check-unsound}
+use Rattle.table_slots.specs.Verdicts.Checks.{short}
+use Rattle.table_slots.proofs.Judging.{check-sound, check-unsound}
 use borrow.Author.Needs.{needs}
-use Rattle.table_check.proofs.check.Statement.{statement}
-use Rattle.table_check.proofs.check.Tie as tie
+use Rattle.table_slots.proofs.check.check.Statement.{statement}
+use Rattle.table_slots.proofs.check.check.Tie as tie
 use Rattle.table_slots.proofs.degrees.Reads as degrees-reads
 
 returns : tie.Need-returns
 returns c = short (c .if1 .taken)

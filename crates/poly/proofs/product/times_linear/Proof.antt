@@ -1,14 +1,14 @@
--- `poly_product::times_linear` meets its contract. The loop's invariant: the first i coefficients are the product's.
+-- `poly::product::times_linear` meets its contract. The loop's invariant: the first i coefficients are the product's.
 -- Assumes nothing.
 use Prim.Native.Nat.{_+_, _-_}
 use native.Mathlib.Omega.{arith}
 use lib.ListN.{length-set}
 use Rattle.poly.proofs.Logs.{logs-fit}
-use Rattle.poly_product.proofs.Stretching.{Stretching, stretch-from, stretch-skipped, stretch-logs}
-use Rattle.poly_product.proofs.Stretching.{stretch-fits, stretch-on, stretch-room, stretch-whole}
+use Rattle.poly.proofs.Stretching.{Stretching, stretch-from, stretch-skipped, stretch-logs}
+use Rattle.poly.proofs.Stretching.{stretch-fits, stretch-on, stretch-room, stretch-whole}
 use borrow.Author.Needs.{needs}
-use Rattle.poly_product.proofs.times_linear.Statement.{statement}
-use Rattle.poly_product.proofs.times_linear.Tie as tie
+use Rattle.poly.proofs.product.times_linear.Statement.{statement}
+use Rattle.poly.proofs.product.times_linear.Tie as tie
 
 abbrev Inv-loop : tie.InvT-loop
 Inv-loop m logs antilogs r f₀ s top i₀ f i = Stretching m logs antilogs r f₀ top f i

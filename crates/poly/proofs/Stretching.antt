@@ -20,10 +20,10 @@ use Rattle.algebra.specs.Polynomial.{Below, add, linear, mul}
 use Rattle.algebra.proofs.StaysBelow.{below-at}
 use Rattle.field.specs.Field.{fieldAt, G}
 use Rattle.field.proofs.Ring.{ring}
 use Rattle.poly.proofs.Logs.{field-of, numbers-of, logs-fit, product-fits, product-at}
 use Rattle.poly.proofs.Sums.{add-at, add-nil, add-none, add-rest, long-row}
 use Rattle.slices.proofs.Filling.{Filling, fill, fill-from, fill-on, fill-next, fill-stop, map-at}
-use Rattle.poly_product.specs.Products.{Stretchable}
+use Rattle.poly.specs.Products.{Stretchable}
 
 -- the sum that the loop makes
 abbrev pub stretched : ℕ → ℕ → List ℕ → List ℕ

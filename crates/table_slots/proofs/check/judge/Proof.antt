@@ -1,14 +1,14 @@
--- `table_check::judge` meets its contract: the check's refusal, or the verdict on a sound table.
+-- `table_slots::check::judge` meets its contract: the check's refusal, or the verdict on a sound table.
 -- Assumes nothing.
 use mathlib.Core.Path.{subst}
-use Rattle.table_check.specs.Verdicts.{Checks}
-use Rattle.table_check.specs.Verdicts.Judged.{unfit}
-use Rattle.table_check.proofs.Judging.{fit-of}
+use Rattle.table_slots.specs.Verdicts.{Checks}
+use Rattle.table_slots.specs.Verdicts.Judged.{unfit}
+use Rattle.table_slots.proofs.Judging.{fit-of}
 use borrow.Author.Needs.{needs}
-use Rattle.table_check.proofs.judge.Statement.{statement}
-use Rattle.table_check.proofs.judge.Tie as tie
-use Rattle.table_check.proofs.check.Reads as check-reads
-use Rattle.table_check.proofs.judge_sound.Reads as judge-sound-reads
+use Rattle.table_slots.proofs.check.judge.Statement.{statement}
+use Rattle.table_slots.proofs.check.judge.Tie as tie
+use Rattle.table_slots.proofs.check.check.Reads as check-reads
+use Rattle.table_slots.proofs.check.judge_sound.Reads as judge-sound-reads
 
 check-requires : tie.Need-check-requires
 check-requires c κs = search needs

@@ -1,2 +1,0 @@
--- Why: the verdict at each return.
-pub mod Judging
