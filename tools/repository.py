@@ -23,6 +23,11 @@ def say(line):
     print(f"{pathlib.Path(sys.argv[0]).name}: {line}", file=sys.stderr, flush=True)
 
 
+def version():
+    """The version, as include/locator.h has it."""
+    return re.search(r'^#define LOCATOR_VERSION "(.*)"$', (TOP / "include" / "locator.h").read_text(), re.M).group(1)
+
+
 def listed():
     """The crates, in the order of crates.txt."""
     return [line.split(":")[0] for line in (TOP / "crates.txt").read_text().splitlines() if ":" in line]
