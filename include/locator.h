@@ -1,6 +1,6 @@
 /* locator.h: the roots of locator polynomials over GF(2^m), m = 4, 8 or 11, a check of a partner's list
    of roots and the making of one, a corrector and an encoder of blocks over m = 11, salvage of job files,
-   and a writer of their records. Link with liblocator.a (tools/library builds it, for x86-64 Linux).
+   and a writer of their records. Link with liblocator.a or liblocator.so (tools/library builds them).
 
    Every call is proved to do what stands over it, for every input (crates/locator/src/lib.rt has the
    contracts). docs/RULES.md has the rules in full: fields and element calls are its sections 1 and 2,
@@ -45,7 +45,21 @@
 
    WHERE IT MAY RUN. No call allocates, waits, calls out or keeps state; each ends. So any of them may
    run in an interrupt or in several threads at once, each over memory of its own. The archive asks for
-   nothing but memcpy and memset. LOCATOR_STACK bytes of stack are enough for any call. */
+   nothing but memcpy and memset. LOCATOR_STACK bytes of stack are enough for any call.
+
+   MACHINES. x86-64 and aarch64 Linux; 32-bit ARM (armhf Linux, and Cortex-M from M3 on), and wasm32:
+   tools/library --target. What holds on each:
+       counts      the proved code counts in 64 bits everywhere. Where size_t has 32, tools/c/narrow.c
+                   widens them.
+       results     at most 16 bytes. These come back in registers in the same way by the x86-64 and the
+                   aarch64 conventions; a larger one would not, and is not to be added. Where pointers
+                   have 32 bits, tools/c/narrow.c gives them as C expects there, on wasm32 through a
+                   pointer as the first word.
+       asked for   memcpy and memset; on 32-bit ARM the compiler's divisions of 64 bits too (libgcc).
+       stack       the most measured, in bytes (tests/c/stack.c): x86-64 33,624, aarch64 33,680;
+                   tests/machines measures the others. wasm32 has a stack of its own, 128 KB
+                   in locator.wasm. On x86-64 and aarch64 a frame probes the stack page by page, so that
+                   it cannot step over a guard page; elsewhere it does not. */
 #ifndef LOCATOR_H
 #define LOCATOR_H
 
@@ -57,7 +71,7 @@ extern "C" {
 #endif
 
 /* The version. Scripts and packages take it from here, and tests/promises looks whether the other places
-   that state it say the same. */
+   that state it say the same. Its first number is that of liblocator.so's name. */
 #define LOCATOR_VERSION "0.1.0"
 
 /* The slots of a work table; the fewest slots of a list of roots or multiplicities; the most

@@ -1,6 +1,7 @@
 """What the Python commands of tools/ and tests/ share: where things stand, which files scripts write, edits, and what the prover says of a changed crate."""
 import argparse
 import pathlib
+import platform
 import re
 import shutil
 import subprocess
@@ -9,6 +10,10 @@ import tempfile
 
 TOP = pathlib.Path(__file__).resolve().parent.parent
 CRATES = TOP / "crates"
+# The targets of tools/library: this machine's own, those of machines whose pointers have 64 bits, and of 32 bits.
+OWN = {"x86_64": "x86-64"}.get(platform.machine(), platform.machine())
+WIDE = ("x86-64", "x86-64-v3", "aarch64")
+NARROW = ("armhf", "cortex-m3", "wasm32")
 # The sources that scripts of tools/ write.
 GENERATED = {"field_tables/halves.rt", "field_tables/logtables.rt", "field_tables/antilogs.rt", "poly_values/tables.rt", "corrector_generator/rows8.rt", "corrector_generator/rows5.rt", "corrector_remainder/raised.rt", "corrector_syndromes/powers.rt", "corrector_locator/powers.rt", "field_constants/words.rt"}
 
@@ -83,6 +88,23 @@ def proved(*words):
                 sys.stderr.write(line)
     if run.returncode:
         sys.exit("".join([line for line in lines if ": error" in line][:10] or lines[-30:]))
+
+
+def take_targets(args, choices=WIDE):
+    """Lets a command take `--target`: opt.target is a list of these."""
+    args.add_argument("--target", nargs="+", choices=choices, default=[OWN], metavar="T", help=f"of tools/library, one or several: {', '.join(choices)} (default: this machine's own)")
+
+
+def built(command, *words):
+    """A command of tools/ that builds something; where it fails, this run ends as it does."""
+    made = subprocess.run([TOP / "tools" / command, *words], stdout=subprocess.DEVNULL)
+    if made.returncode:
+        sys.exit(made.returncode)
+
+
+def running(target, name, *words):
+    """The words that run a program of a target."""
+    return [TOP / "tools" / "run", "--target", target, name, *words]
 
 
 def asked(tree, crate, changed):
