@@ -1,6 +1,6 @@
 /* The figures of docs/RULES.md section 10 through the C face: whole calls, one splitting step by step, the search, a
    quadratic, positions, and refusals.
-   examples/rust/examples/solve.rs does the same job; both must print examples/solve.expected. */
+   bindings/rust/examples/solve.rs does the same job; both must print examples/solve.expected. */
 #include "locator.h"
 #include <stdio.h>
 

@@ -1,5 +1,6 @@
-//! The C face as include/locator.h declares it, each call over slices. A slice is a pointer to as many elements as its length says, aligned, and a `&mut`
-//! slice overlaps no other: that is all that the calls ask for, so each is safe.
+//! The C face as include/locator.h declares it, each call over slices. A slice is a pointer to as many elements as
+//! its length says, aligned, and a `&mut` slice overlaps no other: that is all that the calls ask for, so each is
+//! safe.
 
 #[repr(C)]
 pub struct Value {
@@ -173,13 +174,7 @@ pub fn quadratic(m: u16, a: u16, b: u16) -> Pair {
     unsafe { locator_quadratic(m, a, b) }
 }
 
-pub fn solve(
-    m: u16,
-    coeffs: &[u16],
-    cutoff: u16,
-    roots: &mut [u16],
-    mults: &mut [u16],
-) -> Found {
+pub fn solve(m: u16, coeffs: &[u16], cutoff: u16, roots: &mut [u16], mults: &mut [u16]) -> Found {
     unsafe {
         locator_solve(
             m,

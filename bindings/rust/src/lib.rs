@@ -1,11 +1,31 @@
 //! Safe calls of the proved root finder: the roots of polynomials over GF(2^m), m = 4, 8 or 11, of affine ones of any
-//! degree, claims of roots checked and made, the block corrector and encoder, salvage of job files, and a writer of their
-//! records.
-//! include/locator.h says what each call does; here a refusal is an error, a list is a slice, and what is given back is
-//! typed. No call allocates, calls out or keeps state.
-#![no_std]
+//! degree, claims of roots checked and made, the block corrector and encoder, salvage of job files, and a writer of
+//! their records. include/locator.h says what each call does; here a refusal is an error, a list is a slice, and what
+//! is given back is typed. No call allocates, calls out or keeps state.
+//!
+//! ```
+//! use locator::{Field, ROOTS};
+//!
+//! // z^3 + 7z + 6 in the field of 16 elements, the constant first
+//! let (mut list, mut mults) = ([0; ROOTS], [0; ROOTS]);
+//! let found = Field::Four.solve(&[6, 7, 0, 1], 1, &mut list, &mut mults)?;
+//! assert_eq!(found.roots.distinct, [1, 2, 3]);
+//! assert_eq!(found.steps, 4);
+//! # Ok::<(), locator::Refusal>(())
+//! ```
+//!
+//! A field is a [`Field`], whose methods cannot be refused under 1, or a number m for the functions of the same names.
+#![cfg_attr(not(feature = "std"), no_std)]
+#![warn(missing_docs)]
+
+use core::fmt;
 
 mod face;
+mod field;
+pub use field::Field;
+
+/// The version, that of include/locator.h.
+pub const VERSION: &str = env!("CARGO_PKG_VERSION");
 
 /// The slots of a work table.
 pub const SLOTS: usize = 100;
@@ -17,12 +37,12 @@ pub const COEFFICIENTS: usize = 33;
 pub const ELEMENTS: usize = 2048;
 /// The bytes of a word of the block corrector and encoder.
 pub const WORD: usize = 256;
-/// The most bytes of a record that [`write`] makes.
+/// The most bytes of a record that [`write()`] makes.
 pub const RECORD: usize = 71;
 
-/// Why an input is turned away, under its number (docs/RULES.md section 8). Numbers that no call of this crate can give
-/// are not here: 11 and 12 are of job records, and 21 is of a convention that there is not, which a [`Convention`] cannot
-/// be.
+/// Why an input is turned away, under its number (docs/RULES.md section 8). Numbers that no call of this crate can
+/// give are not here: 11 and 12 are of job records, and 21 is of a convention that there is not, which a
+/// [`Convention`] cannot be.
 #[derive(Clone, Copy, Debug, PartialEq, Eq)]
 #[repr(u16)]
 pub enum Refusal {
@@ -77,7 +97,45 @@ impl Refusal {
         .into_iter()
         .find(|r| r.number() == number)
     }
+
+    /// What it means: the text that `locator_reason` gives in C.
+    pub fn reason(self) -> &'static str {
+        use Refusal::*;
+        match self {
+            Field => "there is no field of this degree",
+            Empty => "there are no coefficients",
+            Long => "there are more than 33 coefficients, or 32 roots of a record",
+            Element => "an element, a coefficient or a root is 2^m or more",
+            AllZero => "every coefficient is 0",
+            Cutoff => "the cutoff is above 3",
+            Room => "a buffer is too small, or a table has not 100 slots",
+            Unsound => "the table is not sound",
+            Stuck => "the table cannot be stepped",
+            NotDone => "the table is not done",
+            OfZero => "0 has no inverse and no position",
+            Count => "an affine polynomial has not m coefficients",
+            Block => "the word has not 256 bytes, or its last bit is set",
+            Strength => "the strength is not 1 to 8",
+            Far => "no codeword is within the strength",
+            Order => "the roots of a record are not strictly ascending",
+        }
+    }
 }
+
+/// The reason, and the number in brackets.
+///
+/// ```
+/// let refusal = locator::inverse(11, 0).unwrap_err();
+/// assert_eq!(refusal.to_string(), "0 has no inverse and no position (13)");
+/// ```
+impl fmt::Display for Refusal {
+    fn fmt(&self, f: &mut fmt::Formatter) -> fmt::Result {
+        write!(f, "{} ({})", self.reason(), self.number())
+    }
+}
+
+#[cfg(feature = "std")]
+impl std::error::Error for Refusal {}
 
 /// What an outcome's number says. The contracts admit no other number.
 fn accepted(outcome: u16) -> Result<(), Refusal> {
@@ -103,9 +161,11 @@ pub enum Convention {
 /// The distinct roots of a quadratic, the lower first.
 #[derive(Clone, Copy, Debug, PartialEq, Eq)]
 pub enum Pair {
+    /// No root.
     None,
     /// One root, double.
     Double(u16),
+    /// Two roots.
     Two(u16, u16),
 }
 
@@ -113,7 +173,9 @@ pub enum Pair {
 /// lists that were lent.
 #[derive(Clone, Copy, Debug, PartialEq, Eq)]
 pub struct Roots<'a> {
+    /// The roots, each once.
     pub distinct: &'a [u16],
+    /// How often each is a root.
     pub multiplicities: &'a [u16],
 }
 
@@ -130,7 +192,9 @@ impl<'a> Roots<'a> {
 /// What the whole call finds: the roots, and the number of steps.
 #[derive(Clone, Copy, Debug, PartialEq, Eq)]
 pub struct Solved<'a> {
+    /// The distinct roots, with their multiplicities.
     pub roots: Roots<'a>,
+    /// How many splitting steps there are at this cutoff.
     pub steps: u16,
 }
 
@@ -138,10 +202,13 @@ pub struct Solved<'a> {
 /// none differs from a space of dimension 0, which is one root.
 #[derive(Clone, Copy, Debug, PartialEq, Eq)]
 pub enum Space<'a> {
+    /// No root.
     None,
     /// 2^dimension roots, ascending, at the front of the list that was lent.
     Roots {
+        /// Of the space that the roots differ by; 0 where there is one root.
         dimension: u16,
+        /// The roots.
         roots: &'a [u16],
     },
 }
@@ -156,24 +223,35 @@ impl<'a> Space<'a> {
     }
 }
 
-/// A claim about a polynomial f: its roots, ascending, and beside each its multiplicity; the cofactor h that is left of f
-/// without them; and u and v with u h + v w = 1, where w is the remainder of z^(2^m) + z by h, or 0 if h is constant.
+/// A claim about a polynomial f: its roots, ascending, and beside each its multiplicity; the cofactor h that is left
+/// of f without them; and u and v with u h + v w = 1, where w is the remainder of z^(2^m) + z by h, or 0 if h is
+/// constant.
 #[derive(Clone, Copy, Debug, PartialEq, Eq)]
 pub struct Claim<'a> {
+    /// The roots.
     pub roots: &'a [u16],
+    /// Their multiplicities.
     pub multiplicities: &'a [u16],
+    /// What is left of f.
     pub h: &'a [u16],
+    /// The factor of h in the sum that is 1.
     pub u: &'a [u16],
+    /// The factor of w in it.
     pub v: &'a [u16],
 }
 
 /// Room for a claim: lists of at least [`ROOTS`] slots, and polynomials of at least [`COEFFICIENTS`].
 #[derive(Debug)]
 pub struct Buffers<'a> {
+    /// For the roots.
     pub roots: &'a mut [u16],
+    /// For their multiplicities.
     pub multiplicities: &'a mut [u16],
+    /// For the cofactor.
     pub h: &'a mut [u16],
+    /// For u.
     pub u: &'a mut [u16],
+    /// For v.
     pub v: &'a mut [u16],
 }
 
@@ -217,10 +295,10 @@ pub fn quadratic(m: u16, a: u16, b: u16) -> Result<Pair, Refusal> {
     })
 }
 
-/// All distinct roots with their multiplicities, by splitting along the trace. A decoder must compare their number with the degree of its
-/// locator: a polynomial is, up to a constant factor, the locator of a set of places exactly if it has as many distinct
-/// roots as its degree, none of them 0. With fewer the word has more bad bits than its code corrects, and the places
-/// mean nothing.
+/// All distinct roots with their multiplicities, by splitting along the trace. A decoder must compare their number
+/// with the degree of its locator: a polynomial is, up to a constant factor, the locator of a set of places exactly
+/// if it has as many distinct roots as its degree, none of them 0. With fewer the word has more bad bits than its
+/// code corrects, and the places mean nothing.
 pub fn solve<'a>(
     m: u16,
     coeffs: &[u16],
@@ -256,9 +334,18 @@ fn fronts<'a>(roots: &'a [u16], mults: &'a [u16], count: usize) -> Roots<'a> {
     }
 }
 
-/// The roots of the affine polynomial constant + coeffs[0] z + coeffs[1] z^2 + coeffs[2] z^4 + .. up to z^(2^(m-1)): m
-/// coefficients, whose degree may be 1024. No element is tried. The list has at least 2^m slots, however few the roots are
-/// ([`ELEMENTS`] is enough in any field); those behind the last root are not written. All zeros give the entire field.
+/// The roots of the affine polynomial `constant + coeffs[0] z + coeffs[1] z^2 + coeffs[2] z^4 + ..` up to
+/// z^(2^(m-1)): m coefficients, whose degree may be 1024. No element is tried. The list has at least 2^m slots,
+/// however few the roots are ([`ELEMENTS`] is enough in any field); those behind the last root are not written. All
+/// zeros give the entire field.
+///
+/// ```
+/// // z^2 + z + 6 in the field of 16 elements: its two roots differ by 1
+/// let mut list = [0; locator::ELEMENTS];
+/// let space = locator::affine(4, &[1, 1, 0, 0], 6, &mut list)?;
+/// assert_eq!(space.roots(), [2, 3]);
+/// # Ok::<(), locator::Refusal>(())
+/// ```
 pub fn affine<'a>(
     m: u16,
     coeffs: &[u16],
@@ -300,16 +387,37 @@ pub fn finish<'a>(table: &[u16], roots: &'a mut [u16]) -> Result<&'a [u16], Refu
     Ok(&roots[..found.count.into()])
 }
 
-/// The block corrector: makes the word the codeword of this strength, 1 to 8, that differs from it in at most so many
+/// The block corrector.
+///
+/// ```
+/// // zeros are a codeword; two of its bits are wrong
+/// let mut word = [0; locator::WORD];
+/// word[3] = 0b1001;
+/// assert_eq!(locator::correct(2, &mut word), Ok(2));
+/// assert_eq!(word, [0; locator::WORD]);
+/// ```
+///
+/// Makes the word the codeword of this strength, 1 to 8, that differs from it in at most so many
 /// bits, and tells how many it flipped. `Refusal::Far` is given exactly if there is none; a refusal writes nothing.
 pub fn correct(strength: u16, word: &mut [u8]) -> Result<u16, Refusal> {
     let corrected = face::correct(strength, word);
     accepted(corrected.outcome).map(|()| corrected.flips)
 }
 
-/// The block encoder: makes the word the codeword of this strength, 1 to 8, that has its data, the bits from 11 t on, and
-/// tells how many check bits it wrote in front of them, 11 t. There is exactly one such codeword, whatever the check bits
-/// held; a refusal writes nothing.
+/// The block encoder: makes the word the codeword of this strength, 1 to 8, that has its data, the bits from 11 t on,
+/// and tells how many check bits it wrote in front of them, 11 t. There is exactly one such codeword, whatever the
+/// check bits held; a refusal writes nothing.
+///
+/// ```
+/// let mut word = [0; locator::WORD];
+/// word[200..204].copy_from_slice(b"data");
+/// assert_eq!(locator::encode(8, &mut word)?, 88);
+/// let kept = word;
+/// word[17] ^= 1;
+/// word[201] ^= 64;
+/// assert_eq!((locator::correct(8, &mut word)?, word), (2, kept));
+/// # Ok::<(), locator::Refusal>(())
+/// ```
 pub fn encode(strength: u16, word: &mut [u8]) -> Result<u16, Refusal> {
     let encoded = face::encode(strength, word);
     accepted(encoded.outcome).map(|()| encoded.checks)
@@ -323,6 +431,18 @@ pub fn check(m: u16, f: &[u16], claim: Claim) -> Result<bool, Refusal> {
 }
 
 /// Makes the claim about f, which [`check`] accepts: the fronts of the buffers. What is behind them is not written.
+///
+/// ```
+/// use locator::{check, prove, Buffers, Claim, COEFFICIENTS, ROOTS};
+/// let (mut roots, mut mults) = ([0; ROOTS], [0; ROOTS]);
+/// let (mut h, mut u, mut v) = ([0; COEFFICIENTS], [0; COEFFICIENTS], [0; COEFFICIENTS]);
+/// let buffers = Buffers { roots: &mut roots, multiplicities: &mut mults, h: &mut h, u: &mut u, v: &mut v };
+/// let claim = prove(4, &[6, 7, 0, 1], buffers)?;
+/// assert!(check(4, &[6, 7, 0, 1], claim)?);
+/// let short = Claim { roots: &[1, 2], multiplicities: &[1, 1], ..claim };
+/// assert!(!check(4, &[6, 7, 0, 1], short)?);
+/// # Ok::<(), locator::Refusal>(())
+/// ```
 pub fn prove<'a>(m: u16, f: &[u16], mut buffers: Buffers<'a>) -> Result<Claim<'a>, Refusal> {
     let proved = face::prove(m, f, &mut buffers);
     accepted(proved.outcome)?;
@@ -343,16 +463,24 @@ pub fn prove<'a>(m: u16, f: &[u16], mut buffers: Buffers<'a>) -> Result<Claim<'a
     })
 }
 
-/// Salvage of a damaged job file: the records that can be kept, unaltered and in order, at the front of `kept`, which must
-/// be as long as the file. What is behind them is not written.
+/// Salvage of a damaged job file: the records that can be kept, unaltered and in order, at the front of `kept`, which
+/// must be as long as the file. What is behind them is not written.
 pub fn salvage<'a>(file: &[u8], kept: &'a mut [u8]) -> Result<&'a [u8], Refusal> {
     let salvaged = face::salvage(file, kept);
     accepted(salvaged.outcome)?;
     Ok(&kept[..salvaged.length])
 }
 
-/// The job record of a field, a cutoff and 0 to 32 strictly ascending roots, at the front of `room` ([`RECORD`] bytes are
-/// enough for any): its polynomial is the monic one with exactly these roots, each simple. What is behind it is not written.
+/// The job record of a field, a cutoff and 0 to 32 strictly ascending roots, at the front of `room` ([`RECORD`] bytes
+/// are enough for any): its polynomial is the monic one with exactly these roots, each simple. What is behind it is
+/// not written.
+///
+/// ```
+/// let mut room = [0; locator::RECORD];
+/// let record = locator::write(4, 1, &[1, 2, 3], &mut room)?;
+/// assert_eq!(record, [0x4C, 0x52, 4, 1, 4, 6, 0, 7, 0, 0, 0, 1, 0]);
+/// # Ok::<(), locator::Refusal>(())
+/// ```
 pub fn write<'a>(
     m: u16,
     cutoff: u16,

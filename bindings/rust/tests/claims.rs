@@ -75,8 +75,28 @@ fn refusals() {
     let claim = prove(4, &F, slots.buffers()).unwrap();
     assert_eq!(check(5, &F, claim), Err(Refusal::Field));
     assert_eq!(check(4, &F, Claim { u: &[], ..claim }), Err(Refusal::Empty));
-    assert_eq!(check(4, &F, Claim { h: &[0; COEFFICIENTS + 1], ..claim }), Err(Refusal::Long));
-    assert_eq!(check(4, &F, Claim { roots: &[0, 16], ..claim }), Err(Refusal::Element));
+    assert_eq!(
+        check(
+            4,
+            &F,
+            Claim {
+                h: &[0; COEFFICIENTS + 1],
+                ..claim
+            }
+        ),
+        Err(Refusal::Long)
+    );
+    assert_eq!(
+        check(
+            4,
+            &F,
+            Claim {
+                roots: &[0, 16],
+                ..claim
+            }
+        ),
+        Err(Refusal::Element)
+    );
     assert_eq!(check(4, &[0, 0], claim), Err(Refusal::AllZero));
     let mut others = Slots::new();
     let before = others.clone();
@@ -84,5 +104,8 @@ fn refusals() {
     let mut short = others.buffers();
     short.v = &mut [];
     assert_eq!(prove(4, &F, short), Err(Refusal::Room));
-    assert_eq!((others.lists, others.polynomials), (before.lists, before.polynomials));
+    assert_eq!(
+        (others.lists, others.polynomials),
+        (before.lists, before.polynomials)
+    );
 }

@@ -1,5 +1,5 @@
-//! The block corrector and encoder through the safe crate: what is encoded, what is mended, what is turned away, and what
-//! is written.
+//! The block corrector and encoder through the safe crate: what is encoded, what is mended, what is turned away, and
+//! what is written.
 use locator::{correct, encode, Refusal, WORD};
 
 const LAST: usize = 2047;

@@ -1,5 +1,5 @@
-//! Affine polynomials through the safe crate: the roots by evaluation at every element, every refusal and their order, and
-//! what is written and what is not.
+//! Affine polynomials through the safe crate: the roots by evaluation at every element, every refusal and their
+//! order, and what is written and what is not.
 use locator::*;
 
 const FIELDS: [(u16, usize); 3] = [(4, 16), (8, 256), (11, 2048)];

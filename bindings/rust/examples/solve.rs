@@ -85,7 +85,13 @@ fn main() -> Result<(), Refusal> {
     solve("cutoff 4", 4, &cubic, 4);
     println!(
         "31 slots: {}",
-        outcome(locator::solve(4, &cubic, 1, &mut [0; ROOTS], &mut [0; ROOTS - 1]))
+        outcome(locator::solve(
+            4,
+            &cubic,
+            1,
+            &mut [0; ROOTS],
+            &mut [0; ROOTS - 1]
+        ))
     );
     println!("inverse of 0: {}", outcome(locator::inverse(4, 0)));
     Ok(())
