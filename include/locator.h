@@ -1,6 +1,7 @@
 /* locator.h: the roots of locator polynomials over GF(2^m), m = 4, 8 or 11, a check of a partner's list
    of roots and the making of one, a corrector and an encoder of blocks over m = 11, salvage of job files,
-   and a writer of their records. Link with liblocator.a or liblocator.so (tools/library builds them).
+   and a writer of their records. Link with liblocator.a or liblocator.so (tools/library builds them,
+   tools/install installs them; then pkg-config --cflags --libs locator has the compiler's options).
 
    Every call is proved to do what stands over it, for every input (crates/locator/src/lib.rt has the
    contracts). docs/RULES.md has the rules in full: fields and element calls are its sections 1 and 2,

@@ -1,5 +1,5 @@
 # shellcheck shell=bash
-# The proved code on several machines, over tools/lib.sh: what tools/library, tools/program, tools/cc, tools/run and the tests of what they build share.
+# The proved code on several machines, over tools/lib.sh: what tools/library, tools/program, tools/cc, tools/run, tools/install and the tests of what they build share.
 #
 #   here, targets, need_target       this machine's target; the targets; refuses an unknown one
 #   first_target "$@"                --target T as a command's first words
@@ -8,7 +8,7 @@
 #   compiled CRATE T                 that module compiled for T
 #   sanitized CRATE                  the same for this machine, with AddressSanitizer over the proved code
 #   archive CRATE T, shared T        liblocator.a and its like; liblocator.so, or for wasm32 locator.wasm
-#   program NAME T                   a program of crates/, linked with the C library of T
+#   program NAME T, front T          a program of crates/, linked with the C library of T; all of them under one name, as tools/install installs them
 #   version                          the version, from include/locator.h, the one place that has it
 #
 # For x86-64 the archives and programs are the toolchain's own. For the others the very module that the toolchain compiles is compiled again by the same compiler
@@ -342,5 +342,26 @@ program() {
         mkdir -p "target/$2/bin"
         "$cc" -o "$out" "$object" "$os"
     fi
+    echo "$out"
+}
+
+# front T: prints bin/locator of tools/install: the programs' objects, each main under a name of its own, behind tools/c/front.c, which gives an exit status.
+fronted=(roots salvage jobs sheet blocks)
+front() {
+    local target=$1 name object objects=() out call wraps=()
+    for_target "$target"
+    need_cc
+    mkdir -p "target/$target"
+    [ "$target" = x86-64 ] || modules "${fronted[@]}"
+    for name in "${fronted[@]}"; do
+        object=$(program_object "$name" "$target")
+        "${tool}objcopy" --redefine-sym "main=${name}_main" "$object" "target/$target/$name-front.o"
+        objects+=("target/$target/$name-front.o")
+    done
+    objects+=("$(os_code "$target")")
+    for call in read write rattle_arg_count rattle_arg; do wraps+=("-Wl,--wrap=$call"); done
+    out=target/$target/locator
+    "$cc" -O2 -std=c11 -D_POSIX_C_SOURCE=200809L -Wall -Wextra -Werror -pie -fPIE -Iinclude -Wl,-z,relro -Wl,-z,now -Wl,--gc-sections "${wraps[@]}" -o "$out" \
+        tools/c/front.c "${objects[@]}"
     echo "$out"
 }
