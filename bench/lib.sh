@@ -3,7 +3,8 @@
 #
 #   peers_at, bch_options            the folder of the peers; what lib/bch.c is compiled with
 #   need_counter, count_each, no_rep instructions: callgrind on x86-64, elsewhere a plugin of Debian's emulator (bench/c/count.c)
-#   about                            the conditions, as lines of names and words
+#   natively                         this machine's own code in place of that for x86-64
+#   about, report                    the conditions, as lines of names and words; what a run prints and writes
 source "$(dirname "${BASH_SOURCE[0]}")/../tools/lib.sh"
 
 # peers_at DIR: sets $peers, a folder outside the repository.
@@ -69,10 +70,19 @@ no_rep() {
     if [ -n "$native" ]; then counting=(env "$vector" "${counting[@]}"); else counting+=(-E "$vector"); fi
 }
 
+# natively: from here on all is compiled for this machine and runs on it, our library too (tools/targets.sh), and wall time alone is taken ($quick).
+natively() {
+    source tools/targets.sh
+    [ "$here" != x86-64 ] || refuse "--native is for other processors: on x86-64 a run without it is native"
+    quick=1
+    native=1 cross='' compiler=gcc emulator=()
+    library() { archive "$1" "$here"; }
+}
+
 # Where, when, by what: a line for each, a name and words.
 about() {
     if [ -n "$native" ]; then
-        echo "where	native x86-64: $(sed -n 's/^model name[^:]*: //p' /proc/cpuinfo | head -n 1)"
+        echo "where	native $(uname -m | tr _ -): $(LC_ALL=C lscpu | sed -n 's/^Model name: *//p' | head -n 1)"
         echo "counter	$(valgrind --version 2>/dev/null || echo none)"
     else
         echo "where	under the emulator ($("${emulator[0]}" --version | sed -n '1s/ (.*//p')) on $(uname -m): of the times only the ratios count"
@@ -82,4 +92,9 @@ about() {
     echo "compiler	$("$compiler" --version | head -n 1), -O3 -funroll-loops"
     echo "commit	$(git rev-parse --short HEAD 2>/dev/null || echo none)"
     echo "bch	$(cat "$peers/linux/version" 2>/dev/null || echo 'not taken')"
+}
+
+# report PART: prints the tables of the run of bench/PART whose files stand in $out, those of $machine where it ran natively; with $docs it writes them to docs/.
+report() {
+    if [ -n "${machine:-}" ]; then python3 bench/report/native.py "$1" "$out" ${docs:+docs}; else python3 "bench/report/$1.py" "$out" ${docs:+docs}; fi
 }

@@ -8,7 +8,11 @@
  *
  * A set is named by its field and the dimension of its roots, or "none".
  */
+#ifdef __aarch64__
+#include <arm_neon.h>
+#else
 #include <emmintrin.h>
+#endif
 #include <stdbool.h>
 #include <stdio.h>
 #include <stdlib.h>
@@ -59,6 +63,20 @@ static void images_of(const struct polynomial *f, uint16_t *images)
 
 /* ---- the value at every element: that of x + 2^j is that of x plus the image of 2^j, eight at a time from 8 on ---- */
 
+/* Which of sixteen values are 0, a bit for each; they are aligned to 16 bytes. */
+static inline unsigned zeros(const uint16_t *values)
+{
+#ifdef __aarch64__
+    static const uint8_t weights[16] = {1, 2, 4, 8, 16, 32, 64, 128, 1, 2, 4, 8, 16, 32, 64, 128};
+    uint8x8_t low = vmovn_u16(vceqzq_u16(vld1q_u16(values))), high = vmovn_u16(vceqzq_u16(vld1q_u16(values + 8)));
+    uint8x16_t found = vandq_u8(vcombine_u8(low, high), vld1q_u8(weights));
+    return vaddv_u8(vget_low_u8(found)) | (unsigned)vaddv_u8(vget_high_u8(found)) << 8;
+#else
+    const __m128i *at = (const __m128i *)values, zero = _mm_setzero_si128();
+    return (unsigned)_mm_movemask_epi8(_mm_packs_epi16(_mm_cmpeq_epi16(at[0], zero), _mm_cmpeq_epi16(at[1], zero)));
+#endif
+}
+
 static size_t every(const struct polynomial *f, uint16_t *list)
 {
     static uint16_t values[ELEMENTS] __attribute__((aligned(16)));
@@ -71,12 +89,9 @@ static size_t every(const struct polynomial *f, uint16_t *list)
         for (size_t x = 0; x < half; x++)
             values[half + x] = values[x] ^ images[j];
     }
-    const __m128i *at = (const __m128i *)values, zero = _mm_setzero_si128();
-    for (unsigned x = 0; x < 1u << f->m; x += 16, at += 2) {
-        __m128i low = _mm_cmpeq_epi16(at[0], zero), high = _mm_cmpeq_epi16(at[1], zero);
-        for (unsigned bits = (unsigned)_mm_movemask_epi8(_mm_packs_epi16(low, high)); bits != 0; bits &= bits - 1)
+    for (unsigned x = 0; x < 1u << f->m; x += 16)
+        for (unsigned bits = zeros(values + x); bits != 0; bits &= bits - 1)
             list[s++] = (uint16_t)(x + (unsigned)__builtin_ctz(bits));
-    }
     return s;
 }
 

@@ -6,20 +6,23 @@ import os
 DEGREES = "## The cost by degree beside lib/bch.c"
 AFFINE = "## Affine polynomials beside every element tried"
 CORRECTOR = "## The block corrector beside lib/bch.c"
-SECTIONS = (DEGREES, AFFINE, CORRECTOR)
+NATIVE = {part: f"## {what} on another machine" for part, what in (("peers", "Times of the finders"), ("affine", "Times of affine polynomials"), ("corrector", "Times of the block corrector"))}
+SECTIONS = (DEGREES, AFFINE, CORRECTOR, *NATIVE.values())
 
 NO_REP = '''"No rep": from 2 KB on glibc's memset is one instruction, rep stos, which both counters take as one for each byte; for this column glibc was told to
 store by vectors instead. The emulator does rep stos byte by byte, and its times hold that.'''
 
 
-def words(text):
-    """The words of a report: DIR, where the files of the run stand, and DOCS, the folder of the page, or nothing."""
+def words(text, *before):
+    """The words of a report: those of `before`, DIR, where the files of the run stand, and DOCS, the folder of the page, or nothing."""
     args = argparse.ArgumentParser(description=text, epilog="Exit status: 0 written; 1 an answer of our own is wrong; 2 unknown words.",
                                    formatter_class=argparse.RawDescriptionHelpFormatter)
+    for word in before:
+        args.add_argument(word, metavar=word.upper())
     args.add_argument("dir", metavar="DIR")
     args.add_argument("docs", metavar="DOCS", nargs="?")
     opt = args.parse_args()
-    return opt.dir, opt.docs
+    return *(getattr(opt, word) for word in before), opt.dir, opt.docs
 
 
 def rows(directory, name):
@@ -54,7 +57,7 @@ def put(path, head, text):
 
 
 def figure(x):
-    return "-" if x is None else f"{x:,.1f}" if x < 1000 else f"{x:,.0f}"
+    return "-" if x is None else f"{x:.2f}" if x < 0.1 else f"{x:,.1f}" if x < 1000 else f"{x:,.0f}"
 
 
 def ratio(figures, s, one, other):
