@@ -1,4 +1,4 @@
-//! What stands here and in include/locator.h is the same: version, limits, and each refusal's number and reason.
+//! What stands here and in include/locator.h is the same: version, limits, calls, and each refusal's number and reason.
 use locator::{Field, Refusal};
 
 fn header() -> String {
@@ -62,6 +62,20 @@ fn refusals() {
         assert!(error.downcast_ref::<Refusal>().is_some());
     }
     assert_eq!(seen, 16);
+}
+
+#[test]
+fn calls() {
+    let (header, face) = (header(), include_str!("../src/face.rs"));
+    let declared = header
+        .lines()
+        .filter(|one| one.starts_with("locator_") || one.starts_with("uint16_t "))
+        .filter_map(|one| one.split(' ').nth(1)?.split_once('('))
+        .map(|(name, _)| name);
+    for name in declared.clone() {
+        assert!(face.contains(&format!("fn {name}(")), "{name}");
+    }
+    assert!(declared.count() > 10);
 }
 
 #[test]
