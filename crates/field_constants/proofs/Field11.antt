@@ -21,7 +21,7 @@ use Rattle.field.proofs.Generator.{Generated, generated, inverse-lt, mul-invers
 use Rattle.field.proofs.Ring.{mul-lt, mul-comm, mul-zero-l}
 use Rattle.field.proofs.Logarithms.{log-lt, log-product}
 use Rattle.field.proofs.Solutions.{answer-none, answer-up, answer-down, one-root, solution}
-use Rattle.field_constants.proofs.Logs11.{log-inverse, log-root, quotient}
+use Rattle.field_constants.proofs.Logs11.{log-inverse, log-quotient, log-root, quotient}
 
 pub gen11 : Generated (fieldAt 11)
 unfolding polyIn
@@ -41,6 +41,11 @@ product-is {x} {y} n hx hy es et er =
 pub inverse-is : {x s r : ℕ} → 0 < x → x < 2048 → s ≡ logOf (fieldAt 11) x → r ≡ antilogOf (fieldAt 11) (4094 - s)
     → r ≡ inverse (fieldAt 11) x
 inverse-is {x} p h es er = er ∙ ap (λ (u : ℕ). antilogOf (fieldAt 11) (4094 - u)) es ∙ log-inverse (fieldAt 11) gen11 x p h
+
+pub quotient-is : {x y s t r : ℕ} → x < 2048 → 0 < y → y < 2048 → s ≡ logOf (fieldAt 11) x → t ≡ logOf (fieldAt 11) y
+    → r ≡ antilogOf (fieldAt 11) (s + (4094 - t)) → r ≡ mul (fieldAt 11) (inverse (fieldAt 11) y) x
+quotient-is {x} {y} hx p hy es et er =
+    er ∙ ap₂ (λ (u v : ℕ). antilogOf (fieldAt 11) (u + (4094 - v))) es et ∙ log-quotient (fieldAt 11) gen11 x y hx p hy
 
 pub root-zero : {x : ℕ} → x ≡ 0 → (0 < 2048) × (mul (fieldAt 11) 0 0 ≡ x)
 root-zero e = (omega arith, mul-zero-l (fieldAt 11) (gen11 .monic) 0 ∙ sym e)

@@ -1,5 +1,6 @@
 -- Products, inverses and square roots by the log and the antilog, in any generated field.
 --   log-inverse   the antilog of what the log is short of twice the order is the inverse
+--   log-quotient  the antilog of a log and what another is short of twice the order is the quotient
 --   log-root      the antilog of the position, made even, is the square root
 --   quotient      s / a times a has the square of s
 -- Assumes nothing.
@@ -13,10 +14,10 @@ use Rattle.field.specs.Powers.{turned}
 use Rattle.field.specs.Tables.{logOf, antilogOf}
 use Rattle.field.proofs.Ring.{RingLaws, ring, power-lt, power-add}
 use Rattle.field.proofs.Generator.{Generated, one-below, power-order, position-is, inverse-only, mul-inverse}
-use Rattle.field.proofs.Logarithms.{log-position, log-half, antilog-even}
+use Rattle.field.proofs.Logarithms.{log-position, log-half, antilog-even, antilog-odd}
 
 module _ (F : Field) (gen : Generated F) where
-  open RingLaws (ring F (gen .monic)) using (mul-one-r, mul-assoc, mul-comm)
+  open RingLaws (ring F (gen .monic)) using (mul-one-r, mul-assoc, mul-comm, mul-zero-r)
 
   -- the rest of the way round
   pub log-inverse : (x : ℕ) → 0 < x → x < size F → antilogOf F (2 * order F - logOf F x) ≡ inverse F x
@@ -37,6 +38,30 @@ module _ (F : Field) (gen : Generated F) where
           ∙ sym (power-add F (gen .monic) (one-below F gen) 2 (position F x) (order F - position F x))
           ∙ ap (power (numbers F) 2) (let h = position-is F gen x p l .0 in let e : position F x + (order F - position F x) ≡ order F = omega arith in e)
           ∙ power-order F gen
+
+  -- one way on and the rest of another way round; odd where x is 0
+  pub log-quotient : (x y : ℕ) → x < size F → 0 < y → y < size F
+      → antilogOf F (logOf F x + (2 * order F - logOf F y)) ≡ mul F (inverse F y) x
+  unfolding logOf
+  log-quotient x y h p l = go (decLt 0 x)
+    where
+      turned-back : power (numbers F) 2 (order F - position F y) ≡ inverse F y
+      turned-back =
+          sym (antilog-even F (order F - position F y))
+          ∙ ap (antilogOf F) (let e : 2 * (order F - position F y) ≡ 2 * order F - logOf F y = omega (arith, log-position F y p) in e)
+          ∙ log-inverse y p l
+
+      go : Dec (0 < x) → antilogOf F (logOf F x + (2 * order F - logOf F y)) ≡ mul F (inverse F y) x
+      go (yes q) =
+          ap (antilogOf F) (let e : logOf F x + (2 * order F - logOf F y) ≡ 2 * (position F x + (order F - position F y)) = omega (arith, log-position F x q, log-position F y p, position-is F gen y p l .0) in e)
+          ∙ antilog-even F (position F x + (order F - position F y))
+          ∙ power-add F (gen .monic) (one-below F gen) 2 (position F x) (order F - position F y)
+          ∙ ap₂ (mul F) (position-is F gen x q h .1) turned-back ∙ mul-comm x (inverse F y)
+      go (no n) =
+          let z : x ≡ 0 = omega arith in
+          let e : logOf F x ≡ 1 = ap (logOf F) z in
+          antilog-odd F (logOf F x + (2 * order F - logOf F y)) (omega (arith, e, log-position F y p, position-is F gen y p l .0))
+          ∙ sym (ap (mul F (inverse F y)) z ∙ mul-zero-r (inverse F y))
 
   -- a power of an even number of factors
   root-of-power : (x s : ℕ) → x < size F → (power (numbers F) 2 (s + s) ≡ x) → (power (numbers F) 2 s < size F) × (mul F (power (numbers F) 2 s) (power (numbers F) 2 s) ≡ x)

@@ -1,4 +1,4 @@
-// Products, inverses, square roots and quadratics of field 11 over the tables in place.
+// Products, inverses, quotients, square roots and quadratics of field 11 over the tables in place.
 ghost use mathlib.Core.Path.{_≡_};
 ghost use Prim.Native.Nat.{_<_};
 ghost use Rattle.field.specs.Field.{fieldAt, mul, inverse};
@@ -25,6 +25,14 @@ pub fn inverse11(x: u16) -> u16
     ensures { λ r. ⌜ r ≡ inverse (fieldAt 11) x ⌝ }
 {
     antilog11(4094 - log11(x))
+}
+
+// The quotient x / y, where y is not 0: the difference of the logs is odd where x is 0.
+pub fn quotient11(x: u16, y: u16) -> u16
+    requires { ⌜ (x < 2048) × (0 < y) × (y < 2048) ⌝ }
+    ensures { λ r. ⌜ r ≡ mul (fieldAt 11) (inverse (fieldAt 11) y) x ⌝ }
+{
+    antilog11(log11(x) + (4094 - log11(y)))
 }
 
 // The square root of an element: its position halved, modulo the order, which is odd.

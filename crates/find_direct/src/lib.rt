@@ -9,9 +9,10 @@ use crate::tried::tried_roots;
 use field::solver::Quadratic;
 use field_constants::arithmetic::inverse11;
 use field_constants::arithmetic::product11;
+use field_constants::arithmetic::quotient11;
 use field_constants::arithmetic::roots11;
 
-mod guess; // roots of degrees 3 and 4, guessed
+pub mod guess; // roots of degrees 3 and 4, guessed
 pub mod steps; // the steps of a list of roots
 pub mod tried; // degrees 3 and 4
 
@@ -20,7 +21,7 @@ fn linear_root(coeffs: &[u16], roots: &mut [u16])
     requires { ⌜ Leading 2 (now coeffs) × (1 ≤ length (now roots)) ⌝ }
     ensures { λ _. ⌜ Listed (rootsAt 11 (now (coeffs .entry))) (now (roots .entry)) 1 (now (roots .exit)) ⌝ }
 {
-    roots[0] = product11(inverse11(coeffs[1]), coeffs[0]);
+    roots[0] = quotient11(coeffs[0], coeffs[1]);
 }
 
 // Writes the roots of z^2 + az + b, ascending, to the front of the list. Returns how many there are.
