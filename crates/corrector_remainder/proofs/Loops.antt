@@ -4,6 +4,7 @@
 --   cut-taken, cut-left    what the answer says
 --   parts-xor              the sum of two numbers, by their two parts
 --   Lowering, lowering-start, lowering-turn, lowering-end   digits cut from n - 1 down to d
+--   Lessening, lessening-start, lessening-turn, lessening-end   digits cut by the lesser
 -- Assumes nothing.
 use mathlib.Core.Path.{_≡_, refl, sym, ap, ap₂, _∙_, subst}
 use mathlib.Core.Bool.{Bool, true, false}
@@ -15,7 +16,7 @@ use borrow.Author.Tests.{le-leb, lt-leb, leb-true, leb-false}
 use lib.Bits.{bitXor, xor-block, shifted-half}
 use lib.Dec.{leb}
 use Rattle.corrector_generator.specs.Generators.{generatorOf}
-use Rattle.corrector_remainder.specs.Remainder.{cutAt, lowered}
+use Rattle.corrector_remainder.specs.Remainder.{cutAt, lowered, lesser, lessened}
 
 -- an arm of `raised8` and `raised5`
 pub raised-arm : (n : ℕ) {t m v : ℕ} → t ≡ m → v ≡ generatorOf m * 2 ^ (n - 11 * m) / 2
@@ -95,3 +96,24 @@ pub lowering-end : {n d g₀ x₀ x g top k : ℕ} → Lowering n d g₀ x₀ x 
 unfolding lowered
 lowering-end {n} {d} {g₀} {x₀} {x} {g} {top} {k} w h =
     let z : 0 ≡ k - d = omega arith in ap (λ (m : ℕ). lowered m d g x) z ∙ w .ahead
+
+-- ---- digits cut by the lesser
+
+pub record Lessening (n g₀ x₀ x g k : ℕ) : Type 0 where
+  pub ahead : lessened k g x ≡ lessened n g₀ x₀
+
+pub lessening-start : (n g x : ℕ) → Lessening n g x x g n
+lessening-start n g x = record { ahead = refl }
+
+pub lessening-turn : {n g₀ x₀ x g k v : ℕ} → Lessening n g₀ x₀ x g k → 0 < k → v ≡ lesser x (bitXor x g)
+    → Lessening n g₀ x₀ v (g / 2) (k - 1)
+unfolding lessened
+lessening-turn {n} {g₀} {x₀} {x} {g} {k} w h e =
+    let one : k ≡ suc (k - 1) = omega arith in
+    record { ahead = ap (lessened (k - 1) (g / 2)) e ∙ ap (λ (m : ℕ). lessened m g x) (sym one) ∙ w .ahead }
+
+pub lessening-end : {n g₀ x₀ x g k : ℕ} → Lessening n g₀ x₀ x g k → k ≤ 0 → x ≡ lessened n g₀ x₀
+unfolding lessened
+lessening-end {x = x} {g = g} {k = k} w h =
+    let none : k ≡ 0 = omega arith in
+    sym (ap (λ (m : ℕ). lessened m g x) none) ∙ w .ahead

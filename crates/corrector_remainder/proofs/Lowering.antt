@@ -2,6 +2,7 @@
 -- is zero.
 --   cut-yes, cut-no                 one digit: cut or not
 --   lowered-below, lowered-values   what is left
+--   lessened-lowered                the lesser each time is the number with the digit cut
 -- Assumes nothing.
 use mathlib.Core.Path.{_≡_, refl, sym, ap, ap₂, _∙_, subst}
 use mathlib.Core.Bool.{Bool, cond}
@@ -9,7 +10,8 @@ use Prim.Native.Nat.{ℕ, zero, suc, _+_, _*_, _/_, _^_, _≤_, _<_}
 use native.Mathlib.Nat.{add-zero, add-suc, add-comm, one-mul, pow-suc, mul-comm, div-lt-iff-lt-mul}
 use native.Mathlib.Decide.{decLe, decLt}
 use native.Mathlib.Omega.{arith}
-use borrow.Author.Tests.{le-leb, lt-leb}
+use borrow.Author.Tests.{le-leb, lt-leb, le-ltb, lt-ltb}
+use lib.Dec.{ltb}
 use lib.Bits.{bitXor, xor-zero-r, xor-shr, shifted-half}
 use lib.Pow.{pow-pos, shr-shr, shl-shr}
 use Rattle.field.specs.Field.{fieldAt, mul}
@@ -18,7 +20,7 @@ use Rattle.field.proofs.Generator.{one-below}
 use Rattle.corrector_code.specs.Digits.{valueOfDigits}
 use Rattle.corrector_code.proofs.Eleven.{gen11}
 use Rattle.corrector_code.proofs.Values.{valueOfDigits-zero, valueOfDigits-xor, valueOfDigits-join}
-use Rattle.corrector_remainder.specs.Remainder.{cutAt, lowered}
+use Rattle.corrector_remainder.specs.Remainder.{cutAt, lowered, lesser, lessened}
 
 -- the value at z of the polynomial with the binary digits of n
 abbrev valueAt : ℕ → ℕ → ℕ
@@ -76,6 +78,40 @@ module _ (p d : ℕ) (monic : p / 2 ^ d ≡ 1) where
       let f : g ≡ p * 2 ^ n = e ∙ shifted-half p n in
       lowered-below n (g / 2) (cutAt (2 ^ (d + n)) g x) (ap (λ (y : ℕ). y / 2) f)
       (subst (λ (y : ℕ). cutAt (2 ^ (d + n)) y x < 2 ^ (d + n)) (sym f) (cut-below n x h))
+
+  -- with the digit cut a number is less; with the digit added it is not
+  least-cut : (n x : ℕ) → x < 2 ^ (d + suc n) → lesser x (bitXor x (p * 2 ^ n)) ≡ cutAt (2 ^ (d + n)) (p * 2 ^ n) x
+  unfolding lesser
+  least-cut n x h = go (decLe (2 ^ (d + n)) x)
+    where
+      go : Dec (2 ^ (d + n) ≤ x) → cond (ltb (bitXor x (p * 2 ^ n)) x) (bitXor x (p * 2 ^ n)) x ≡ cutAt (2 ^ (d + n)) (p * 2 ^ n) x
+      go (yes l) =
+          let e = cut-yes (2 ^ (d + n)) (p * 2 ^ n) x l in
+          let s : bitXor x (p * 2 ^ n) < 2 ^ (d + n) = subst (λ (z : ℕ). z < 2 ^ (d + n)) e (cut-below n x h) in
+          ap (λ (b : Bool). cond b (bitXor x (p * 2 ^ n)) x) (lt-ltb (bitXor x (p * 2 ^ n)) x (omega arith)) ∙ sym e
+      go (no l) =
+          let q : x / 2 ^ (d + n) < 1 = div-lt-iff-lt-mul (pow-pos (d + n)) .1 (subst (λ (z : ℕ). x < z) (sym (one-mul (2 ^ (d + n)))) (omega arith)) in
+          let one : bitXor x (p * 2 ^ n) / 2 ^ (d + n) ≡ 1 = xor-shr x (p * 2 ^ n) (d + n) ∙ ap₂ bitXor (let z : x / 2 ^ (d + n) ≡ 0 = omega arith in z) (moved-top n) in
+          ap (λ (b : Bool). cond b (bitXor x (p * 2 ^ n)) x) (le-ltb (bitXor x (p * 2 ^ n)) x (reached one))
+          ∙ sym (cut-no (2 ^ (d + n)) (p * 2 ^ n) x (omega arith))
+        where
+          reached : bitXor x (p * 2 ^ n) / 2 ^ (d + n) ≡ 1 → x ≤ bitXor x (p * 2 ^ n)
+          reached one = far (decLe (2 ^ (d + n)) (bitXor x (p * 2 ^ n)))
+            where
+              far : Dec (2 ^ (d + n) ≤ bitXor x (p * 2 ^ n)) → x ≤ bitXor x (p * 2 ^ n)
+              far (yes a) = omega arith
+              far (no a) =
+                  let z : bitXor x (p * 2 ^ n) / 2 ^ (d + n) < 1 = div-lt-iff-lt-mul (pow-pos (d + n)) .1 (subst (λ (w : ℕ). bitXor x (p * 2 ^ n) < w) (sym (one-mul (2 ^ (d + n)))) (omega arith)) in
+                  absurd (let b : ⊥ = omega arith in b)
+
+  pub lessened-lowered : (n g x : ℕ) → g ≡ p * 2 ^ n / 2 → x < 2 ^ (d + n) → lessened n g x ≡ lowered n d g x
+  unfolding lowered lessened
+  lessened-lowered zero g x e h = refl
+  lessened-lowered (suc n) g x e h =
+      let f : g ≡ p * 2 ^ n = e ∙ shifted-half p n in
+      ap (λ (y : ℕ). lessened n (g / 2) (lesser x (bitXor x y))) f ∙ ap (lessened n (g / 2)) (least-cut n x h)
+      ∙ lessened-lowered n (g / 2) (cutAt (2 ^ (d + n)) (p * 2 ^ n) x) (ap (λ (y : ℕ). y / 2) f) (cut-below n x h)
+      ∙ ap (λ (y : ℕ). lowered n d (g / 2) (cutAt (2 ^ (d + n)) y x)) (sym f)
 
   -- where the polynomial is zero, nothing changes
   module _ (z : ℕ) (root : valueAt z p ≡ 0) where

@@ -16,8 +16,8 @@ use Rattle.corrector_code.proofs.Eleven.{gen11}
 use Rattle.corrector_code.proofs.Values.{valueOfDigits-zero}
 use Rattle.corrector_generator.specs.Generators.{generatorOf, generatorAt, oddPower}
 use Rattle.corrector_generator.proofs.Zeros.{generator-top, generator-zero, rest-below, rest-values}
-use Rattle.corrector_remainder.specs.Remainder.{lowered, RestAt}
-use Rattle.corrector_remainder.proofs.Lowering.{lowered-below, lowered-values}
+use Rattle.corrector_remainder.specs.Remainder.{lowered, lessened, RestAt}
+use Rattle.corrector_remainder.proofs.Lowering.{lowered-below, lowered-values, lessened-lowered}
 
 -- the remainder by the generator of that strength
 pub rest-own : (s W : ℕ) {n : ℕ} → 1 ≤ s → s ≤ 8 → n ≡ reduce (generatorAt s) W → RestAt s W n
@@ -53,10 +53,14 @@ rest-at-8 t W least most er eg ec = rest-by 8 t W least most (omega arith) er eg
 -- from that of strength 5, in the lower of two parts
 pub rest-at-5 : (t W : ℕ) {r g c : ℕ} → 1 ≤ t → t ≤ 5 → r ≡ reduce (generatorAt 5) W
     → g ≡ generatorOf t * 2 ^ (55 - 11 * t) / 2
-    → c ≡ lowered (55 - 11 * t) (11 * t) g r → RestAt t W (0 * 2 ^ 64 + c)
+    → c ≡ lessened (55 - 11 * t) g r → RestAt t W (0 * 2 ^ 64 + c)
 rest-at-5 t W {r} {g} {c} least most er eg ec =
     let e : c ≡ 0 * 2 ^ 64 + c = omega arith in
-    subst (RestAt t W) e (rest-by 5 t W least most (omega arith) er eg ec)
+    let n : ℕ = 55 - 11 * t in
+    let all : 55 ≡ 11 * t + n = omega arith in
+    let small : r < 2 ^ (11 * t + n) = subst (λ (m : ℕ). r < 2 ^ m) all (rest-own 5 W (omega arith) (omega arith) er .below) in
+    let cut = lessened-lowered (generatorOf t) (11 * t) (generator-top t least (omega arith)) n g r eg small in
+    subst (RestAt t W) e (rest-by 5 t W least most (omega arith) er eg (ec ∙ cut))
 
 -- THERE IS ONE
 pub rest-exists : (t W : ℕ) → 1 ≤ t → t ≤ 8 → (n : ℕ) × RestAt t W n

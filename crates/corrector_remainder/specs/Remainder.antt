@@ -5,12 +5,13 @@
 --                       `remainder_of`
 --   cutAt top g x       x, with g added where x has a digit from top on
 --   lowered n d g x     n digits of x, from the highest down to digit d, cut by g, g/2, g/4, ..
+--   lessened n g x      the same without digits named: each time the lesser of x and x with g added;  lesser  of two
 -- Assumes nothing.
 use mathlib.Core.Path.{_≡_}
 use mathlib.Core.Bool.{cond}
 use Prim.Native.Nat.{ℕ, zero, suc, _+_, _*_, _/_, _^_, _<_}
 use lib.Bits.{bitXor}
-use lib.Dec.{leb}
+use lib.Dec.{leb, ltb}
 use Rattle.field.specs.Field.{fieldAt}
 use Rattle.corrector_code.specs.Digits.{valueOfDigits}
 use Rattle.corrector_generator.specs.Generators.{oddPower}
@@ -33,3 +34,12 @@ cutAt top g x = cond (leb top x) (bitXor x g) x
 unfoldable pub lowered : ℕ → ℕ → ℕ → ℕ → ℕ
 lowered zero d g x = x
 lowered (suc n) d g x = lowered n d (g / 2) (cutAt (2 ^ (d + n)) g x)
+
+-- the lesser of two numbers
+unfoldable pub lesser : ℕ → ℕ → ℕ
+lesser x y = cond (ltb y x) y x
+
+-- n digits cut, each where x is then less
+unfoldable pub lessened : ℕ → ℕ → ℕ → ℕ
+lessened zero g x = x
+lessened (suc n) g x = lessened n (g / 2) (lesser x (bitXor x g))

@@ -1,36 +1,35 @@
 -- `corrector_remainder::lower5` meets its contract.
 -- Assumes nothing.
-use mathlib.Core.Path.{refl}
 use native.Mathlib.Omega.{arith}
-use Rattle.corrector_remainder.proofs.Loops.{Lowering, lowering-start, lowering-turn, lowering-end}
+use Rattle.corrector_remainder.proofs.Loops.{Lessening, lessening-start, lessening-turn, lessening-end}
 use borrow.Author.Needs.{needs}
 use Rattle.corrector_remainder.proofs.lower5.Statement.{statement}
 use Rattle.corrector_remainder.proofs.lower5.Tie as tie
-use Rattle.corrector_remainder.proofs.cut5.Reads as cut5-reads
+use Rattle.corrector_remainder.proofs.least.Reads as least-reads
 
 abbrev Inv-loop : tie.InvT-loop
-Inv-loop x g d r₀ h₀ top₀ k₀ r h top k = Lowering 55 d h₀ r₀ r h top k
+Inv-loop x g n r₀ h₀ k₀ r h k = Lessening k₀ h₀ r₀ r h k
 
 abbrev μ-loop : tie.MeasureT-loop
-μ-loop x g d r₀ h₀ top₀ k₀ r h top k = k
+μ-loop x g n r₀ h₀ k₀ r h k = k
 
 loop-holds : tie.Need-loop-holds Inv-loop μ-loop
-loop-holds c = lowering-start 55 _ _ _ (c .pre) refl
+loop-holds c = lessening-start _ _ _
 
-cut5-requires : tie.Need-cut5-requires Inv-loop μ-loop
-cut5-requires c κs = search needs
+least-requires : tie.Need-least-requires Inv-loop μ-loop
+least-requires c κs = search needs
 
 sub-k : tie.Need-sub-k Inv-loop μ-loop
-sub-k c = omega arith
+sub-k c = search needs
 
 loop-less : tie.Need-loop-less Inv-loop μ-loop
-loop-less c = omega arith
+loop-less c = search needs
 
 loop-again : tie.Need-loop-again Inv-loop μ-loop
-loop-again c = lowering-turn (c .before .before .loop .inv) (omega arith) (c .cut5 .ensures) refl refl
+loop-again c = lessening-turn (c .before .before .loop .inv) (omega arith) (c .least .ensures)
 
 returns : tie.Need-returns Inv-loop μ-loop
-returns c = lowering-end (c .before .loop .inv) (omega arith)
+returns c = lessening-end (c .before .loop .inv) (omega arith)
 
 pub lower5-spec : {M : Type 1} → statement M
 lower5-spec =
@@ -39,7 +38,7 @@ lower5-spec =
     Inv-loop
     μ-loop
     loop-holds
-    cut5-requires
+    least-requires
     sub-k
     loop-less
     loop-again

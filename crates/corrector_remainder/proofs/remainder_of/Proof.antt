@@ -20,6 +20,9 @@ raised5-requires c κs = search needs
 mul-lower5 : tie.Need-mul-lower5
 mul-lower5 c = search needs
 
+sub-lower5 : tie.Need-sub-lower5
+sub-lower5 c = search needs
+
 lower5-requires : tie.Need-lower5-requires
 lower5-requires c κs = search needs
 
@@ -54,6 +57,7 @@ remainder-of-spec =
     rest5-requires
     raised5-requires
     mul-lower5
+    sub-lower5
     lower5-requires
     returns
     rest8-requires
