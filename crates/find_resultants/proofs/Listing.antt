@@ -36,7 +36,7 @@ use Rattle.input.specs.Limit.{limit}
 use Rattle.input.specs.Polynomials.{PolynomialIn}
 use Rattle.find_search.specs.Searching.{Searchable, SearchedOut}
 use Rattle.poly_resultants.specs.Maps.{Led}
-use Rattle.poly_resultants.specs.Levels.{Climbs, Levelled}
+use Rattle.poly_resultants.specs.Levels.{room, Climbs, Levelled}
 use Rattle.poly_resultants.specs.Chains.{Chained, chainOf, endOf}
 use Rattle.poly_resultants.proofs.Numbers.{few-roots}
 use Rattle.poly_resultants.proofs.Reaching.{chained-of}
@@ -121,17 +121,17 @@ module _ {m : ℕ} {f ls ts chain : List ℕ} {end : ℕ} {roots : List ℕ} (a 
   -- ---- the roots, listed
 
   module _ (two : 2 ≤ j) where
-    -- f, copied to a room of 33
-    pub found-copies : length (take j f) ≤ 33
+    -- f, copied to a room of its own
+    pub found-copies : length (take j f) ≤ suc limit
     found-copies = let w = t .within in let l = a .searchable .polynomial .few in omega (arith, long)
 
-    pub found-fits : {g : List ℕ} (z : List ℕ) → length z ≡ 33 → g ≡ copied (take j f) z → j ≤ length g
+    pub found-fits : {g : List ℕ} (z : List ℕ) → length z ≡ suc limit → g ≡ copied (take j f) z → j ≤ length g
     found-fits z n e = omega (arith, ap length e, length-copied (take j f) z (omega (arith, found-copies)), found-copies, long)
 
     pub found-cut : {g : List ℕ} (z : List ℕ) → g ≡ copied (take j f) z → take j g ≡ take j f
     found-cut z e = ap (take j) e ∙ copied-front (take j f) z long
 
-    pub found-asks : {g xs : List ℕ} → g ≡ take j f → 34 ≤ length xs → Climbs m ls ts chain end g xs
+    pub found-asks : {g xs : List ℕ} → g ≡ take j f → room ≤ length xs → Climbs m ls ts chain end g xs
     found-asks {g} {xs} e h = subst (λ u. Climbs m ls ts chain end u xs) (sym e) (record {
       tables = a .searchable .tables;
       steps = a .chained .steps;
@@ -157,7 +157,7 @@ module _ {m : ℕ} {f ls ts chain : List ℕ} {end : ℕ} {roots : List ℕ} (a 
         λ h. l .whole x (h .0) (eval-cut x (h .0) ∙ isRoot-is N f small x (h .0) .0 (h .1)) (a .chained .reach x (h .0)),
       )
 
-      found-few : length (take k xs) ≤ 32
+      found-few : length (take k xs) ≤ limit
       found-few =
           let n = few-roots m (a .searchable .tables .degree) (take j f) (take k xs) (take-below (2 ^ m) j f small) led (l .distinct) (l .roots) in
           let w = t .within in
@@ -171,7 +171,7 @@ module _ {m : ℕ} {f ls ts chain : List ℕ} {end : ℕ} {roots : List ℕ} (a 
       unfolding rootsOf
       found-all g = let e = merged-kept (isRoot (G m) f) (2 ^ m) g members in record { count = e .0; slots = e .1 }
 
-      pub found-small : {n : ℕ} {roots′ : List ℕ} → Merged 0 (take k xs) roots n roots′ → n ≤ 32
+      pub found-small : {n : ℕ} {roots′ : List ℕ} → Merged 0 (take k xs) roots n roots′ → n ≤ limit
       found-small g = omega (arith, merged-count g (omega arith), found-few)
 
 -- ---- one arm of the match over the degree, for all arms

@@ -15,6 +15,7 @@ use field_tables::constants::logs4;
 use field_tables::constants::logs8;
 use field_tables::constants::logs11;
 use field_tables::field_types::F11;
+use input::COEFFICIENTS;
 use poly::monic::top;
 use poly_resultants::constants::END4;
 use poly_resultants::constants::END8;
@@ -23,7 +24,6 @@ use poly_resultants::constants::chain4;
 use poly_resultants::constants::chain8;
 use poly_resultants::constants::chain11;
 use poly_resultants::levels::ROOM;
-use poly_resultants::levels::TOP;
 use poly_resultants::levels::level;
 
 // Lists every element at which f is 0 at the front of the roots, ascending. Returns how many there are.
@@ -43,7 +43,7 @@ fn find_lent(
     if j < 2 {
         return 0;
     }
-    let mut g = [0u16; TOP];
+    let mut g = [0u16; COEFFICIENTS];
     slices::copy(&f[..j], &mut g);
     let mut xs = [0u16; ROOM];
     let k = level(m, logs, antilogs, chain, end, &mut g[..j], &mut xs);

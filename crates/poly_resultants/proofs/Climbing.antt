@@ -12,9 +12,10 @@ use lib.Seq.{take-at}
 use Rattle.algebra.specs.Trial.{All}
 use Rattle.algebra.specs.Polynomial.{Below}
 use Rattle.field.specs.Field.{G}
+use Rattle.input.specs.Limit.{limit}
 use Rattle.poly.proofs.Parts.{part-rest}
 use Rattle.poly_resultants.specs.Maps.{digits, low, high, image}
-use Rattle.poly_resultants.specs.Levels.{Polynomial, Maps, Mapped, Fours, Tries, Climbs, Descends, Descended, Lifts, Levelled}
+use Rattle.poly_resultants.specs.Levels.{room, Polynomial, Maps, Mapped, Fours, Tries, Climbs, Descends, Descended, Lifts, Levelled}
 use Rattle.poly_resultants.proofs.Shapes.{length-digits, length-halves, length-odds, length-image}
 use Rattle.poly_resultants.proofs.Numbers.{digits-below, evens-below, odds-below, image-below, led-image}
 use Rattle.poly_resultants.proofs.Descending.{norm-zeros, image-few, level-up}
@@ -42,10 +43,10 @@ module _ {m : ℕ} {ls ts chain : List ℕ} {end : ℕ} {f out : List ℕ} (a : 
 
   -- ---- a map is left
 
-  pub level-low : length f - length f / 2 ≤ 17
+  pub level-low : length f - length f / 2 ≤ limit / 2 + 1
   level-low = let l = a .poly .limited in omega arith
 
-  pub level-high : length f / 2 ≤ 17
+  pub level-high : length f / 2 ≤ limit / 2 + 1
   level-high = let l = a .poly .limited in omega arith
 
   module _ (some : length chain ≢ 0) where
@@ -94,7 +95,7 @@ module _ {m : ℕ} {ls ts chain : List ℕ} {end : ℕ} {f out : List ℕ} (a : 
         led = led-image m (a .tables .degree) (getD chain 0 0) f (a .poly .small) (a .poly .least) (a .poly .led);
       })
 
-      pub level-climbs : {ys : List ℕ} → 34 ≤ length ys → Climbs m ls ts (take (length chain - 1) (drop 1 chain)) end g ys
+      pub level-climbs : {ys : List ℕ} → room ≤ length ys → Climbs m ls ts (take (length chain - 1) (drop 1 chain)) end g ys
       level-climbs h = record {
         tables = a .tables;
         steps = subst (All (λ b. (0 < b) × (b < 2 ^ m))) (sym (part-rest 1 chain)) (steps .1);

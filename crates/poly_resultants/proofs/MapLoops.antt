@@ -17,6 +17,7 @@ use Rattle.algebra.specs.Polynomial.{add, mul, Below}
 use Rattle.algebra.proofs.StaysBelow.{drop-below, below-at}
 use Rattle.slices.proofs.Filling.{Filling, fill-from, fill-on, fill-next, fill-end, map-from, map-on}
 use Rattle.field.specs.Field.{fieldAt, G, mul as times}
+use Rattle.input.specs.Limit.{limit}
 use Rattle.field.specs.Tables.{logOf}
 use Rattle.poly.specs.Lent.{Lent, LogRow, logRow, held, Addable, Loggable}
 use Rattle.poly.proofs.Parts.{part-rest, part-none}
@@ -359,7 +360,7 @@ module _ {m : ℕ} {ls ts : List ℕ} {b : ℕ} {p q g : List ℕ} (d : Digits m
   low-long : length p + length q ≡ length g
   low-long = ap₂ (λ u v. length u + length v) (d .low) (d .high) ∙ length-halves g
 
-  pub high-room : length q ≤ 16
+  pub high-room : length q ≤ limit / 2
   high-room = let l = d .limited in omega (arith, high-long)
 
   high-small : Below (2 ^ m) q

@@ -8,6 +8,7 @@ use mathlib.Core.List.{List}
 use Prim.Native.Nat.{ℕ, suc, _+_, _^_, _≤_, _<_}
 use lib.ListN.{length}
 use Rattle.algebra.specs.Polynomial.{Below}
+use Rattle.input.specs.Limit.{limit}
 use Rattle.poly.specs.Lent.{Lent, LogRow}
 use Rattle.poly_resultants.specs.Maps.{evens, odds}
 
@@ -31,4 +32,4 @@ pub record Digits (m : ℕ) (ls ts : List ℕ) (b : ℕ) (p q g : List ℕ) : Ty
   pub low : p ≡ evens g
   pub high : q ≡ odds g
   pub least : 1 < length g
-  pub limited : length g ≤ 33
+  pub limited : length g ≤ suc limit

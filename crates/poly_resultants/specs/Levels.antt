@@ -27,15 +27,16 @@ use Rattle.algebra.specs.Trial.{All, Distinct, keep, upFrom}
 use Rattle.algebra.specs.Polynomial.{eval, isRoot, Below}
 use Rattle.field.specs.Field.{fieldAt, G, mul}
 use Rattle.field.specs.Tables.{Halves}
+use Rattle.input.specs.Limit.{limit}
 use Rattle.poly.specs.Lent.{Lent}
 use Rattle.poly_resultants.specs.Maps.{quad, tower, low, high, image, Led}
 
 abbrev pub most : ℕ
-most = 32
+most = limit
 
 -- two more are written at a time
 abbrev pub room : ℕ
-room = 34
+room = most + 2
 
 -- both, or none
 pub record Solves (m b y : ℕ) (xs : List ℕ) : Type 0 where
@@ -118,11 +119,11 @@ pub record Descended (m b : ℕ) (p q ys : List ℕ) (k : ℕ) (out : List ℕ) 
   pub within : k ≤ length out
   pub lifts : Lifts m b p q ys (take k out)
 
--- a polynomial with a leading coefficient, degree 1 to 32
+-- a polynomial with a leading coefficient, of a degree from 1 to the limit
 pub record Polynomial (m : ℕ) (f : List ℕ) : Type 0 where
   pub small : Below (2 ^ m) f
   pub least : 1 < length f
-  pub limited : length f ≤ 33
+  pub limited : length f ≤ suc limit
   pub led : Led (G m) f
 
 -- a map can be made, of f, with its digits to p and q

@@ -6,15 +6,13 @@ use crate::map::convert;
 use crate::map::every_other;
 use crate::map::resultant;
 use crate::trial::tried;
+use input::LIMIT;
 
 // The most digits at even places.
-const HALF: usize = 17;
+const HALF: usize = LIMIT / 2 + 1;
 
-// The most coefficients.
-pub const TOP: usize = 33;
-
-// The room of a list of roots on the way.
-pub const ROOM: usize = 34;
+// The room of a list of roots on the way: two more are written at a time.
+pub const ROOM: usize = LIMIT + 2;
 
 // Makes of f its resultant, and writes A and B to p and q.
 fn map_once(

@@ -10,11 +10,12 @@ ghost use Rattle.poly_resultants.specs.Maps.{evens, combine, digits, res
 ghost use Rattle.poly_resultants.specs.Lending.{Factors, Products, Digits};
 use crate::elements::squared;
 use crate::elements::times;
+use input::LIMIT;
 use poly::rows::add_row;
 use poly::rows::log_row;
 
 // No polynomial has more digits at odd places.
-const HIGH: usize = 16;
+const HIGH: usize = LIMIT / 2;
 
 // Adds b times each element at an odd place to the one before it.
 fn combine(m: u16, logs: &[u16], antilogs: &[u16], b: u16, s: &mut [u16])
