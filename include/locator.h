@@ -57,10 +57,10 @@
                    have 32 bits, tools/c/narrow.c gives them as C expects there, on wasm32 through a
                    pointer as the first word.
        asked for   memcpy and memset; on 32-bit ARM the compiler's divisions of 64 bits too (libgcc).
-       stack       the most measured, in bytes (tests/c/stack.c): x86-64 33,624, aarch64 33,680;
-                   tests/machines measures the others. wasm32 has a stack of its own, 128 KB
-                   in locator.wasm. On x86-64 and aarch64 a frame probes the stack page by page, so that
-                   it cannot step over a guard page; elsewhere it does not. */
+       stack       the most measured, in bytes (tests/c/stack.c): x86-64 33,624, aarch64 33,680,
+                   armhf 33,812, cortex-m3 33,940. wasm32 has a stack of its own, 128 KB in
+                   locator.wasm. On x86-64 and aarch64 a frame probes the stack page by page, so that it
+                   cannot step over a guard page; elsewhere it does not. */
 #ifndef LOCATOR_H
 #define LOCATOR_H
 

@@ -9,7 +9,7 @@
 #   sanitized CRATE                  the same for this machine, with AddressSanitizer over the proved code
 #   archive CRATE T, shared T        liblocator.a and its like; liblocator.so, or for wasm32 locator.wasm
 #   program NAME T, front T          a program of crates/, linked with the C library of T; all of them under one name, as tools/install installs them
-#   version                          the version, from include/locator.h, the one place that has it
+#   version                          the version, from include/locator.h
 #
 # For x86-64 the archives and programs are the toolchain's own. For the others the very module that the toolchain compiles is compiled again by the same compiler
 # with the same words, but for the machine's name. What that compiler does is believed, as it is for x86-64; tests/machines tries what comes of it.
