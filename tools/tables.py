@@ -1,6 +1,6 @@
 #!/usr/bin/env python3
 """tables.py: prints the constant tables of a field, as crates/field_tables/src/halves.rt, logtables.rt and antilogs.rt hold
-them, and the powers that crates/corrector_locator/src/powers.rt holds of field 11.
+them.
 
 A new field costs a row in crates/field, these tables, and a few lines that name each (constants.rt); the prover tests every entry."""
 import sys
@@ -29,7 +29,6 @@ tables = (
     ("HALF", half, f"SIZE{m}"),
     ("LOG", log, f"SIZE{m}"),
     ("ANTILOG", antilog, f"4 * (SIZE{m} - 1)"),
-    ("POWER", power + [1], "POWERS"),
 )
 for name, entries, length in tables:
     print(f"pub const {name}{m}: [u16; {length}] = [")

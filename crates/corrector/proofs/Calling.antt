@@ -1,19 +1,19 @@
 -- What the called functions answer here: the roots of a locator polynomial, their places, and what is returned.
---   place-of                          the place of a root, by its position
 --   count-places                      as many places as roots
 --   placing, places-held                    the roots whose places are asked for; the struct that holds the places
 --   spotted-many, spotted-few, spotted-no, spotted-yes   the places of a locator polynomial, told and read
+--   spots-few, tried-spots            at most t places of a locator polynomial, held; and tried
 --   Keyed, keyed                      the register that was found
 --   located-many, located-few, located-other, places-fit   the places to flip
 -- Assumes nothing.
 use mathlib.Core.Path.{_≡_, refl, sym, ap, _∙_, subst}
 use mathlib.Core.Bool.{true, false}
 use mathlib.Core.List.{List, [], _∷_, map}
-use Prim.Native.Nat.{ℕ, zero, suc, _-_, _%_, _≤_, _<_}
+use Prim.Native.Nat.{ℕ, zero, suc, _≤_, _<_}
 use native.Mathlib.Omega.{arith}
 use lib.ListN.{length, getD, take, length-map, length-take}
 use lib.Seq.{getD-take, ext-getD}
-use Rattle.field.specs.Field.{fieldAt, position, rootsAt}
+use Rattle.field.specs.Field.{fieldAt, rootsAt}
 use Rattle.poly_small.specs.Roots.{Front}
 use Rattle.algebra.specs.Trial.{All}
 use Rattle.corrector_locator.specs.Under.{Under, PowerSums, registerOf}
@@ -21,15 +21,10 @@ use Rattle.corrector_locator.specs.declared.State.{State}
 use Rattle.corrector_locator.proofs.Fine.{Fine, register-fine}
 use Rattle.corrector_code.specs.Eleven.{F11}
 use Rattle.corrector_code.specs.Key.{register}
-use Rattle.corrector.specs.Places.{placesOf, placesIn, named, Placing, Placed, HoldsPlaces, Few8, Either, Spotted, Located, Acceptable, Agrees}
+use Rattle.corrector.specs.Places.{placesOf, placesIn, named, Placing, Placed, HoldsPlaces, Few8, Either, Spotted, Spots, Located, Acceptable, Agrees, Apart, Tried}
 use Rattle.corrector.specs.declared.Places.{Places}
-use Rattle.corrector.proofs.Marking.{roots-nonzero, places-below}
+use Rattle.corrector.proofs.Marking.{roots-nonzero, places-distinct, places-below}
 use Rattle.field_elements.specs.Calls.{positionUnder}
-
--- the place of a root, by its position
-pub place-of : (r : ℕ) {i : ℕ} → i ≡ position (fieldAt 11) r → (2047 - i) % 2047 ≡ positionUnder 1 (fieldAt 11) r
-unfolding positionUnder
-place-of r e = ap (λ (i : ℕ). (2047 - i) % 2047) e
 
 -- ---- the roots of a locator polynomial and their places
 
@@ -106,6 +101,20 @@ spotted-no js t q h e = subst (λ b. Either b (HoldsPlaces js q × (length js �
 
 pub spotted-yes : (js : List ℕ) (t : ℕ) (q : Places) → Spotted js t q → q .good ≡ true → HoldsPlaces js q × (length js ≤ t)
 spotted-yes js t q h e = subst (λ b. Either b (HoldsPlaces js q × (length js ≤ t)) (t < length js)) e h
+
+pub spots-few : (p : List ℕ) (t : ℕ) {s : ℕ} {list : List ℕ} {q : Places} → getD p 0 0 ≡ 1 → Front (rootsAt 11 p) s list
+    → s ≤ t → t ≤ 8 → Placed list s q → Spots (placesOf p) t q
+spots-few p t {q = q} first f h l d =
+    let n = count-places p first f in
+    record { held = places-held p first f q (omega arith) d; few = omega arith }
+
+pub tried-spots : (p : List ℕ) {odd : List ℕ} {t : ℕ} {q : Places} → getD p 0 0 ≡ 1 → Spots (placesOf p) t q → Agrees odd t (placesIn q)
+    → Tried odd t q
+tried-spots p {odd} {t} {q} first h a = record {
+  fits = h .held .fits;
+  apart = subst Apart (sym (h .held .places)) (record { distinct = places-distinct p first; below = places-below p first });
+  right = record { few = subst (λ (js : List ℕ). length js ≤ t) (sym (h .held .places)) (h .few); sums = a };
+}
 
 -- the register that the code found
 pub record Keyed (s : List ℕ) (t : ℕ) (l : List ℕ) : Type 0 where

@@ -1,24 +1,26 @@
--- What the code finds decides: where its places are acceptable, flipping them makes the codeword; where they are not,
--- there is none.
---   none-within        no codeword is near where the places are not acceptable
---   flipped-within     where they are, flipping them makes the codeword near;  flipped-distance  by so many flips
+-- What the code finds decides: flipping acceptable places makes the codeword, wherever they came from; where those that
+-- the register names are not acceptable, there is none.
+--   any-within         flipping acceptable places makes the codeword near;  any-distance  by so many flips
+--   none-within        no codeword is near where the places that the register names are not acceptable
+--   named-apart        these places are distinct, and in the word
 --   zero-within        a word whose values at a, a^3, .., a^(2t-1) are 0 is a codeword
 --   rest-zero-within   so one whose remainder at strength t is 0
 -- Assumes nothing.
 use mathlib.Core.Path.{_≡_, refl, sym, ap, ap₂, _∙_, subst}
-use mathlib.Core.Logic.{⊎-elim}
-use mathlib.Core.Bool.{Bool, true, false}
-use mathlib.Core.List.{List, [], _∷_, map}
+use mathlib.Core.Logic.{_↔_, ⊎-elim}
+use mathlib.Core.Bool.{Bool, true, false, cond}
+use mathlib.Core.List.{List, [], _∷_, map, List·Memᴰ, List·Memᴰ·head, List·Memᴰ·tail, List·Memᴰ·cases-cons, List·Memᴰ·not-nil}
 use Prim.Native.Nat.{ℕ, zero, suc, _+_, _-_, _*_, _^_, _≤_, _<_}
 use native.Mathlib.Nat.{pow-suc, mul-assoc as times-assoc, mul-le-mul-right}
 use native.Mathlib.Decide.{decLt}
 use native.Mathlib.Omega.{arith}
 use lib.Bits.{bitXor, xor-lt}
+use lib.Dec.{T, eqb, eqb→eq, eqb-refl}
 use lib.ListN.{length, getD, length-map}
 use lib.Pow.{pow-lt, pow-pos}
 use Rattle.algebra.specs.Field.{power}
 use Rattle.algebra.specs.Polynomial.{coef, isRoot}
-use Rattle.algebra.specs.Trial.{All, upFrom}
+use Rattle.algebra.specs.Trial.{All, Distinct, upFrom}
 use Rattle.field.specs.Field.{fieldAt, mul, inverse}
 use Rattle.field.proofs.Generator.{one-below}
 use Rattle.corrector_code.specs.Word.{difference, places, bitDistance, total, wordValue, locators}
@@ -40,7 +42,7 @@ use Rattle.corrector_syndromes.specs.Syndromes.{OddValues}
 use Rattle.corrector_syndromes.proofs.Remainders.{odd-syndromes}
 use Rattle.corrector_locator.specs.Under.{PowerSums}
 use Rattle.corrector_locator.proofs.Fine.{register-fine}
-use Rattle.corrector.specs.Places.{xorOver, placesOf, sumAt, Acceptable, named, flipAll}
+use Rattle.corrector.specs.Places.{xorOver, placesOf, sumAt, Apart, Acceptable, named, flipAll}
 use Rattle.corrector.specs.Correcting.{IsBlock, IsStrength, Within}
 use Rattle.corrector.specs.Correcting as blocks
 use Rattle.corrector.proofs.Bits.{bitsOf, bits-digits, block-below, length-digits, word-back, Flipped, flipped}
@@ -104,6 +106,42 @@ none-both [] = refl
 none-both (true ∷ w) = ap (λ l. true ∷ l) (none-both w)
 none-both (false ∷ w) = ap (λ l. false ∷ l) (none-both w)
 
+-- does x stand in a list?
+standing : List ℕ → ℕ → Bool
+standing [] x = false
+standing (y ∷ js) x = cond (eqb x y) true (standing js x)
+
+stands : (js : List ℕ) (x : ℕ) → List·Memᴰ x js → T (standing js x)
+unfolding standing
+stands [] x m = absurd (List·Memᴰ·not-nil m)
+stands (y ∷ js) x m =
+    ⊎-elim (λ e. first (eqb x y) (subst (λ (z : ℕ). T (eqb x z)) e (eqb-refl x))) (λ i. later (eqb x y) (stands js x i))
+    (List·Memᴰ·cases-cons m)
+  where
+    first : (b : Bool) → T b → T (cond b true (standing js x))
+    first true h = tt
+    first false h = absurd h
+
+    later : (b : Bool) → T (standing js x) → T (cond b true (standing js x))
+    later true h = tt
+    later false h = h
+
+stood : (js : List ℕ) (x : ℕ) → T (standing js x) → List·Memᴰ x js
+unfolding standing
+stood [] x h = absurd h
+stood (y ∷ js) x h = go (eqb x y) (λ t. eqb→eq x y t) (λ t. stood js x t) h
+  where
+    go : (b : Bool) → (T b → x ≡ y) → (T (standing js x) → List·Memᴰ x js) → T (cond b true (standing js x)) → List·Memᴰ x (y ∷ js)
+    go true e r h = List·Memᴰ·head (e tt)
+    go false e r h = List·Memᴰ·tail (r h)
+
+stands-at : (js : List ℕ) → All (λ j. j < 2047) js → (x : ℕ) → List·Memᴰ x js ↔ ((x < 2047) × T (standing js x))
+stands-at js a x = (λ m. (all-at js a m, stands js x m), λ h. stood js x (h .1))
+  where
+    all-at : (l : List ℕ) → All (λ j. j < 2047) l → List·Memᴰ x l → x < 2047
+    all-at [] a m = absurd (List·Memᴰ·not-nil m)
+    all-at (y ∷ l) a m = ⊎-elim (λ e. subst (λ (z : ℕ). z < 2047) (sym e) (a .0)) (λ i. all-at l (a .1) i) (List·Memᴰ·cases-cons m)
+
 module _ (word : List ℕ) (t : ℕ) (b : IsBlock word) (st : IsStrength t) where
   w : List Bool
   w = bitsOf word
@@ -153,6 +191,82 @@ module _ (word : List ℕ) (t : ℕ) (b : IsBlock word) (st : IsStrength t) wher
     odd-at : (k : ℕ) → k < t → getD odd k 0 ≡ wordValue F11 w (power F11 2 (suc (2 * k)))
     odd-at k h = odd-syndromes W (st .most) small r v k h ∙ ap (λ (x : List Bool). wordValue F11 x (power F11 2 (suc (2 * k)))) (sym w-digits)
 
+    -- ---- places that a test tells
+
+    module _ (js : List ℕ) (test : ℕ → Bool) (distinct : Distinct js)
+        (told : (x : ℕ) → List·Memᴰ x js ↔ ((x < 2047) × T (test x))) (below : All (λ j. j < 2047) js) where
+      f : List Bool
+      f = map test (upFrom 0 2047)
+
+      long-f : length f ≡ 2047
+      unfolding f
+      long-f = length-map (upFrom 0 2047) test ∙ length-row 0 2047
+
+      count : length (places 0 f) ≡ length js
+      unfolding f
+      count = same-length test 2047 js distinct told
+
+      sums : (g : ℕ → ℕ) → xorOver g (places 0 f) ≡ xorOver g js
+      unfolding f
+      sums g = same-xor test 2047 js distinct told g
+
+      power-sum : (i : ℕ) → total F11 (λ x. power F11 x i) (locators F11 2 f) ≡ sumAt js i
+      power-sum i = total-over (λ x. power F11 x i) (power F11 2) (places 0 f) ∙ sums (λ j. power F11 (power F11 2 j) i)
+
+      passes : Acceptable odd t js → Passes F11 2 t w f
+      passes a = (
+        (let c = count in let h = a .few in omega arith),
+        λ i l. power-sum (suc (2 * i)) ∙ a .sums i l ∙ odd-at i l,
+      )
+
+      acceptable : Passes F11 2 t w f → Acceptable odd t js
+      acceptable h = record {
+        few = (let c = count in let l = h .0 in omega arith);
+        sums = λ i l. sym (power-sum (suc (2 * i))) ∙ h .1 i l ∙ sym (odd-at i l);
+      }
+
+      after : List ℕ
+      after = flipAll js word
+
+      fl : Flipped js word after
+      unfolding after
+      fl = flipped js word below (b .long) (b .bytes)
+
+      after-small : bytesNumber after < 2 ^ 2047
+      after-small =
+          subst (λ (m : ℕ). m < 2 ^ 2047) (sym (fl .number))
+          (xor-lt 2047 W (xorOver (λ j. 2 ^ j) js) small (xor-below js below))
+
+      bits-after : bitsOf after ≡ difference w f
+      bits-after =
+          bits-digits after (fl .bytes-fit) ∙ ap (digits 2047) (fl .number) ∙ digits-xor 2047 W (xorOver (λ j. 2 ^ j) js)
+          ∙ ap₂ difference (sym w-digits) (ap (digits 2047) (sym (sums (λ j. 2 ^ j))) ∙ word-back f long-f)
+
+      flips-within : Acceptable odd t js → Within t word (flipAll js word)
+      unfolding w after
+      flips-within a =
+          within-block (make-block (fl .long) (fl .bytes-fit) (last-below after (fl .long) after-small))
+          (subst (Near t w) (sym bits-after) (passes-within (fieldAt 11) gen11 t w f (long-f ∙ sym long-w) (passes a)))
+
+      flips-distance : length js ≡ blocks.distance word (flipAll js word)
+      unfolding w after
+      flips-distance = sym
+          (distance-bits word after ∙ ap (bitDistance w) bits-after
+          ∙ ap (λ (x : List Bool). length (places 0 x)) (difference-difference w f (long-f ∙ sym long-w)) ∙ count)
+
+    -- ---- any places
+
+    module _ (js : List ℕ) (a : Apart js) where
+      -- FLIPPING ACCEPTABLE PLACES MAKES THE CODEWORD
+      pub any-within : Acceptable odd t js → Within t word (flipAll js word)
+      any-within = flips-within js (standing js) (a .distinct) (stands-at js (a .below)) (a .below)
+
+      -- by so many flips
+      pub any-distance : length js ≡ blocks.distance word (flipAll js word)
+      any-distance = flips-distance js (standing js) (a .distinct) (stands-at js (a .below)) (a .below)
+
+    -- ---- the places that the register names
+
     module _ (s : List ℕ) (ps : PowerSums odd s) where
       sum-at : (f k : ℕ) → k ≤ f → 0 < k → k ≤ 2 * t → getD s k 0 ≡ wordValue F11 w (power F11 2 k)
       sum-at zero k l p q = absurd (omega arith)
@@ -185,88 +299,30 @@ module _ (word : List ℕ) (t : ℕ) (b : IsBlock word) (st : IsStrength t) wher
       unfolding p
       first = register-fine (λ j. getD s j 0) t .first
 
-      js : List ℕ
-      js = named s t
-
-      js-is : js ≡ placesOf p
-      unfolding js p named
-      js-is = refl
+      named-is : placesOf p ≡ named s t
+      unfolding p named
+      named-is = refl
 
       test : ℕ → Bool
       test j = isRoot F11 p (inverse (fieldAt 11) (power F11 2 j))
 
-      f : List Bool
-      f = map test (upFrom 0 2047)
+      marked-is : map test (upFrom 0 2047) ≡ flips F11 2 t w
+      unfolding test flips markedAt
+      marked-is = ap₂ (λ (q : List ℕ) (m : ℕ). map (λ j. isRoot F11 q (inverse (fieldAt 11) (power F11 2 j))) (upFrom 0 m)) p-is (sym long-w)
 
-      f-is : f ≡ flips F11 2 t w
-      unfolding f test flips markedAt
-      f-is = ap₂ (λ (q : List ℕ) (m : ℕ). map (λ j. isRoot F11 q (inverse (fieldAt 11) (power F11 2 j))) (upFrom 0 m)) p-is (sym long-w)
-
-      long-f : length f ≡ 2047
-      unfolding f
-      long-f = length-map (upFrom 0 2047) test ∙ length-row 0 2047
-
-      count : length (places 0 f) ≡ length js
-      unfolding f test
-      count = same-length test 2047 (placesOf p) (places-distinct p first) (places-member p first) ∙ ap length (sym js-is)
-
-      sums : (g : ℕ → ℕ) → xorOver g (places 0 f) ≡ xorOver g js
-      unfolding f test
-      sums g = same-xor test 2047 (placesOf p) (places-distinct p first) (places-member p first) g ∙ ap (xorOver g) (sym js-is)
-
-      power-sum : (i : ℕ) → total F11 (λ x. power F11 x i) (locators F11 2 f) ≡ sumAt js i
-      power-sum i = total-over (λ x. power F11 x i) (power F11 2) (places 0 f) ∙ sums (λ j. power F11 (power F11 2 j) i)
-
-      passes : Acceptable odd t js → Passes F11 2 t w f
-      passes a = (
-        (let c = count in let h = a .few in omega arith),
-        λ i l. power-sum (suc (2 * i)) ∙ a .sums i l ∙ odd-at i l,
-      )
-
-      acceptable : Passes F11 2 t w f → Acceptable odd t js
-      acceptable h = record {
-        few = (let c = count in let l = h .0 in omega arith);
-        sums = λ i l. sym (power-sum (suc (2 * i))) ∙ h .1 i l ∙ sym (odd-at i l);
-      }
+      told : (x : ℕ) → List·Memᴰ x (placesOf p) ↔ ((x < 2047) × T (test x))
+      unfolding test
+      told = places-member p first
 
       -- THERE IS NONE WHERE THE PLACES ARE NOT ACCEPTABLE
       pub none-within : (Acceptable odd t (named s t) → ⊥) → (v : List ℕ) → Within t word v → ⊥
-      unfolding js w
+      unfolding w f
       none-within never v h =
           let some : (x : List Bool) × Near t w x = (bitsOf v, within-bits h) in
-          let p = passes-exactly (fieldAt 11) gen11 t w (st .most) (let l = long-w in omega arith) .1 some in
-          never (acceptable (subst (Passes F11 2 t w) (sym f-is) p))
+          let q = passes-exactly (fieldAt 11) gen11 t w (st .most) (let l = long-w in omega arith) .1 some in
+          never (subst (Acceptable odd t) named-is
+          (acceptable (placesOf p) test (places-distinct p first) told (places-below p first) (subst (Passes F11 2 t w) (sym marked-is) q)))
 
-      after : List ℕ
-      after = flipAll js word
-
-      below : All (λ j. j < 2047) js
-      below = subst (All (λ j. j < 2047)) (sym js-is) (places-below p first)
-
-      fl : Flipped js word after
-      unfolding after
-      fl = flipped js word below (b .long) (b .bytes)
-
-      after-small : bytesNumber after < 2 ^ 2047
-      after-small =
-          subst (λ (m : ℕ). m < 2 ^ 2047) (sym (fl .number))
-          (xor-lt 2047 W (xorOver (λ j. 2 ^ j) js) small (xor-below js below))
-
-      bits-after : bitsOf after ≡ difference w f
-      bits-after =
-          bits-digits after (fl .bytes-fit) ∙ ap (digits 2047) (fl .number) ∙ digits-xor 2047 W (xorOver (λ j. 2 ^ j) js)
-          ∙ ap₂ difference (sym w-digits) (ap (digits 2047) (sym (sums (λ j. 2 ^ j))) ∙ word-back f long-f)
-
-      -- WHERE THEY ARE, FLIPPING THEM MAKES THE CODEWORD
-      pub flipped-within : Acceptable odd t (named s t) → Within t word (flipAll (named s t) word)
-      unfolding js w after
-      flipped-within a =
-          within-block (make-block (fl .long) (fl .bytes-fit) (last-below after (fl .long) after-small))
-          (subst (Near t w) (sym bits-after) (passes-within (fieldAt 11) gen11 t w f (long-f ∙ sym long-w) (passes a)))
-
-      -- by so many flips
-      pub flipped-distance : length (named s t) ≡ blocks.distance word (flipAll (named s t) word)
-      unfolding js w after
-      flipped-distance = sym
-          (distance-bits word after ∙ ap (bitDistance w) bits-after
-          ∙ ap (λ (x : List Bool). length (places 0 x)) (difference-difference w f (long-f ∙ sym long-w)) ∙ count)
+      -- the places that the register names stand apart
+      pub named-apart : Apart (named s t)
+      named-apart = subst Apart named-is (record { distinct = places-distinct p first; below = places-below p first })

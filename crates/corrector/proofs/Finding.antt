@@ -1,5 +1,5 @@
 -- The roots of a locator polynomial, whichever engine finds them.
---   leading       it can be given to the direct engine;  findable  and to the trace engine
+--   leading       it can be given to the direct engine, and so one that was guessed (guess-leading);  findable  to any
 --   front-copied  a list that the roots were copied to has them in front;  front-listed  so what was found directly
 -- Assumes nothing.
 use mathlib.Core.Path.{_≡_, sym, ap, _∙_}
@@ -18,6 +18,7 @@ use Rattle.poly.specs.Monic.{TopIs}
 use Rattle.poly_small.specs.Roots.{Front}
 use Rattle.input.specs.Limit.{limit}
 use Rattle.find_direct.specs.Listing.{Listed, Leading}
+use Rattle.corrector_few.specs.Locators.{LowLocator}
 use Rattle.corrector_locator.specs.Under.{Under}
 use Rattle.corrector.specs.Places.{Findable}
 
@@ -47,3 +48,12 @@ findable p list u first long room = record {
   polynomial = record { field = row11 .degree; some = omega arith; few = omega arith; small = below-from 2048 p (λ i l. u i); nonzero = not-zeros p first };
   room = omega arith;
 }
+
+-- one that was guessed
+pub guess-leading : {p : List ℕ} {n : ℕ} → LowLocator p → TopIs p n → Leading n p
+guess-leading {p} l t =
+    let long = l .long in
+    record {
+      polynomial = record { field = row11 .degree; some = omega arith; few = omega arith; small = l .small; nonzero = not-zeros p (l .first) };
+      top = t;
+    }

@@ -4,6 +4,7 @@
 --   located-yes, located-no  good places, and none
 --   rest-88                  a remainder at a strength has at most 88 digits
 --   clean                    nothing to flip where the remainder is 0
+--   tried-flipped            places that were tried, flipped
 --   flipped, far-refused     the places flipped;  no codeword near
 -- Assumes nothing.
 use mathlib.Core.Path.{_≡_, refl, sym, ap, ap₂, _∙_, subst}
@@ -15,6 +16,7 @@ use native.Mathlib.Decide.{decLt}
 use native.Mathlib.Omega.{arith}
 use lib.ListN.{length, getD}
 use lib.Pow.{pow-mono}
+use lib.Seq.{length-take-le}
 use Rattle.field.specs.Field.{fieldAt}
 use Rattle.field.proofs.Generator.{one-below}
 use Rattle.corrector_code.specs.Digits.{bytesNumber}
@@ -25,12 +27,12 @@ use Rattle.corrector_remainder.specs.Remainder.{restOf, RestAt}
 use Rattle.corrector_remainder.specs.declared.Rest.{Rest}
 use Rattle.corrector_syndromes.specs.Syndromes.{OddValues}
 use Rattle.corrector_locator.specs.Under.{Under, PowerSums}
-use Rattle.corrector.specs.Places.{named, placesIn, flipAll, HoldsPlaces, Acceptable, Either, Located, Tells}
+use Rattle.corrector.specs.Places.{named, placesIn, flipAll, HoldsPlaces, Apart, Acceptable, Tried, Either, Located, Tells}
 use Rattle.corrector.specs.Correcting.{distance, IsBlock, IsStrength, Within, Corrects}
 use Rattle.corrector.specs.Correcting.Corrects.{none-near, mended}
 use Rattle.corrector.specs.declared.Places.{Places}
 use Rattle.corrector.proofs.Blocks.{distance-self}
-use Rattle.corrector.proofs.Deciding.{none-within, flipped-within, flipped-distance, rest-zero-within}
+use Rattle.corrector.proofs.Deciding.{none-within, any-within, any-distance, named-apart, rest-zero-within}
 
 pub tells-yes : (A : Type 0) (b : Bool) → Tells A b → b ≡ true → A
 tells-yes A b h e = subst (Tells A) e h
@@ -76,19 +78,29 @@ module _ (word : List ℕ) (t : ℕ) (b : IsBlock word) (st : IsStrength t) wher
       mended-by 0 word (rest-zero-within word t b st (subst (RestAt t (bytesNumber word)) z e))
       (sym (distance-self word))
 
-  module _ {n : ℕ} {odd : List ℕ} (e : RestAt t (bytesNumber word) n) (v : OddValues n odd) (p : Places)
-      (l : Located odd t p) where
-    -- good places, flipped
-    pub flipped : (after : List ℕ) → p .good ≡ true → after ≡ flipAll (placesIn p) word → Corrects t word (0, p .n ∷ []) after
-    flipped after g f =
-        let h = located-yes odd t p l g in
-        let js : List ℕ = named (h .0) t in
-        let a : after ≡ flipAll js word = f ∙ ap (λ (x : List ℕ). flipAll x word) (h .2 .places) in
-        let near : Within t word after = subst (Within t word) (sym a) (flipped-within word t b st e v (h .0) (h .1) (h .3)) in
-        mended-by (p .n) after near (h .2 .count ∙ flipped-distance word t b st e v (h .0) (h .1) ∙ ap (distance word) (sym a))
+  module _ {n : ℕ} {odd : List ℕ} (e : RestAt t (bytesNumber word) n) (v : OddValues n odd) (p : Places) where
+    -- places that are right, flipped
+    right-flipped : (js after : List ℕ) → p .n ≡ length js → placesIn p ≡ js → Apart js → Acceptable odd t js
+        → after ≡ flipAll (placesIn p) word → Corrects t word (0, p .n ∷ []) after
+    right-flipped js after c h a r f =
+        let g : after ≡ flipAll js word = f ∙ ap (λ (x : List ℕ). flipAll x word) h in
+        mended-by (p .n) after (subst (Within t word) (sym g) (any-within word t b st e v js a r))
+        (c ∙ any-distance word t b st e v js a ∙ ap (distance word) (sym g))
 
-    -- none near
-    pub far-refused : p .good ≡ false → Corrects t word (24, []) word
-    far-refused g =
-        let h = located-no odd t p l g in
-        none-near b st (none-within word t b st e v (h .0) (h .1) (h .2))
+    -- places that were tried
+    pub tried-flipped : Tried odd t p → (after : List ℕ) → after ≡ flipAll (placesIn p) word → Corrects t word (0, p .n ∷ []) after
+    tried-flipped h after =
+        right-flipped (placesIn p) after (sym (length-take-le (p .n) (p .at) (let l = h .fits .few in let m = h .fits .long in omega arith))) refl (h .apart) (h .right)
+
+    module _ (l : Located odd t p) where
+      -- good places, flipped
+      pub flipped : (after : List ℕ) → p .good ≡ true → after ≡ flipAll (placesIn p) word → Corrects t word (0, p .n ∷ []) after
+      flipped after g =
+          let h = located-yes odd t p l g in
+          right-flipped (named (h .0) t) after (h .2 .count) (h .2 .places) (named-apart word t b st e v (h .0) (h .1)) (h .3)
+
+      -- none near
+      pub far-refused : p .good ≡ false → Corrects t word (24, []) word
+      far-refused g =
+          let h = located-no odd t p l g in
+          none-near b st (none-within word t b st e v (h .0) (h .1) (h .2))

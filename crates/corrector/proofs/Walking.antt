@@ -1,5 +1,5 @@
 -- The loops over places: what is summed, what is flipped, and what is stored.
---   power-at, product-small                                            the table at (j k) mod 2047, and that the
+--   antilog-at, product-small                                          the antilog at j k, folded, and that the
 --       product fits
 --   SummingPlaces, sum-places-from, sum-places-on, sum-places-end      the loop of a power sum
 --   Flipping, flip-from, flip-on, flip-end                             the loop of the flips
@@ -21,12 +21,13 @@ use lib.Seq.{take-suc, getD-set-same, getD-set-other, getD-take, ext-getD, take-
 use Rattle.algebra.specs.Field.{power}
 use Rattle.algebra.specs.Trial.{All}
 use Rattle.field.specs.Field.{fieldAt, mul}
+use Rattle.field.specs.Tables.{antilogOf}
 use Rattle.field.proofs.Xor.{xor-assoc}
 use Rattle.field.proofs.Ring.{ring, RingLaws, power-add, power-of-power, power-lt}
 use Rattle.field.proofs.Generator.{one-below, power-order}
+use Rattle.field.proofs.Logarithms.{antilog-even}
 use Rattle.field_elements.specs.Calls.{positionUnder}
 use Rattle.corrector_code.specs.Eleven.{F11}
-use Rattle.corrector_locator.specs.Under.{Powers}
 use Rattle.corrector_code.proofs.Eleven.{gen11}
 use Rattle.corrector.specs.Places.{xorOver, sumAt, flipAll, placesIn, Placing, Placed, Few8, Agrees}
 use Rattle.corrector.specs.declared.Places.{Places}
@@ -42,17 +43,24 @@ power-cycle (suc q) r =
     ∙ ap₂ (mul (fieldAt 11)) (power-order (fieldAt 11) gen11) (power-cycle q r)
     ∙ mul-one-l (power F11 2 r) (power-lt (fieldAt 11) (gen11 .monic) (one-below (fieldAt 11) gen11) 2 r)
 
--- the table at (j k) mod 2047
-pub power-at : {powers : List ℕ} → Powers powers → (j k : ℕ) → getD powers (j * k % 2047) 0 ≡ power F11 (power F11 2 j) k
-power-at A j k =
+-- a^(j k), with the exponent folded
+folded : (j k : ℕ) → power F11 2 (j * k % 2048 + j * k / 2048) ≡ power F11 (power F11 2 j) k
+folded j k =
     let m : ℕ = j * k in
-    A .entry (m % 2047) (omega arith) ∙ sym (power-cycle (m / 2047) (m % 2047)) ∙ ap (power F11 2) (let e : 2047 * (m / 2047) + m % 2047 ≡ m = omega arith in e)
+    sym (power-cycle (m / 2048) (m % 2048 + m / 2048))
+    ∙ ap (power F11 2) (let e : 2047 * (m / 2048) + (m % 2048 + m / 2048) ≡ m = omega arith in e)
     ∙ power-of-power (fieldAt 11) (gen11 .monic) (one-below (fieldAt 11) gen11) 2 j k
 
-pub product-small : (a k : ℕ) → a < 2047 → k < 100 → a * k < 4294967296
+pub product-small : (a k : ℕ) → a < 2047 → k < 100 → a * k < 204700
 product-small a k h l =
     let x : a * k ≤ 2047 * k = mul-le-mul-right k (let g : a ≤ 2047 = omega arith in g) in
     omega arith
+
+-- the antilog at twice that
+pub antilog-at : (j k : ℕ) {e v : ℕ} → e ≡ j * k % 2048 + j * k / 2048 → v ≡ antilogOf (fieldAt 11) (2 * e)
+    → v ≡ power F11 (power F11 2 j) k
+antilog-at j k h r =
+    r ∙ ap (λ (x : ℕ). antilogOf (fieldAt 11) (2 * x)) h ∙ antilog-even (fieldAt 11) (j * k % 2048 + j * k / 2048) ∙ folded j k
 
 -- ---- sums
 

@@ -5,6 +5,7 @@
 --   sumAt js i                 the sum of a^(ij) over the places j
 --   Acceptable odd t js        at most t places, whose first t odd power sums are the odd syndromes;  Agrees  only
 --                              that
+--   Apart js                   distinct places of a word
 --   named s t                  the places that the register names after t turns on the power sums s
 --   placesIn p                 the places that a struct holds
 --   flipAll js bytes           the bytes, with bit j flipped for each place j
@@ -12,6 +13,8 @@
 --   Placing, Placed            roots whose places are asked for, and their places
 --   Few8 p, HoldsPlaces js p   a struct holds at most eight places of a word; it holds these
 --   Either, Tells              one of two by a test; what a test's answer says
+--   Tried odd t p              a struct holds distinct places that are acceptable
+--   Spots js t p               a struct holds these places, at most t
 --   Spotted, Located           the places of a locator polynomial, and those to flip, unless they are too many or
 --                              disagree
 -- Assumes nothing.
@@ -22,6 +25,7 @@ use Prim.Native.Nat.{ℕ, suc, _*_, _/_, _%_, _^_, _≤_, _<_}
 use lib.Bits.{bitXor}
 use lib.ListN.{length, getD, set, take}
 use Rattle.algebra.specs.Field.{power}
+use Rattle.algebra.specs.Trial.{All, Distinct}
 use Rattle.field.specs.Field.{fieldAt, rootsAt}
 use Rattle.field_elements.specs.Calls.{positionUnder}
 use Rattle.input.specs.Limit.{limit}
@@ -48,6 +52,11 @@ sumAt js i = xorOver (λ j. power F11 (power F11 2 j) i) js
 pub record Acceptable (odd : List ℕ) (t : ℕ) (js : List ℕ) : Type 0 where
   pub few : length js ≤ t
   pub sums : (i : ℕ) → i < t → sumAt js (suc (2 * i)) ≡ getD odd i 0
+
+-- distinct places of a word
+pub record Apart (js : List ℕ) : Type 0 where
+  pub distinct : Distinct js
+  pub below : All (λ j. j < 2047) js
 
 -- what the register names
 unfoldable pub named : List ℕ → ℕ → List ℕ
@@ -105,11 +114,22 @@ Either false A B = B
 abbrev pub Spotted : List ℕ → ℕ → Places → Type 0
 Spotted js t p = Either (p .good) (HoldsPlaces js p × (length js ≤ t)) (t < length js)
 
+-- these places, at most t
+pub record Spots (js : List ℕ) (t : ℕ) (p : Places) : Type 0 where
+  pub held : HoldsPlaces js p
+  pub few : length js ≤ t
+
 -- the places to flip for these odd syndromes, unless they are not acceptable
 abbrev pub Located : List ℕ → ℕ → Places → Type 0
 Located odd t p =
     (s : List ℕ) × PowerSums odd s
     × Either (p .good) (HoldsPlaces (named s t) p × Acceptable odd t (named s t)) (Acceptable odd t (named s t) → ⊥)
+
+-- places that were tried: they are those to flip
+pub record Tried (odd : List ℕ) (t : ℕ) (p : Places) : Type 0 where
+  pub fits : Few8 p
+  pub apart : Apart (placesIn p)
+  pub right : Acceptable odd t (placesIn p)
 
 -- a test's answer
 abbrev pub Tells : Type 0 → Bool → Type 0

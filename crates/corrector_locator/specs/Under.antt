@@ -1,7 +1,7 @@
 -- What the key equation's code takes and gives, in field 11.
 -- Laws and inner contracts alone cite it: what the corrector promises does not rest on it.
 --   Under           each number of a list is an element
---   Powers          a list is the table of powers: a^j at j, up to the order;  Tables  the log table, and it
+--   Tables          the tables of the products: logs and antilogs
 --   registerOf      the register that a state holds;  Sound  a state of elements, early enough for two more
 --   PowerSums       1, the odd power sums in their places, and even ones as squares
 -- Assumes nothing.
@@ -9,9 +9,8 @@ use mathlib.Core.Path.{_≡_}
 use mathlib.Core.List.{List}
 use Prim.Native.Nat.{ℕ, suc, _*_, _<_}
 use lib.ListN.{getD, length}
-use Rattle.algebra.specs.Field.{power}
 use Rattle.field.specs.Field.{fieldAt, mul}
-use Rattle.field.specs.Tables.{Logs}
+use Rattle.field.specs.Tables.{Logs, Antilogs}
 use Rattle.corrector_code.specs.Eleven.{F11}
 use Rattle.corrector_code.specs.Key.{Register}
 use Rattle.corrector_locator.specs.declared.State.{State}
@@ -20,15 +19,10 @@ use Rattle.corrector_locator.specs.declared.State.{State}
 abbrev pub Under : List ℕ → Type 0
 Under p = (k : ℕ) → getD p k 0 < 2048
 
--- the powers of 2, up to the order
-pub record Powers (powers : List ℕ) : Type 0 where
-  pub entries : length powers ≡ 2048
-  pub entry : (j : ℕ) → j < 2048 → getD powers j 0 ≡ power F11 2 j
-
 -- the tables of the products
-pub record Tables (ls ps : List ℕ) : Type 0 where
+pub record Tables (ls ts : List ℕ) : Type 0 where
   pub logs : Logs (fieldAt 11) ls
-  pub powers : Powers ps
+  pub antilogs : Antilogs (fieldAt 11) ts
 
 -- the register that a state holds
 abbrev pub registerOf : State → Register ℕ

@@ -1,17 +1,20 @@
 -- What the position call knows where it is let in, and that what it answers is the outcome.
 --   ExponentKnown, exponent-known     the exponent that it computes with
 --   goppa-outcome, recorder-outcome   what it answers under each convention
+--   half-log-place                    the position under the recorders' convention, by half the log
 -- Assumes nothing.
 use mathlib.Core.Path.{_≡_, sym, ap, ap₂, _∙_}
 use mathlib.Core.List.{[], _∷_}
-use Prim.Native.Nat.{ℕ, _-_, _%_, _^_, _<_}
+use Prim.Native.Nat.{ℕ, _-_, _/_, _%_, _^_, _<_}
 use native.Mathlib.Omega.{arith}
 use Rattle.refusals.specs.Order.{Passed}
 use Rattle.refusals.proofs.Order.{accepted}
 use Rattle.field.specs.Field.{fieldAt, position}
+use Rattle.field.specs.Tables.{logOf}
 use Rattle.field.proofs.Known.{listed}
 use Rattle.field.proofs.Generator.{generated, position-is}
-use Rattle.field_elements.specs.Calls.{positionTests, positionOutcome}
+use Rattle.field.proofs.Logarithms.{log-half}
+use Rattle.field_elements.specs.Calls.{positionTests, positionUnder, positionOutcome}
 use Rattle.field_elements.proofs.Admitting.{place-told}
 use Rattle.field_elements.proofs.Mirror.{goppa, recorder}
 
@@ -36,3 +39,8 @@ pub recorder-outcome : {m r v j n : ℕ} → ExponentKnown m r v j → n ≡ 2 ^
 recorder-outcome {m} {r} {v} p e h =
     let mirrored = ap₂ (λ (n k : ℕ). (n - 1 - k) % (n - 1)) e (p .exponent) in
     ap (λ (n : ℕ). (0, n ∷ [])) (mirrored ∙ sym (recorder (fieldAt m) r v h)) ∙ sym (accepted _ (p .passed))
+
+-- in field 11, by half the log
+pub half-log-place : (r : ℕ) {l : ℕ} → 0 < r → l ≡ logOf (fieldAt 11) r → (2047 - l / 2) % 2047 ≡ positionUnder 1 (fieldAt 11) r
+unfolding positionUnder
+half-log-place r p e = ap (λ (i : ℕ). (2047 - i) % 2047) (ap (λ (l : ℕ). l / 2) e ∙ log-half (fieldAt 11) r p)

@@ -14,6 +14,8 @@ use refusals::Admission;
 use refusals::Refusal;
 use refusals::also;
 
+pub mod places; // positions of field 11 without a table
+
 // An element of a field by its number, or a number that may be none.
 pub type Element = u16;
 

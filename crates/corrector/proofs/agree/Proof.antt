@@ -12,10 +12,10 @@ use Rattle.corrector.proofs.agree.Tie as tie
 use Rattle.corrector.proofs.power_sum.Reads as power-sum-reads
 
 abbrev Inv-loop : tie.InvT-loop
-Inv-loop powers p t odd i₀ i = (i ≤ t) × (length odd ≡ 8) × Agrees odd i (placesIn p)
+Inv-loop antilogs p t odd i₀ i = (i ≤ t) × (length odd ≡ 8) × Agrees odd i (placesIn p)
 
 abbrev μ-loop : tie.MeasureT-loop
-μ-loop powers p t odd i₀ i = t - i
+μ-loop antilogs p t odd i₀ i = t - i
 
 loop-holds : tie.Need-loop-holds Inv-loop μ-loop
 loop-holds c = (omega arith, omega arith, λ k h. absurd (omega arith))

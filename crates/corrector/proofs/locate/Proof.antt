@@ -11,14 +11,14 @@ use Rattle.corrector.proofs.nowhere.Reads as nowhere-reads
 use Rattle.corrector.proofs.spots_of.Reads as spots-of-reads
 use Rattle.corrector_locator.proofs.all_sums.Reads as all-sums-reads
 use Rattle.corrector_locator.proofs.key.Reads as key-reads
-use Rattle.corrector_locator.proofs.powers11.Reads as powers11-reads
+use Rattle.field_tables.proofs.constants.antilogs11.Reads as antilogs11-reads
 use Rattle.field_tables.proofs.constants.logs11.Reads as logs11-reads
 
 logs11-requires : tie.Need-logs11-requires
 logs11-requires c κs = search needs
 
-powers11-requires : tie.Need-powers11-requires
-powers11-requires c κs = search needs
+antilogs11-requires : tie.Need-antilogs11-requires
+antilogs11-requires c κs = search needs
 
 slice-aggregate-all-sums : tie.Need-slice-aggregate-all-sums
 slice-aggregate-all-sums c = search needs
@@ -27,7 +27,7 @@ slice-aggregate-all-sums-2 : tie.Need-slice-aggregate-all-sums-2
 slice-aggregate-all-sums-2 c = search needs
 
 all-sums-requires : tie.Need-all-sums-requires
-all-sums-requires c κs = (record { logs = c .before .before .before .logs11 .ensures; powers = c .before .before .powers11 .ensures }, c .before .before .before .before .pre .0)
+all-sums-requires c κs = (record { logs = c .before .before .before .logs11 .ensures; antilogs = c .before .before .antilogs11 .ensures }, c .before .before .before .before .pre .0)
 
 slice-aggregate-key : tie.Need-slice-aggregate-key
 slice-aggregate-key c = search needs
@@ -42,34 +42,37 @@ key-requires : tie.Need-key-requires
 key-requires c κs =
     let a = c .before .before .before .before .before .before .before .before in
     let v = c .before .before .before .all-sums .ensures in
-    (record { logs = c .before .before .before .before .before .before .before .logs11 .ensures; powers = c .before .before .before .before .before .before .powers11 .ensures }, v .below, (let t = a .pre .1 in let l = v .long in omega arith), (let t = a .pre .1 in omega arith))
+    (record { logs = c .before .before .before .before .before .before .before .logs11 .ensures; antilogs = c .before .before .before .before .before .before .antilogs11 .ensures }, v .below, (let t = a .pre .1 in let l = v .long in omega arith), (let t = a .pre .1 in omega arith))
 
 slice-aggregate-spots-of : tie.Need-slice-aggregate-spots-of
 slice-aggregate-spots-of c = search needs
 
+slice-aggregate-spots-of-2 : tie.Need-slice-aggregate-spots-of-2
+slice-aggregate-spots-of-2 c = search needs
+
 spots-of-requires : tie.Need-spots-of-requires
 spots-of-requires c κs =
-    let a = c .before .before .before .before .before .before .before .before .before .before .before in
-    let g = c .before .before .key in
-    let k = keyed (c .before .before .before .before .before .before .all-sums .result) (a .args .t) (g .result) (g .ensures) in
-    (c .before .before .before .before .before .before .before .before .before .before .logs11 .ensures, k .below, k .first, a .pre .1)
+    let a = c .before .before .before .before .before .before .before .before .before .before .before .before in
+    let g = c .before .before .before .key in
+    let k = keyed (c .before .before .before .before .before .before .before .all-sums .result) (a .args .t) (g .result) (g .ensures) in
+    (record { logs = c .before .before .before .before .before .before .before .before .before .before .before .logs11 .ensures; antilogs = c .before .before .before .before .before .before .before .before .before .before .antilogs11 .ensures }, k .below, k .first, a .pre .1)
 
 slice-aggregate-agree : tie.Need-slice-aggregate-agree
 slice-aggregate-agree c = search needs
 
 agree-requires : tie.Need-agree-requires
 agree-requires c κs =
-    let a = c .before .before .before .before .before .before .before .before .before .before .before .before .before .before in
-    let v = c .before .before .before .before .before .before .before .before .before .all-sums in
-    let g = c .before .before .before .before .before .key in
+    let a = c .before .before .before .before .before .before .before .before .before .before .before .before .before .before .before in
+    let v = c .before .before .before .before .before .before .before .before .before .before .all-sums in
+    let g = c .before .before .before .before .before .before .key in
     let p = c .before .before .spots-of in
-    (c .before .before .before .before .before .before .before .before .before .before .before .before .powers11 .ensures, places-fit (a .args .odd) (v .result) (a .args .t) (v .ensures) (g .result .locator) (keyed (v .result) (a .args .t) (g .result) (g .ensures)) (p .result) (p .ensures) (c .before .if1 .taken), a .pre .1)
+    (c .before .before .before .before .before .before .before .before .before .before .before .before .before .antilogs11 .ensures, places-fit (a .args .odd) (v .result) (a .args .t) (v .ensures) (g .result .locator) (keyed (v .result) (a .args .t) (g .result) (g .ensures)) (p .result) (p .ensures) (c .before .if1 .taken), a .pre .1)
 
 returns : tie.Need-returns
 returns c =
-    let a = c .before .before .before .before .before .before .before .before .before .before .before .before .before .before .before .before in
-    let v = c .before .before .before .before .before .before .before .before .before .before .before .all-sums in
-    let g = c .before .before .before .before .before .before .before .key in
+    let a = c .before .before .before .before .before .before .before .before .before .before .before .before .before .before .before .before .before in
+    let v = c .before .before .before .before .before .before .before .before .before .before .before .before .all-sums in
+    let g = c .before .before .before .before .before .before .before .before .key in
     let p = c .before .before .before .before .spots-of in
     located-few (a .args .odd) (v .result) (a .args .t) (v .ensures) (g .result .locator) (keyed (v .result) (a .args .t) (g .result) (g .ensures)) (p .result) (p .ensures) (c .before .before .before .if1 .taken) (tells-yes _ _ (c .before .agree .ensures) (c .if2 .taken))
 
@@ -78,9 +81,9 @@ nowhere-requires c κs = search needs
 
 returns-2 : tie.Need-returns-2
 returns-2 c =
-    let a = c .before .before .before .before .before .before .before .before .before .before .before .before .before .before .before .before .before in
-    let v = c .before .before .before .before .before .before .before .before .before .before .before .before .all-sums in
-    let g = c .before .before .before .before .before .before .before .before .key in
+    let a = c .before .before .before .before .before .before .before .before .before .before .before .before .before .before .before .before .before .before in
+    let v = c .before .before .before .before .before .before .before .before .before .before .before .before .before .all-sums in
+    let g = c .before .before .before .before .before .before .before .before .before .key in
     let p = c .before .before .before .before .before .spots-of in
     located-other (a .args .odd) (v .result) (a .args .t) (v .ensures) (g .result .locator) (keyed (v .result) (a .args .t) (g .result) (g .ensures)) (p .result) (p .ensures) _ (c .nowhere .ensures) (c .before .before .before .before .if1 .taken) (tells-no _ _ (c .before .before .agree .ensures) (c .before .if2 .left))
 
@@ -89,9 +92,9 @@ nowhere-requires-2 c κs = search needs
 
 returns-3 : tie.Need-returns-3
 returns-3 c =
-    let a = c .before .before .before .before .before .before .before .before .before .before .before .before .before .before in
-    let v = c .before .before .before .before .before .before .before .before .before .all-sums in
-    let g = c .before .before .before .before .before .key in
+    let a = c .before .before .before .before .before .before .before .before .before .before .before .before .before .before .before in
+    let v = c .before .before .before .before .before .before .before .before .before .before .all-sums in
+    let g = c .before .before .before .before .before .before .key in
     let p = c .before .before .spots-of in
     located-many (a .args .odd) (v .result) (a .args .t) (v .ensures) (g .result .locator) (keyed (v .result) (a .args .t) (g .result) (g .ensures)) (p .result) (p .ensures) _ (c .nowhere2 .ensures) (c .before .if1 .left)
 
@@ -100,7 +103,7 @@ locate-spec =
     tie.close
     (tie.spec
     logs11-requires
-    powers11-requires
+    antilogs11-requires
     slice-aggregate-all-sums
     slice-aggregate-all-sums-2
     all-sums-requires
@@ -109,6 +112,7 @@ locate-spec =
     slice-aggregate-key-3
     key-requires
     slice-aggregate-spots-of
+    slice-aggregate-spots-of-2
     spots-of-requires
     slice-aggregate-agree
     agree-requires

@@ -12,7 +12,7 @@ slice-aggregate-direct-roots c = search needs
 
 direct-roots-requires : tie.Need-direct-roots-requires
 direct-roots-requires c κs =
-    let a = c .before .before .before .before in
+    let a = c .before .before .before .before .before in
     (leading (a .pre .1) (a .pre .2), a .pre .3, a .pre .4, search needs)
 
 enum-known-k : tie.Need-enum-known-k

@@ -15,7 +15,7 @@ top-requires c κs = search needs
 
 low-roots-requires : tie.Need-low-roots-requires
 low-roots-requires c κs =
-    let a = c .before .before .before .before .before .before .before in
+    let a = c .before .before .before .before .before .before .before .before in
     (a .pre .0, a .pre .1, c .before .before .before .top .ensures, search needs, search needs)
 
 same-length : tie.Need-same-length

@@ -17,14 +17,14 @@ slice-aggregate-roots-of : tie.Need-slice-aggregate-roots-of
 slice-aggregate-roots-of c = search needs
 
 roots-of-requires : tie.Need-roots-of-requires
-roots-of-requires c κs = let a = c .before .before in (a .pre .0, findable _ _ (a .pre .1) (a .pre .2) (omega arith) refl)
+roots-of-requires c κs = let a = c .before .before .before in (a .pre .0, findable _ _ (a .pre .1) (a .pre .2) (omega arith) refl)
 
 nowhere-requires : tie.Need-nowhere-requires
 nowhere-requires c κs = search needs
 
 returns : tie.Need-returns
 returns c =
-    let a = c .before .before .before .before .before .before in
+    let a = c .before .before .before .before .before .before .before in
     let n = count-places (a .args .locator) (a .pre .2) (c .before .before .before .roots-of .ensures) in
     spotted-many (placesOf (a .args .locator)) (a .args .t) _ (c .nowhere .ensures) (let h = c .before .if1 .taken in omega arith)
 
@@ -33,12 +33,12 @@ slice-aggregate-places-of c = search needs
 
 places-of-requires : tie.Need-places-of-requires
 places-of-requires c κs =
-    let a = c .before .before .before .before .before .before in
-    (a .pre .0, placing (a .args .locator) (a .pre .2) (c .before .before .before .roots-of .ensures) (let h = c .before .if1 .left in let t = a .pre .3 in omega arith))
+    let a = c .before .before .before .before .before .before .before in
+    placing (a .args .locator) (a .pre .2) (c .before .before .before .roots-of .ensures) (let h = c .before .if1 .left in let t = a .pre .3 in omega arith)
 
 returns-2 : tie.Need-returns-2
 returns-2 c =
-    let a = c .before .before .before .before .before .before .before in
+    let a = c .before .before .before .before .before .before .before .before in
     let v = c .before .before .before .before .roots-of .ensures in
     let n = count-places (a .args .locator) (a .pre .2) v in
     let h = c .before .before .if1 .left in

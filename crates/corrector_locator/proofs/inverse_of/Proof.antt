@@ -1,4 +1,4 @@
--- `corrector_locator::inverse_of` meets its contract, by the law of the inverse by logs and powers.
+-- `corrector_locator::inverse_of` meets its contract, by the law of the inverse by logs and antilogs.
 -- Assumes nothing.
 use native.Mathlib.Omega.{arith}
 use Rattle.corrector_locator.proofs.Tabled.{inverse-fits, inverse-at}

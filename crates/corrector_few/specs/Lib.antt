@@ -1,0 +1,2 @@
+-- What is meant: a locator polynomial of low degree.
+pub mod Locators
