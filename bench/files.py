@@ -1,6 +1,7 @@
 #!/usr/bin/env python3
 """files FOLDER: writes the full inputs of the programs, 65,536 bytes at most each, into a folder: the same bytes at every run. bench/jobs times the programs on them,
 bench/programs counts their instructions."""
+import functools
 import pathlib
 import random
 import sys
@@ -14,15 +15,15 @@ import repository
 ROOM = 65536
 
 
-def drawn():
-    """32 roots in field 11 for each of as many records as fit, drawn at random."""
+def drawn(degree):
+    """So many roots in field 11 for each of as many records as fit, drawn at random."""
     rng = random.Random(1)
-    return [sorted(rng.sample(range(2048), 32)) for _ in range(ROOM // 71)]
+    return [sorted(rng.sample(range(2048), degree)) for _ in range(ROOM // (7 + 2 * degree))]
 
 
-def degree_32():
-    """Records of degree 32 in field 11 with 32 roots each, at cutoff 3, the house default."""
-    return b"".join(records.record(11, 3, reference.from_roots(11, roots)) for roots in drawn())
+def of_degree(degree):
+    """Records of a degree in field 11 with as many roots each, at cutoff 3, the house default."""
+    return b"".join(records.record(11, 3, reference.from_roots(11, roots)) for roots in drawn(degree))
 
 
 def shortest():
@@ -31,14 +32,14 @@ def shortest():
 
 
 def marks():
-    """Two marks in every five bytes, and no record."""
-    return (2 * reference.MARK + b"\x21") * (ROOM // 5)
+    """Two marks in every five bytes, and no record: behind each first one the most coefficients that are looked at."""
+    return (2 * reference.MARK + bytes([reference.MOST_COEFFICIENTS])) * (ROOM // 5)
 
 
-def list_32():
-    """Lines of 32 roots in field 11, as many as fit."""
+def list_of(degree):
+    """Lines of so many roots in field 11, as many as fit."""
     text = b""
-    for roots in drawn():
+    for roots in drawn(degree):
         line = f"11 3 {' '.join(map(str, roots))}\n".encode()
         if len(text) + len(line) > ROOM:
             break
@@ -46,7 +47,8 @@ def list_32():
     return text
 
 
-FILES = {"empty": lambda: b"", "degree-32": degree_32, "shortest": shortest, "marks": marks, "list-32": list_32}
+FILES = {"empty": lambda: b"", "shortest": shortest, "marks": marks}
+FILES |= {f"degree-{d}": functools.partial(of_degree, d) for d in (32, 64)} | {f"list-{d}": functools.partial(list_of, d) for d in (32, 64)}
 
 if __name__ == "__main__":
     args = repository.command(__doc__, "0 written")

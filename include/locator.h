@@ -11,19 +11,20 @@
    FIELDS. m is 4, 8 or 11, with the polynomials x^4+x+1, x^8+x^4+x^3+x^2+1 and x^11+x^2+1. An element is
    a number below 2^m whose bits are coefficients, bit 0 the constant; a is the element 2.
 
-   POLYNOMIALS. n coefficients, the constant first, n from 1 to 33. Zeros at the top are allowed. The
+   POLYNOMIALS. n coefficients, the constant first, n from 1 to 65. Zeros at the top are allowed. The
    cutoff is 1, 2 or 3, or 0 for the house default, which is 3; the roots do not depend on it, the number
    of steps does. An affine polynomial, with terms at z^(2^i) and a constant alone, has a call of its
    own, and m coefficients beside its constant.
 
    OUTCOMES. 0: accepted. Any other is the number under which the input was turned away:
        1  there is no field of degree m          6  the cutoff is above 3
-       2  a polynomial has no coefficients       7  a list has under 32 slots (of an affine polynomial's
-                                                    roots under 2^m, of h, u and v of a claim under 33),
-                                                    the table has not 100, or the room for a salvaged
-                                                    file or a record is shorter than that
-       3  a polynomial has more than 33          8  the table is not sound
-          coefficients, or a record over 32 roots
+       2  a polynomial has no coefficients       7  a list has under 64 slots (of an affine polynomial's
+                                                    roots under 2^m, of h, u and v of a claim under 65),
+                                                    the table has not 196 (for step and finish: nor 100,
+                                                    as a stored one has), or the room for a salvaged file
+                                                    or a record is shorter than that
+       3  a polynomial has more than 65          8  the table is not sound
+          coefficients, or a record over 64 roots
        4  an element, a coefficient or a root    9  the table cannot be stepped: the first factor above
           is 2^m or more                            the cutoff has level m, or the steps are at their limit
        5  every coefficient of the polynomial   10  the table is not done
@@ -36,6 +37,11 @@
                                                 25  the roots of a record are not strictly ascending
    Where two apply, the one that stands first in the call's order is given. A refusal writes nothing, and
    its other fields are 0.
+
+   WORK TABLES. A new one has LOCATOR_SLOTS slots, and the degrees of its factors sum up to at most 64. One
+   that was stored when polynomials had a degree of at most 32 has LOCATOR_STORED_SLOTS and a sum of at
+   most 32. Its size says which it is: step and finish take both, begin writes new ones alone, and no table
+   changes its size.
 
    MEMORY. All memory is the caller's, before and after: no call keeps a pointer. A list is a pointer,
    aligned for uint16_t, and the number of its elements; a word, a file or the room for a record is a
@@ -57,10 +63,11 @@
                    have 32 bits, tools/c/narrow.c gives them as C expects there, on wasm32 through a
                    pointer as the first word.
        asked for   memcpy and memset; on 32-bit ARM the compiler's divisions of 64 bits too (libgcc).
-       stack       the most measured, in bytes (tests/c/stack.c): x86-64 33,624, aarch64 33,680,
-                   armhf 33,812, cortex-m3 33,940. wasm32 has a stack of its own, 128 KB in
-                   locator.wasm. On x86-64 and aarch64 a frame probes the stack page by page, so that it
-                   cannot step over a guard page; elsewhere it does not. */
+       stack       the most measured, in bytes (tests/c/stack.c): x86-64 55,304, aarch64 54,144,
+                   both in locator_prove; every other call takes less than 35,000. tests/machines
+                   measures the others. wasm32 has a stack of its own, 128 KB in locator.wasm. On x86-64
+                   and aarch64 a frame probes the stack page by page, so that it cannot step over a guard
+                   page; elsewhere it does not. */
 #ifndef LOCATOR_H
 #define LOCATOR_H
 
@@ -75,15 +82,17 @@ extern "C" {
    that state it say the same. Its first number is that of liblocator.so's name. */
 #define LOCATOR_VERSION "0.1.0"
 
-/* The slots of a work table; the fewest slots of a list of roots or multiplicities; the most
-   coefficients; slots that are enough for the roots of an affine polynomial in any field; the bytes of a
-   block corrector's word; the most bytes of a record that is written. */
-#define LOCATOR_SLOTS 100
-#define LOCATOR_ROOTS 32
-#define LOCATOR_COEFFICIENTS 33
+/* The slots of a new work table, and of a stored one (WORK TABLES above); the fewest slots of a list of
+   roots or multiplicities; the most coefficients; slots that are enough for the roots of an affine
+   polynomial in any field; the bytes of a block corrector's word; the most bytes of a record that is
+   written. */
+#define LOCATOR_SLOTS 196
+#define LOCATOR_STORED_SLOTS 100
+#define LOCATOR_ROOTS 64
+#define LOCATOR_COEFFICIENTS 65
 #define LOCATOR_ELEMENTS 2048
 #define LOCATOR_WORD 256
-#define LOCATOR_RECORD 71
+#define LOCATOR_RECORD 135
 
 /* The conventions of a position, by how a locator is built from the bad bits, X = 2^place for each:
    Goppa codes: the product of (z + X), whose roots are the X themselves;
@@ -92,7 +101,7 @@ extern "C" {
 #define LOCATOR_RECORDERS 1
 
 /* Stack, in bytes, that is enough for any call (tests/c/stack.c measures it). */
-#define LOCATOR_STACK 40960
+#define LOCATOR_STACK 57344
 
 /* The outcomes by name (OUTCOMES above says when each is given). 11 and 12 are of the records of a job
    file, and no call gives them: the program `roots` prints them. */
@@ -127,11 +136,11 @@ static inline const char *locator_reason(uint16_t outcome)
     case LOCATOR_ACCEPTED: return "accepted";
     case LOCATOR_REFUSED_FIELD: return "there is no field of this degree";
     case LOCATOR_REFUSED_EMPTY: return "there are no coefficients";
-    case LOCATOR_REFUSED_LONG: return "there are more than 33 coefficients, or 32 roots of a record";
+    case LOCATOR_REFUSED_LONG: return "there are more than 65 coefficients, or 64 roots of a record";
     case LOCATOR_REFUSED_ELEMENT: return "an element, a coefficient or a root is 2^m or more";
     case LOCATOR_REFUSED_ALL_ZERO: return "every coefficient is 0";
     case LOCATOR_REFUSED_CUTOFF: return "the cutoff is above 3";
-    case LOCATOR_REFUSED_ROOM: return "a buffer is too small, or a table has not 100 slots";
+    case LOCATOR_REFUSED_ROOM: return "a buffer is too small, or a table has neither 196 nor 100 slots";
     case LOCATOR_REFUSED_UNSOUND: return "the table is not sound";
     case LOCATOR_REFUSED_STUCK: return "the table cannot be stepped";
     case LOCATOR_REFUSED_NOT_DONE: return "the table is not done";
@@ -190,19 +199,19 @@ locator_pair locator_quadratic(uint16_t m, uint16_t a, uint16_t b);
 /* The whole call: all distinct roots of the polynomial, by splitting it along the trace. The roots fill
    the front of the list, ascending; the slots behind the last root are not written. The multiplicity of
    each root stands at the same place of the second list, mults: the largest e for which (z + r)^e
-   divides the polynomial, from 1 to 32; the slots behind are not written. count is the number of
+   divides the polynomial, from 1 to 64; the slots behind are not written. count is the number of
    distinct roots, steps that of the splitting steps at this cutoff.
    A decoder must compare count with the degree of its locator, where zeros at the top do not count. A
    polynomial is, up to a constant factor, the locator of a set of places exactly if it has as many
    distinct roots as its degree, none of them 0. Where count is less, the word has more bad bits than its
    code corrects, and the places of the roots that there are mean nothing: the word is not to be
    corrected by them (examples/c/recorder.c).
-   Outcomes 0 and 1 to 7, in ascending order; 7 where room is under 32, and then where mult_room is. */
+   Outcomes 0 and 1 to 7, in ascending order; 7 where room is under 64, and then where mult_room is. */
 locator_found locator_solve(uint16_t m, const uint16_t *coeffs, size_t n, uint16_t cutoff, uint16_t *roots,
                             size_t room, uint16_t *mults, size_t mult_room);
 
 /* The plain search: the same two lists in the same way, the roots by trying every element. steps is 0.
-   Outcomes 0, 1 to 5 and 7, in ascending order; 7 where room is under 32, and then where mult_room is. */
+   Outcomes 0, 1 to 5 and 7, in ascending order; 7 where room is under 64, and then where mult_room is. */
 locator_found locator_search(uint16_t m, const uint16_t *coeffs, size_t n, uint16_t *roots, size_t room,
                              uint16_t *mults, size_t mult_room);
 
@@ -219,24 +228,25 @@ locator_found locator_search(uint16_t m, const uint16_t *coeffs, size_t n, uint1
 locator_space locator_affine(uint16_t m, const uint16_t *coeffs, size_t n, uint16_t constant,
                              uint16_t *roots, size_t room);
 
-/* Begins a work table of 100 slots: m, the cutoff in force (1 to 3), the number of factors, the steps
+/* Begins a work table of 196 slots: m, the cutoff in force (1 to 3), the number of factors, the steps
    taken (0), then the factor of all distinct roots at level 0 (level, degree d, its d coefficients below
    the leading 1, the constant first), or no factor where there is no root; the other slots 0. Every slot
    is written, whatever the table held. Returns the outcome: 0 or 1 to 7, in ascending order; 7 where
-   slots is not 100. */
+   slots is not 196, also where it is 100. */
 uint16_t locator_begin(uint16_t m, const uint16_t *coeffs, size_t n, uint16_t cutoff, uint16_t *table,
                        size_t slots);
 
 /* One step: the first factor of a degree above the cutoff is replaced by the two parts that its level's
    trace bit makes of it, one level up, a constant one omitted, and slot 3 grows by 1. Where there is no
-   such factor, done is 1 and nothing is written. Any table may be lent, begun or not.
-   Outcomes 0, 7, 8, 9, in the order 7, 8, 9; 7 where slots is not 100. */
+   such factor, done is 1 and nothing is written. Any table may be lent, begun or not, new or stored.
+   Outcomes 0, 7, 8, 9, in the order 7, 8, 9; 7 where slots is neither 196 nor 100. */
 locator_stepped locator_step(uint16_t *table, size_t slots);
 
 /* Finish: every element at which some factor of a done table is zero, each once, ascending, at the front
    of the list; the slots behind the last are not written, nor is the table. count is their number; steps
-   is 0. Any table may be lent, begun or not.
-   Outcomes 0, 7, 8, 10, in the order 7, 8, 10; 7 where slots is not 100 or room is under 32. */
+   is 0. Any table may be lent, begun or not, new or stored.
+   Outcomes 0, 7, 8, 10, in the order 7, 8, 10; 7 where slots is neither 196 nor 100, or room is under 64,
+   whatever the size of the table. */
 locator_found locator_finish(const uint16_t *table, size_t slots, uint16_t *roots, size_t room);
 
 /* What the corrector gives: how many bits of the word it flipped, 0 where it was a codeword, and 0 where
@@ -292,7 +302,7 @@ locator_salvaged locator_salvage(const uint8_t *file, size_t n, uint8_t *kept, s
 /* What writing gives: how many bytes the record has, 0 where refused. */
 typedef struct { uint16_t outcome, length; } locator_written;
 
-/* Writes the job record of n roots, 0 to 32, strictly ascending: the mark 4C 52, m, the cutoff as it is
+/* Writes the job record of n roots, 0 to 64, strictly ascending: the mark 4C 52, m, the cutoff as it is
    given (0 stays 0), n + 1, and the n + 1 coefficients, two bytes each, low byte first, the constant
    first, of the monic polynomial with exactly these roots, each simple: the product of (z + r), which is
    1 where there are none. It fills the front of record, length bytes in all, 7 + 2 n, so that
@@ -300,7 +310,7 @@ typedef struct { uint16_t outcome, length; } locator_written;
    read. The same field, cutoff and roots give the same bytes. The reader accepts the record, whatever
    stands behind it, and the whole call on its coefficients lists the same roots, each with multiplicity
    1. The program `jobs` writes the records of lines of text.
-   Outcomes 0, 1, 3, 4, 25, 6, 7, in the order 1, 3, 4, 25, 6, 7: 3 where n is above 32; 4 where a root
+   Outcomes 0, 1, 3, 4, 25, 6, 7, in the order 1, 3, 4, 25, 6, 7: 3 where n is above 64; 4 where a root
    is 2^m or more; 25 where a root is not above the one before it; 6 where the cutoff is above 3; 7 where
    room is less than 7 + 2 n. examples/c/record.c has an example. */
 locator_written locator_write(uint16_t m, uint16_t cutoff, const uint16_t *roots, size_t n, uint8_t *record,
@@ -310,7 +320,7 @@ locator_written locator_write(uint16_t m, uint16_t cutoff, const uint16_t *roots
 typedef struct { uint16_t outcome, accepted; } locator_claim;
 
 /* Checks a partner's list of roots of the polynomial f, without looking for roots. A claim is nr roots,
-   beside each its multiplicity e, a cofactor h, and two polynomials u and v; each polynomial has 1 to 33
+   beside each its multiplicity e, a cofactor h, and two polynomials u and v; each polynomial has 1 to 65
    coefficients, the constant first, and zeros at the top are ignored. It is accepted exactly if the
    roots are strictly ascending, ne is nr and each e at least 1, the product of (z + r)^e over the roots
    and h is f, and u h + v w = 1, where w is the remainder of z^(2^m) + z by h, or 0 if h is constant.

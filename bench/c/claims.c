@@ -5,7 +5,7 @@
  *   claims sets         a line for each set: call, shape
  *   claims pass C S K   K passes, 0 or 1, over the set, for counting: the difference of two counts is one pass
  *
- * The calls: solve, check (of the claim that is right, sent without zeros at the top) and prove. The shapes: split-N has N distinct roots and degree N; dense-32 has degree 32 and any
+ * The calls: solve, check (of the claim that is right, sent without zeros at the top) and prove. The shapes: split-N has N distinct roots and degree N; dense-N has degree N and any
  * coefficients.
  */
 #include "locator.h"
@@ -47,7 +47,7 @@ static const struct {
     const char *name;
     size_t degree;
     int split;
-} shapes[] = {{"split-4", 4, 1}, {"split-8", 8, 1}, {"split-16", 16, 1}, {"split-32", 32, 1}, {"dense-32", 32, 0}};
+} shapes[] = {{"split-4", 4, 1}, {"split-8", 8, 1}, {"split-16", 16, 1}, {"split-32", 32, 1}, {"split-64", 64, 1}, {"dense-32", 32, 0}, {"dense-64", 64, 0}};
 enum { SHAPES = sizeof shapes / sizeof *shapes };
 
 /* an element */

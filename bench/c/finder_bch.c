@@ -38,7 +38,7 @@ static bool start(int m)
     control = !served(m) ? NULL : bch_init(m, m == 8 ? 31 : 64, field_polynomial(m), false);
     if (!control)
         return false;
-    for (int i = 0; i < 4; i++) { /* room for degree 32 also where no code is that strong */
+    for (int i = 0; i < 4; i++) { /* room for degree 64 also where no code is that strong */
         free(control->poly_2t[i]);
         control->poly_2t[i] = malloc(GF_POLY_SZ(ROOM));
     }

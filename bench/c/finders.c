@@ -1,12 +1,12 @@
 /*
- * The root finders beside each other, for bench/peers: the proved whole call, plain search and successive resultants,
+ * The root finders beside each other, for bench/peers: the proved whole call, begin with step and finish, plain search and successive resultants,
  * Linux lib/bch.c, FLINT, and a Chien search in C. All of them get the same polynomials, drawn from a fixed seed.
  *
  *   finders check SETS [FINDER..]  every list against a plain search; a line for each set and finder: set, finder, right lists, lists
  *   finders time SETS [FINDER..]   a line for each set and finder whose lists are all right: set, finder, nanoseconds a polynomial
  *   finders pass SET FINDER K      K passes over the set, for counting: the difference of two counts is one pass
  *
- * SETS is "usual" (those of several fields and kinds), "degrees" (field 11, as many distinct nonzero roots as the degree, 1 to 32),
+ * SETS is "usual" (those of several fields and kinds), "degrees" (field 11, as many distinct nonzero roots as the degree, 1 to 64),
  * or the beginning of a set's name. Without a FINDER all take part.
  */
 #include <stdio.h>
@@ -22,7 +22,7 @@ enum { LISTS = 64, MOST = LOCATOR_COEFFICIENTS, CHUNK = 8, SLOTS = 80 };
 /* ---- the proved calls ---- */
 
 struct job {
-    uint16_t m, n, coeffs[MOST], found[MOST], mults[MOST];
+    uint16_t m, n, coeffs[MOST], found[MOST], mults[MOST], table[LOCATOR_SLOTS];
     size_t count;
 };
 
@@ -63,6 +63,16 @@ static void search(void *of)
 {
     struct job *job = of;
     job->count = locator_search(job->m, job->coeffs, job->n, job->found, MOST, job->mults, MOST).count;
+}
+
+/* begin, steps until done and finish, at cutoff 2: roots alone, without their multiplicities */
+static void stepped(void *of)
+{
+    struct job *job = of;
+    locator_begin(job->m, job->coeffs, job->n, 2, job->table, LOCATOR_SLOTS);
+    while (locator_step(job->table, LOCATOR_SLOTS).done == 0)
+        continue;
+    job->count = locator_finish(job->table, LOCATOR_SLOTS, job->found, MOST).count;
 }
 
 /* roots alone, without their multiplicities */
@@ -126,6 +136,7 @@ static const struct finder finders[] = {
     {"solve", true, start_ours, prepare_job, solve_2, job_roots},
     {"solve1", true, start_ours, prepare_job, solve_1, job_roots},
     {"solve3", true, start_ours, prepare_job, solve_3, job_roots},
+    {"stepped", true, start_ours, prepare_job, stepped, job_roots},
     {"search", true, start_ours, prepare_job, search, job_roots},
     {"resultants", true, start_ours, prepare_job, resultants, job_roots},
     {"chien", true, start_chien, prepare_job, chien, job_roots},
@@ -157,19 +168,22 @@ struct polynomial {
     uint16_t coeffs[MOST];
 };
 
-enum { USUAL = 12, DEGREES = 32, SETS = USUAL + DEGREES };
+enum { USUAL = 15, DEGREES = LOCATOR_ROOTS, SETS = USUAL + DEGREES };
 
+/* Each set has a seed of its own, so that it keeps its polynomials where others are added: the usual ones 1 to 12 and from 101 on, those by degree from 13 on. */
 static struct set {
     char name[16];
     int m;
     size_t degree;
     enum kind kind;
     bool timed;
+    uint64_t seed;
 } sets[SETS] = {
-    {"11.split.4", 11, 4, SPLIT, true},    {"11.split.8", 11, 8, SPLIT, true},    {"11.split.16", 11, 16, SPLIT, true},
-    {"11.split.32", 11, 32, SPLIT, true},  {"11.dense.32", 11, 32, DENSE, true},  {"8.split.8", 8, 8, SPLIT, true},
-    {"8.split.32", 8, 32, SPLIT, true},    {"8.dense.32", 8, 32, DENSE, true},    {"4.split.8", 4, 8, SPLIT, true},
-    {"4.dense.32", 4, 32, DENSE, true},    {"11.zero.32", 11, 32, ZERO, false},   {"11.double.32", 11, 32, DOUBLE, false},
+    {"11.split.4", 11, 4, SPLIT, true, 1},     {"11.split.8", 11, 8, SPLIT, true, 2},     {"11.split.16", 11, 16, SPLIT, true, 3},
+    {"11.split.32", 11, 32, SPLIT, true, 4},   {"11.split.64", 11, 64, SPLIT, true, 101}, {"11.dense.32", 11, 32, DENSE, true, 5},
+    {"11.dense.64", 11, 64, DENSE, true, 102}, {"8.split.8", 8, 8, SPLIT, true, 6},       {"8.split.32", 8, 32, SPLIT, true, 7},
+    {"8.split.64", 8, 64, SPLIT, true, 103},   {"8.dense.32", 8, 32, DENSE, true, 8},     {"4.split.8", 4, 8, SPLIT, true, 9},
+    {"4.dense.32", 4, 32, DENSE, true, 10},    {"11.zero.32", 11, 32, ZERO, false, 11},   {"11.double.32", 11, 32, DOUBLE, false, 12},
 };
 
 /* The sets of distinct roots in field 11 by degree, behind the usual ones. */
@@ -177,7 +191,7 @@ static void name_degrees(void)
 {
     for (size_t d = 1; d <= DEGREES; d++) {
         struct set *set = &sets[USUAL + d - 1];
-        *set = (struct set){"", 11, d, SPLIT, true};
+        *set = (struct set){"", 11, d, SPLIT, true, 12 + d};
         snprintf(set->name, sizeof set->name, "11.distinct.%zu", d);
     }
 }
@@ -225,7 +239,7 @@ static struct polynomial make(const struct set *set)
 
 static void make_all(const struct set *set, struct polynomial *all)
 {
-    draw_set((uint64_t)(set - sets + 1));
+    draw_set(set->seed);
     for (size_t i = 0; i < LISTS; i++)
         all[i] = make(set);
 }
@@ -289,7 +303,7 @@ static void time_set(const struct set *set, bool timing, char **names)
         const struct finder *finder;
         void *jobs[LISTS];
         double least[LISTS / CHUNK];
-    } runners[9];
+    } runners[16];
     size_t count = 0;
     make_all(set, all);
     for (size_t f = 0; finder_at(f) != NULL; f++) {

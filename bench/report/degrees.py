@@ -9,8 +9,8 @@ from page import DEGREES, NO_REP, figure, put, ratio, read, short, table, words
 
 FINDERS = ("solve", "search", "bch", "bchfixed")
 OURS, PEERS = FINDERS[:2], FINDERS[2:]
-TOP, HEIGHT, LEFT, STEP, BETWEEN = 110, 330, 100, 13, 110
-MOST = 32
+TOP, HEIGHT, LEFT, STEP, BETWEEN = 110, 330, 100, 8, 110
+MOST = 64
 
 
 def name(degree):
@@ -104,7 +104,7 @@ def panel(run, measure, left):
     yield f'<rect x="{left}" y="{TOP}" width="{wide}" height="{HEIGHT}" fill="#fafafa" stroke="#bbb"/>'
     yield from (f'<path d="M{left} {at(10 ** k):.1f}h{wide}" stroke="#ddd"/>' for k in range(low + 1, high))
     yield from (text(left - 8, at(10 ** k) + 4, power(k, counted), "end", 12) for k in range(low, high + 1))
-    yield from (text(place(d), TOP + HEIGHT + 20, str(d), size=12) for d in (1, 4, 8, 12, 16, 20, 24, 28, 32))
+    yield from (text(place(d), TOP + HEIGHT + 20, str(d), size=12) for d in (1, *range(8, MOST + 1, 8)))
     yield text(left + wide / 2, TOP - 12, "x86-64 instructions" if counted else "microseconds")
     yield text(left + wide / 2, TOP + HEIGHT + 42, "degree of the polynomial")
     for finder in FINDERS:

@@ -9,8 +9,8 @@ import corrector
 import peers
 from page import NATIVE, figure, put, ratio, read, short, table, words
 
-FINDERS = {"solve": "whole call", "search": "plain search", "resultants": "resultants", "bch": "lib/bch.c", "bchfixed": "constant", "flint": "FLINT", "chien": "Chien in C"}
-OURS = ("solve", "search", "resultants", "ours")
+FINDERS = {"solve": "whole call", "stepped": "in steps", "search": "plain search", "resultants": "resultants", "bch": "lib/bch.c", "bchfixed": "constant", "flint": "FLINT", "chien": "Chien in C"}
+OURS = ("solve", "stepped", "search", "resultants", "ours")
 
 
 def peers_table(run):

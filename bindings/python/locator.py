@@ -28,7 +28,7 @@ import platform
 from typing import Iterable, Iterator, NamedTuple, Optional, Sequence
 
 __all__ = [
-    "VERSION", "FIELDS", "SLOTS", "ROOTS", "COEFFICIENTS", "ELEMENTS", "WORD", "RECORD",
+    "VERSION", "FIELDS", "SLOTS", "STORED_SLOTS", "ROOTS", "COEFFICIENTS", "ELEMENTS", "WORD", "RECORD",
     "Outcome", "Convention", "Refused", "Quadratic", "Solved", "Space", "Claim", "Corrected", "Record", "Table",
     "product", "inverse", "position", "quadratic", "roots", "solve", "search", "affine",
     "prove", "check", "correct", "encode", "filled", "data", "write", "read", "salvage",
@@ -38,17 +38,19 @@ VERSION = "0.1.0"
 
 FIELDS = (4, 8, 11)
 """The degrees of the fields."""
-SLOTS = 100
-"""The slots of a work table."""
-ROOTS = 32
+SLOTS = 196
+"""The slots of a new work table."""
+STORED_SLOTS = 100
+"""The slots of a work table that was stored when polynomials had a degree of at most 32."""
+ROOTS = 64
 """The most distinct roots of a polynomial, and the most of a record."""
-COEFFICIENTS = 33
+COEFFICIENTS = 65
 """The most coefficients of a polynomial."""
 ELEMENTS = 2048
 """The most roots of an affine polynomial."""
 WORD = 256
 """The bytes of a block corrector's word."""
-RECORD = 71
+RECORD = 135
 """The most bytes of a record that `write` makes."""
 
 
@@ -86,11 +88,11 @@ _REASONS = {
     Outcome.ACCEPTED: "accepted",
     Outcome.FIELD: "there is no field of this degree",
     Outcome.EMPTY: "there are no coefficients",
-    Outcome.LONG: "there are more than 33 coefficients, or 32 roots of a record",
+    Outcome.LONG: "there are more than 65 coefficients, or 64 roots of a record",
     Outcome.ELEMENT: "an element, a coefficient or a root is 2^m or more",
     Outcome.ALL_ZERO: "every coefficient is 0",
     Outcome.CUTOFF: "the cutoff is above 3",
-    Outcome.ROOM: "a buffer is too small, or a table has not 100 slots",
+    Outcome.ROOM: "a buffer is too small, or a table has neither 196 nor 100 slots",
     Outcome.UNSOUND: "the table is not sound",
     Outcome.STUCK: "the table cannot be stepped",
     Outcome.NOT_DONE: "the table is not done",
@@ -411,7 +413,8 @@ class Table:
 
     @classmethod
     def of(cls, slots: Sequence[int]) -> Table:
-        """A table that holds these slots, whatever they are: `step` and `finish` refuse what is no table."""
+        """A table that holds these slots, whatever they are: `step` and `finish` refuse what is no table. Those of a
+        stored table, STORED_SLOTS, are stepped and finished like those of a new one, SLOTS."""
         table = cls.__new__(cls)
         table._slots = _list(slots)
         return table
@@ -526,7 +529,7 @@ class Record(NamedTuple):
 
 
 def write(m: int, roots: Iterable[int], cutoff: int = 0) -> bytes:
-    """The job record of the monic polynomial with exactly these roots, 0 to 32 and strictly ascending, each simple.
+    """The job record of the monic polynomial with exactly these roots, 0 to 64 and strictly ascending, each simple.
     Refused: 1, 3, 4, 25, 6.
 
         >>> write(4, [1, 2, 3], cutoff=1).hex(" ")

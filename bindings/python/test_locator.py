@@ -49,7 +49,7 @@ class Same(unittest.TestCase):
 
     def test_limits(self):
         self.assertEqual(self.defined("VERSION"), locator.VERSION)
-        for name in ("SLOTS", "ROOTS", "COEFFICIENTS", "ELEMENTS", "WORD", "RECORD"):
+        for name in ("SLOTS", "STORED_SLOTS", "ROOTS", "COEFFICIENTS", "ELEMENTS", "WORD", "RECORD"):
             self.assertEqual(int(self.defined(name)), getattr(locator, name), name)
 
     def test_outcomes(self):
@@ -99,7 +99,7 @@ class Calls(unittest.TestCase):
         random.seed(2)
         for m in locator.FIELDS:
             for _ in range(20 if m == 11 else 60):
-                f = [random.randrange(1 << m) for _ in range(random.randrange(1, 34))]
+                f = [random.randrange(1 << m) for _ in range(random.randrange(1, locator.COEFFICIENTS + 1))]
                 if not any(f):
                     continue
                 found = locator.solve(m, f, random.randrange(4))
@@ -107,7 +107,8 @@ class Calls(unittest.TestCase):
                 self.assertEqual(locator.search(m, f)[:2], found[:2])
                 self.assertEqual(locator.roots(m, f), found.roots)
         self.assertEqual(locator.solve(4, product_of(4, [3, 3, 3, 9])).multiplicities, [3, 1])
-        wrong = {1: (5, [1]), 2: (4, []), 3: (4, [1] * 34), 4: (4, [16]), 5: (4, [0]), 6: (4, [1], 4)}
+        many = [1] * (locator.COEFFICIENTS + 1)
+        wrong = {1: (5, [1]), 2: (4, []), 3: (4, many), 4: (4, [16]), 5: (4, [0]), 6: (4, [1], 4)}
         for number, words in wrong.items():
             self.refused(number, locator.solve, *words)
 
@@ -135,11 +136,11 @@ class Calls(unittest.TestCase):
     def test_claims(self):
         random.seed(5)
         for m in locator.FIELDS:
-            for n in (1, 2, 3, 8, 33):
+            for n in (1, 2, 3, 8, 33, locator.COEFFICIENTS):
                 f = [random.randrange(1 << m) for _ in range(n - 1)] + [1]
                 claim, found = locator.prove(m, f), locator.solve(m, f)
                 self.assertEqual(claim[:2], found[:2])
-                self.assertTrue(locator.check(m, f + [0] * (33 - n), claim))
+                self.assertTrue(locator.check(m, f + [0] * (locator.COEFFICIENTS - n), claim))
                 self.assertFalse(locator.check(m, f, claim._replace(h=[*claim.h[:-1], 0])))
                 if claim.roots:
                     fewer = claim._replace(roots=claim.roots[1:], multiplicities=claim.multiplicities[1:])
@@ -151,16 +152,35 @@ class Calls(unittest.TestCase):
         self.refused(4, locator.check, 4, [1, 1], claim._replace(roots=[16]))
 
     def test_tables(self):
-        f = product_of(11, range(5, 37))
+        f = product_of(11, range(5, 69))
         table = Table(11, f, 1)
         self.refused(10, table.finish)
         while table.step():
             pass
-        self.assertEqual(table.finish(), list(range(5, 37)))
+        self.assertEqual(table.finish(), list(range(5, 69)))
         self.assertEqual(table.steps, locator.solve(11, f, 1).steps)
         self.assertEqual(Table.of(table.slots).finish(), table.finish())
-        self.refused(8, Table.of([9] * 100).step)
-        self.refused(7, Table.of([4] * 99).step)
+        self.assertEqual(len(table.slots), locator.SLOTS)
+        for slots in (99, 101, 195, 197):
+            self.refused(7, Table.of([4] * slots).step)
+            self.refused(7, Table.of([4] * slots).finish)
+
+    def test_stored_tables(self):
+        for degree, slots in ((32, locator.STORED_SLOTS), (64, locator.SLOTS)):
+            self.refused(8, Table.of([9] * slots).step)
+            roots = list(range(5, 5 + degree))
+            for more in (0, 1):
+                f = product_of(11, roots + [900][:more])[:-1]
+                table = Table.of(([11, 1, 1, 0, 0, degree + more] + f + [0] * slots)[:slots])
+                if more:
+                    self.refused(8, table.step)
+                    self.refused(8, table.finish)
+                else:
+                    while table.step():
+                        pass
+                    self.assertEqual(len(table.slots), slots)
+                    self.assertEqual(table.finish(), roots)
+                    self.assertEqual(table.steps, locator.solve(11, f + [1], 1).steps)
 
     def test_blocks(self):
         random.seed(4)
@@ -194,7 +214,8 @@ class Calls(unittest.TestCase):
             self.assertEqual([one.outcome for one in locator.read(listing + end)], [0, 1, 0, outcome])
         self.assertEqual(list(locator.read(b"")), [])
         self.assertEqual(locator.write(4, [1, 2, 3], 1), listing[:13])
-        for number, words in ((1, (5, [])), (3, (11, range(33))), (4, (4, [16])), (25, (4, [2, 2])), (6, (4, [1], 4))):
+        many = range(locator.ROOTS + 1)
+        for number, words in ((1, (5, [])), (3, (11, many)), (4, (4, [16])), (25, (4, [2, 2])), (6, (4, [1], 4))):
             self.refused(number, locator.write, *words)
 
 

@@ -13,7 +13,7 @@ static const char *reason(uint16_t outcome)
 {
     switch (outcome) {
     case 1: return "there is no field of this degree";
-    case 3: return "more than 32 roots";
+    case 3: return "more than 64 roots";
     case 4: return "a root is no element of the field";
     case 25: return "the roots are not strictly ascending";
     case 6: return "the cutoff is above 3";

@@ -11,7 +11,7 @@
 static const char *reason(uint16_t outcome)
 {
     static const char *const said[] = {
-        "accepted", "there is no field of this degree", "no coefficients", "more than 33 coefficients",
+        "accepted", "there is no field of this degree", "no coefficients", "more than 65 coefficients",
         "a coefficient is no element of the field", "every coefficient is 0", "the cutoff is above 3",
         "the list is too short",
     };

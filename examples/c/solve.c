@@ -84,7 +84,7 @@ int main(void)
     solve("zeros", 4, zeros, 2, 1);
     solve("16 in field 4", 4, large, 2, 1);
     solve("cutoff 4", 4, cubic, 4, 4);
-    printf("31 slots: %u\n", locator_solve(4, cubic, 4, 1, roots, LOCATOR_ROOTS, mults, LOCATOR_ROOTS - 1).outcome);
+    printf("63 slots: %u\n", locator_solve(4, cubic, 4, 1, roots, LOCATOR_ROOTS, mults, LOCATOR_ROOTS - 1).outcome);
     printf("inverse of 0: %u\n", locator_inverse(4, 0).outcome);
     return 0;
 }

@@ -97,7 +97,7 @@ static void line(unsigned k, unsigned m, unsigned cutoff, const uint16_t *f, siz
         print(" %u", steps);
         for (unsigned i = 0; i < count; i++)
             print(" %u", roots[i]);
-        note(in, 0, count + steps / 8 * 33);
+        note(in, 0, count + steps / 8 * (DEGREE + 1));
     } else
         note(in, out, (unsigned)n);
     print("\n", 0);

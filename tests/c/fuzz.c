@@ -14,6 +14,10 @@ static const char *const name[CALLS] = {"product", "inverse", "position", "quadr
                                         "salvage", "write", "encode", "check", "prove"};
 #include "fuzz.h"
 
+/* the header says the numbers of the rules */
+_Static_assert(LOCATOR_ROOTS == DEGREE && LOCATOR_COEFFICIENTS == DEGREE + 1 && LOCATOR_RECORD == 7 + 2 * DEGREE, "another limit");
+_Static_assert(LOCATOR_SLOTS == NEW_TABLE && LOCATOR_STORED_SLOTS == STORED_TABLE, "another size of a table");
+
 /* ---- lent memory */
 
 typedef struct { uint16_t *at, *low; size_t n; uint16_t was[LONGEST]; } list;
@@ -55,11 +59,11 @@ static void keep(list *l)
     memcpy(l->was, l->at, l->n * sizeof *l->at);
 }
 
-/* a length that is often the usual one */
-static size_t length(size_t usual)
+/* a length that is often the usual one, or about it, or about the one that was usual before the limit rose */
+static size_t length(size_t usual, size_t before)
 {
     unsigned b = byte();
-    return b < 192 ? usual : b < 224 ? usual + b % 4 - 2 : word() % MOST;
+    return b < 176 ? usual : b < 212 ? usual + b % 5 - 2 : b < 240 ? before + b % 5 - 2 : word() % MOST;
 }
 
 /* ---- the element calls */
@@ -117,7 +121,7 @@ static void check_roots(unsigned m, locator_found found)
 {
     if (found.outcome != 0)
         expect(found.count == 0 && found.steps == 0, "a refusal with values");
-    expect(found.count <= 32 && found.count <= roots.n, "too many roots");
+    expect(found.count <= DEGREE && found.count <= roots.n, "too many roots");
     for (size_t i = 0; i < found.count; i++)
         expect(roots.at[i] >> m == 0 && (i == 0 || roots.at[i - 1] < roots.at[i]), "roots out of order");
     kept_from(&roots, found.count);
@@ -132,7 +136,7 @@ static void step_out(unsigned m, unsigned steps)
         keep(&table);
         s = locator_step(table.at, table.n);
         note(STEP, s.outcome, 50 + s.done);
-        expect(s.outcome == 0 && taken <= m * 32, "a begun table that cannot be stepped");
+        expect(s.outcome == 0 && taken <= m * DEGREE, "a begun table that cannot be stepped");
         if (s.done)
             break;
         expect(table.at[3] == taken + 1 && table.at[0] == m, "a step that is not counted");
@@ -173,11 +177,11 @@ static void by_resultants(const job *j, locator_found a, const uint16_t *found)
 /* the whole call, and the search beside it. The roots are put where they can be compared */
 static locator_found engines(const job *j, uint16_t *found)
 {
-    int full = j->room >= 32 && j->mult_room >= 32;
+    int full = j->room >= DEGREE && j->mult_room >= DEGREE;
     lend_both(j, !j->front);
     locator_found a = locator_solve(j->m, j->n == 0 && j->front ? NULL : coefficients.at, j->n, j->cutoff, j->room == 0 ? NULL : roots.at, j->room,
                                     j->mult_room == 0 ? NULL : mults.at, j->mult_room);
-    note(SOLVE, a.outcome, a.count + a.steps / 8 * 33);
+    note(SOLVE, a.outcome, a.count + a.steps / 8 * (DEGREE + 1));
     expect(a.outcome == (j->out ? j->out : full ? 0 : 7), "another outcome of the whole call");
     check_both(j, a);
     memcpy(found, roots.at, a.count * sizeof *found);
@@ -193,16 +197,9 @@ static locator_found engines(const job *j, uint16_t *found)
     return a;
 }
 
-/* begin, steps until done, finish: the roots and steps of the whole call */
-static void in_steps(const job *j, locator_found a, const uint16_t *found)
+/* steps until done and finish, on the lent table: the roots and steps of the whole call */
+static void to_the_end(const job *j, locator_found a, const uint16_t *found)
 {
-    lend(&table, j->slots, j->old, j->front);
-    unsigned begun = locator_begin(j->m, coefficients.at, j->n, j->cutoff, table.at, j->slots);
-    note(BEGIN, begun, begun == 0 ? table.at[5] : 0);
-    expect(begun == (j->out ? j->out : j->slots != 100 ? 7 : 0), "another outcome of begin");
-    kept_from(&table, begun != 0 ? 0 : j->slots);
-    if (begun != 0 || a.outcome != 0)
-        return;
     step_out(j->m, a.steps);
     lend(&roots, j->room, j->old, !j->front);
     locator_found c = locator_finish(table.at, table.n, roots.at, j->room);
@@ -213,6 +210,25 @@ static void in_steps(const job *j, locator_found a, const uint16_t *found)
     kept_from(&table, 0);
 }
 
+/* begin, steps until done, finish; and the same from the table that begin wrote before the limit rose, where the roots are few enough */
+static void in_steps(const job *j, locator_found a, const uint16_t *found)
+{
+    uint16_t stored[STORED_TABLE];
+    lend(&table, j->slots, j->old, j->front);
+    unsigned begun = locator_begin(j->m, coefficients.at, j->n, j->cutoff, table.at, j->slots);
+    note(BEGIN, begun, begun == 0 ? table.at[5] : 0);
+    expect(begun == (j->out ? j->out : j->slots != NEW_TABLE ? 7 : 0), "another outcome of begin");
+    kept_from(&table, begun != 0 ? 0 : j->slots);
+    if (begun != 0 || a.outcome != 0)
+        return;
+    memcpy(stored, table.at, sizeof stored);
+    to_the_end(j, a, found);
+    if (a.count > STORED_DEGREE)
+        return;
+    lend(&table, STORED_TABLE, stored, !j->front);
+    to_the_end(j, a, found);
+}
+
 static void polynomials(void)
 {
     static job j;
@@ -220,9 +236,9 @@ static void polynomials(void)
     j.m = degree();
     j.cutoff = (uint16_t)(byte() % 8 == 7 ? word() : byte() % 5);
     j.n = polynomial(j.m, j.f, MOST);
-    j.room = length(32);
-    j.mult_room = length(32);
-    j.slots = length(100);
+    j.room = length(DEGREE, STORED_DEGREE);
+    j.mult_room = length(DEGREE, STORED_DEGREE);
+    j.slots = length(NEW_TABLE, STORED_TABLE);
     j.front = byte() % 2;
     j.out = refusal(j.m, j.f, j.n, j.cutoff);
     j.searched = refusal(j.m, j.f, j.n, 0);
@@ -235,18 +251,31 @@ static void polynomials(void)
 
 /* ---- tables that somebody else wrote */
 
+/* is there a table of so many slots, and how far may the sum of its degrees go? */
+static int is_size(size_t slots)
+{
+    return slots == NEW_TABLE || slots == STORED_TABLE;
+}
+
+static unsigned limit_of(size_t slots)
+{
+    return slots < NEW_TABLE ? STORED_DEGREE : DEGREE;
+}
+
 /* what the slots say: is the table sound, is it done, is its first factor above the cutoff stuck? */
 typedef struct { int sound, done, stuck; unsigned sum; } judged;
 
-static judged judge(const uint16_t *t)
+static judged judge(const uint16_t *t, size_t slots)
 {
-    unsigned m = t[0], c = t[1], sum = 0, above = 0, stuck = 0;
-    size_t at = 4;
     judged no = {0, 0, 0, 0};
-    if (!known(m) || c < 1 || c > 3 || t[2] > 32)
+    if (!is_size(slots))
+        return no;
+    unsigned m = t[0], c = t[1], sum = 0, above = 0, stuck = 0, limit = limit_of(slots);
+    size_t at = 4;
+    if (!known(m) || c < 1 || c > 3 || t[2] > limit)
         return no;
     for (unsigned k = 0; k < t[2]; k++) {
-        if (at + 2 > 100 || t[at] > m || t[at + 1] < 1 || t[at + 1] > 32 || at + 2 + t[at + 1] > 100)
+        if (at + 2 > slots || t[at] > m || t[at + 1] < 1 || t[at + 1] > limit || at + 2 + t[at + 1] > slots)
             return no;
         sum += t[at + 1];
         if (!above && t[at + 1] > c) {
@@ -258,29 +287,31 @@ static judged judge(const uint16_t *t)
                 return no;
         at += 2 + t[at + 1];
     }
-    if (sum > 32 || t[3] > m * (sum / (c + 1)))
+    if (sum > limit || t[3] > m * (sum / (c + 1)))
         return no;
-    for (; at < 100; at++)
+    for (; at < slots; at++)
         if (t[at] != 0)
             return no;
     return (judged){1, !above, above && (stuck || t[3] == m * (sum / (c + 1))), sum};
 }
 
-/* a table of factors as the input has them, with perhaps a slot changed; or any slots */
+/* a table of factors as the input has them, with perhaps a slot changed, or a sum that may be one above its limit; or any slots */
 static void write_table(uint16_t *t, size_t n)
 {
     unsigned kind = byte();
     memset(t, 0, n * sizeof *t);
-    if (kind % 8 == 0 || n < 100) {
+    if (kind % 8 == 0 || n < STORED_TABLE) {
         for (size_t i = 0; i < n; i++)
             t[i] = (uint16_t)word();
         return;
     }
-    unsigned m = t[0] = degree(), factors = byte() % 33, sum = 0;
+    unsigned m = t[0] = degree(), limit = limit_of(n) + (kind % 8 == 2), factors = byte() % (limit + 1), sum = 0;
     size_t at = 4;
     t[1] = (uint16_t)(byte() % 3 + 1);
-    for (; t[2] < factors && sum < 32; t[2]++) {
-        unsigned d = byte() % (32 - sum) + 1, level = byte();
+    for (; t[2] < factors && sum < limit; t[2]++) {
+        unsigned d = byte() % (limit - sum) + 1, level = byte();
+        if (at + 2 + d > n)
+            break;
         t[at] = (uint16_t)(known(m) ? level % (m + 1) : level);
         t[at + 1] = (uint16_t)d;
         for (size_t i = 0; i < d; i++)
@@ -290,13 +321,13 @@ static void write_table(uint16_t *t, size_t n)
     }
     t[3] = (uint16_t)(byte() % (m * (sum / (t[1] + 1u)) + 1u));
     if (kind % 8 == 1)
-        t[byte() % 100] = (uint16_t)word();
+        t[byte() % n] = (uint16_t)word();
 }
 
 /* is x a zero of some factor? */
 static int zero_of_some(const uint16_t *t, unsigned x)
 {
-    uint16_t f[33];
+    uint16_t f[LOCATOR_COEFFICIENTS];
     size_t at = 4;
     for (unsigned k = 0; k < t[2]; k++) {
         memcpy(f, t + at + 2, t[at + 1] * sizeof *f);
@@ -311,30 +342,31 @@ static int zero_of_some(const uint16_t *t, unsigned x)
 static void tables(void)
 {
     static uint16_t t[MOST], old[MOST];
-    size_t slots = length(100), room = length(32);
-    int front = byte() % 2;
+    unsigned front = byte() % 4;
+    size_t slots = front / 2 ? length(NEW_TABLE, STORED_TABLE) : length(STORED_TABLE, NEW_TABLE), room = length(DEGREE, STORED_DEGREE);
+    front %= 2;
     write_table(t, slots);
     noise(old, room);
-    judged was = slots == 100 ? judge(t) : (judged){0, 0, 0, 0};
+    judged was = judge(t, slots);
     lend(&table, slots, t, front);
     lend(&roots, room, old, !front);
     locator_found f = locator_finish(table.at, slots, roots.at, room);
     note(FINISH, f.outcome, f.count);
-    expect(f.outcome == (slots != 100 || room < 32 ? 7 : !was.sound ? 8 : !was.done ? 10 : 0) && f.steps == 0, "another outcome of finish");
+    expect(f.outcome == (!is_size(slots) || room < DEGREE ? 7 : !was.sound ? 8 : !was.done ? 10 : 0) && f.steps == 0, "another outcome of finish");
     check_roots(t[0] & 15, f);
     kept_from(&table, 0);
     for (size_t i = 0; i < f.count; i++)
         expect(zero_of_some(t, roots.at[i]), "a number that is no root of a factor");
     locator_stepped s = locator_step(table.at, slots);
     note(STEP, s.outcome, s.done);
-    expect(s.outcome == (slots != 100 ? 7 : !was.sound ? 8 : was.stuck ? 9 : 0), "another outcome of step");
+    expect(s.outcome == (!is_size(slots) ? 7 : !was.sound ? 8 : was.stuck ? 9 : 0), "another outcome of step");
     expect(s.done == (s.outcome == 0 && was.done), "done where it is not");
     if (s.outcome != 0 || s.done) {
         kept_from(&table, 0);
         return;
     }
     kept_from(&table, slots);
-    judged now = judge(table.at);
+    judged now = judge(table.at, slots);
     expect(now.sound && now.sum == was.sum && table.at[3] == t[3] + 1 && table.at[0] == t[0] && table.at[1] == t[1], "a step that breaks the table");
 }
 

@@ -9,7 +9,7 @@
 #include <unistd.h>
 
 /* bytes of an input that are looked at; outcomes are below OUTCOMES, each with so many DETAILS for libFuzzer */
-enum { INPUT = 1024, OUTCOMES = 32, DETAILS = 100 };
+enum { INPUT = 1024, OUTCOMES = 32, DETAILS = 200 };
 
 static unsigned long tally[CALLS][OUTCOMES];
 __attribute__((section("__libfuzzer_extra_counters"))) static uint8_t reached[CALLS * OUTCOMES * DETAILS];
@@ -70,13 +70,13 @@ static uint16_t element(unsigned m, unsigned loose)
     return (uint16_t)(known(m) && !loose ? x % (1u << m) : x);
 }
 
-/* n coefficients, mostly below 36 and always below most: any, or the product of z + r over numbers r, often the
+/* n coefficients, mostly up to two more than are accepted and always below most: any, or the product of z + r over numbers r, often the
    same again, times z^k */
 static size_t polynomial(unsigned m, uint16_t *f, size_t most)
 {
     unsigned kind = byte();
-    size_t n = kind < 250 ? byte() % 36 : word() % most;
-    if (kind % 2 == 0 || !known(m) || n == 0 || n > 33) {
+    size_t n = kind < 250 ? byte() % (DEGREE + 4) : word() % most;
+    if (kind % 2 == 0 || !known(m) || n == 0 || n > DEGREE + 1) {
         for (size_t i = 0; i < n; i++)
             f[i] = element(m, kind % 16 == 0 && byte() % 8 == 0);
         return n;

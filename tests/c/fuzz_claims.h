@@ -2,7 +2,7 @@
    its numbers changed it is accepted exactly if a plain reading of the rules accepts it. Lists may be longer than any polynomial has roots, and multiplicities
    near 2^16 many times, so that a sum of 16 bits would wrap. What is lent stands against pages that cannot be touched. */
 
-enum { BUFFERS = 5, HIGHEST = 33 };
+enum { BUFFERS = 5, HIGHEST = DEGREE + 1 };
 
 static list cofactor, first, second;
 
@@ -133,7 +133,7 @@ static void check_sent(unsigned m, const sent *s, int front)
     unsigned large = some_large(m, s->f, s->nf) || some_large(m, s->r, s->nr) || some_large(m, s->h, s->nh) || some_large(m, s->u, s->nu) || some_large(m, s->v, s->nv);
     unsigned out = !known(m) ? 1 : empty ? 2 : many ? 3 : large ? 4 : top_of(s->f, s->nf) == 0 ? 5 : 0;
     int yes = out == 0 && acceptable(m, s->f, s->nf, s->r, s->nr, s->e, s->ne, s->h, s->nh, s->u, s->nu, s->v, s->nv);
-    note(CHECK, c.outcome, c.accepted + 2 * (unsigned)(s->nr % 40));
+    note(CHECK, c.outcome, c.accepted + 2 * (unsigned)(s->nr % 80));
     expect(c.outcome == out && c.accepted == yes, "another answer of the check");
     list *const lent[] = {&coefficients, &roots, &mults, &cofactor, &first, &second};
     for (size_t i = 0; i < 6; i++)
@@ -149,9 +149,11 @@ static void claims(void)
     int front = byte() % 2;
     memset(&s, 0, sizeof s);
     s.nf = polynomial(m, s.f, MOST);
-    size_t room[BUFFERS] = {length(32), length(32), length(HIGHEST), length(HIGHEST), length(HIGHEST)};
+    size_t room[BUFFERS];
+    for (size_t i = 0; i < BUFFERS; i++)
+        room[i] = i < 2 ? length(DEGREE, STORED_DEGREE) : length(HIGHEST, STORED_DEGREE + 1);
     unsigned out = refusal(m, s.f, s.nf, 0);
-    if (out == 0 && (room[0] < 32 || room[1] < 32 || room[2] < HIGHEST || room[3] < HIGHEST || room[4] < HIGHEST))
+    if (out == 0 && (room[0] < DEGREE || room[1] < DEGREE || room[2] < HIGHEST || room[3] < HIGHEST || room[4] < HIGHEST))
         out = 7;
     noise(old, MOST);
     list *const lent[BUFFERS] = {&roots, &mults, &cofactor, &first, &second};
@@ -161,7 +163,7 @@ static void claims(void)
     locator_proved p = locator_prove(m, s.nf == 0 ? NULL : coefficients.at, s.nf, roots.at, room[0], mults.at, room[1], cofactor.at, room[2], first.at, room[3], second.at,
                                      room[4]);
     note(PROVE, p.outcome, p.count);
-    expect(p.outcome == out && (out == 0 || p.count == 0) && p.count <= 32, "another outcome of the making");
+    expect(p.outcome == out && (out == 0 || p.count == 0) && p.count <= DEGREE, "another outcome of the making");
     kept_from(&coefficients, 0);
     for (size_t i = 0; i < BUFFERS; i++)
         kept_from(lent[i], out != 0 ? 0 : i < 2 ? p.count : HIGHEST);

@@ -35,7 +35,7 @@ static size_t write_file(uint8_t *file)
     size_t n = 0, most = 1 + word() % FILE_BYTES;
     while (n < most) {
         unsigned kind = byte(), m = degree() & 255;
-        size_t count = kind % 4 == 0 ? 0 : polynomial(m, f, 40);
+        size_t count = kind % 4 == 0 ? 0 : polynomial(m, f, DEGREE + 8);
         if (kind % 4 == 0 || n + 5 + 2 * count > most) {
             file[n++] = (uint8_t)byte();
             continue;

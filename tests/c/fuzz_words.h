@@ -116,7 +116,7 @@ static question ask(uint8_t *codeword)
     static uint8_t bytes[MOST];
     unsigned kind = byte(), t = byte() % STRONGEST + 1;
     uint16_t strength = (uint16_t)(kind % 16 == 0 ? word() : kind % 16 == 1 ? byte() % 12 : t);
-    size_t n = length(BLOCK_BYTES);
+    size_t n = length(BLOCK_BYTES, BLOCK_BYTES);
     int front = byte() % 2, right = strength >= 1 && strength <= STRONGEST;
     unsigned errors = write_word(bytes, n, right ? strength : t, codeword);
     if (n == BLOCK_BYTES && kind % 16 != 2)

@@ -6,7 +6,8 @@
 #include <stdlib.h>
 #include <string.h>
 
-enum { DEGREE = 32, ELEMENTS = 2048 };
+/* the limit of polynomials and of new tables, that of stored tables, and the slots of both: four of a head, and three for each factor of degree 1 */
+enum { DEGREE = 64, STORED_DEGREE = 32, NEW_TABLE = 4 + 3 * DEGREE, STORED_TABLE = 4 + 3 * STORED_DEGREE, ELEMENTS = 2048 };
 
 static inline int known(unsigned m)
 {
@@ -73,7 +74,7 @@ static inline unsigned refusal(unsigned m, const uint16_t *f, size_t n, unsigned
         any |= f[i];
         large |= f[i] >> (m & 15);
     }
-    return !known(m) ? 1 : n == 0 ? 2 : n > 33 ? 3 : large ? 4 : !any ? 5 : cutoff > 3 ? 6 : 0;
+    return !known(m) ? 1 : n == 0 ? 2 : n > DEGREE + 1 ? 3 : large ? 4 : !any ? 5 : cutoff > 3 ? 6 : 0;
 }
 
 /* Tr(x), the sum of x^(2^i) for i below m */

@@ -5,14 +5,12 @@
 #include "reference.h"
 #include "resultants_face.h"
 
-enum { LEAST_SLOTS = 32 };
-
 /* one case */
 static void run(uint16_t m)
 {
     size_t n = number(), slots = number();
     list f = lend(n), roots = lend(slots);
-    if (refusal(m, f.at, f.n, 0) == 0 && slots >= LEAST_SLOTS) {
+    if (refusal(m, f.at, f.n, 0) == 0 && slots >= DEGREE) {
         unsigned count = resultants_find(m, LENT(f), LENT(roots));
         printf("%u %zu | %u |", m, n, count);
         for (size_t i = 0; i < slots; i++)

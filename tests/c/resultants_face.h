@@ -1,5 +1,5 @@
 /* Roots by successive resultants, in libresultants_face.a, for tests/c/resultants.c, tests/c/fuzz.c and bench/c/finders.c. crates/resultants_face/src/lib.rt
-   says what it asks: a polynomial that the search accepts, and a list of 32 slots. Nothing is refused here. A slice is a pointer, then a count. */
+   says what it asks: a polynomial that the search accepts, and a list of 64 slots. Nothing is refused here. A slice is a pointer, then a count. */
 #include <stddef.h>
 #include <stdint.h>
 

@@ -7,7 +7,7 @@
 #include "reference.h"
 
 enum { REMAINDER = 1, SQUARE, Z_POWER, TRACE, GCD, QUOTIENT, VALUE, TOP, MONIC };
-enum { MOST_P = 32, MOST_F = 64 };
+enum { MOST_P = DEGREE, MOST_F = 2 * DEGREE };
 
 /* a field's tables, lent by the product where they are first asked for */
 typedef struct { list logs, antilogs; } tables;

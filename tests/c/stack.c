@@ -60,7 +60,7 @@ static void salvage(void)
     failed |= s.outcome != 0 || s.length != sizeof constant;
 }
 
-/* The last 16 or 32 elements of the field; then a room one byte short. */
+/* The last 16 or 64 elements of the field; then a room one byte short. */
 static void write_record(void)
 {
     uint16_t size = (uint16_t)(1u << field), n = size < LOCATOR_ROOTS ? size : LOCATOR_ROOTS, last[LOCATOR_ROOTS];
@@ -118,10 +118,10 @@ static void go(void)
     }
 }
 
-/* f: the product of z + r over 16 or 32 elements r */
+/* f: the product of z + r over 16 or 64 elements r */
 static void split_polynomial(void)
 {
-    unsigned size = 1u << field, degree = size < 32 ? size : 32;
+    unsigned size = 1u << field, degree = size < LOCATOR_ROOTS ? size : LOCATOR_ROOTS;
     memset(f, 0, sizeof f);
     f[0] = 1;
     for (unsigned k = 0; k < degree; k++) {

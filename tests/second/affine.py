@@ -167,7 +167,7 @@ def lists(maker):
 def counts(maker):
     """Numbers of coefficients other than m: one short, one too many, none, those of other fields, many."""
     m = maker.m
-    for n in sorted({0, 1, m - 1, m + 1, m + 2, 2 * m, 33, 34, 300, *field.DEGREES} - {m}):
+    for n in sorted({0, 1, m - 1, m + 1, m + 2, 2 * m, R.MOST_COEFFICIENTS, R.MOST_COEFFICIENTS + 1, 300, *field.DEGREES} - {m}):
         for f in (maker.elements(n), [0] * n, [65535] * n):
             yield maker.case(f, maker.rng.randrange(maker.q))
             yield maker.case(f, 0, 3)

@@ -11,7 +11,7 @@ five buffers, then f. A line is `check` or `make`, the seven numbers, `|`, the
 outcome, and 1 where the claim is accepted, else 0; or the outcome, the number of
 roots, and after a `|` each every slot of the buffers, 42405 where none was
 written. The rules are tried by the sentence that states them; a claim that is
-right is made by division and by Euclid. `tally` fails where an answer, a slip or
+right is made by trial of every element, by division and by Euclid. `tally` fails where an answer, a slip or
 a refusal was never met.
 """
 
@@ -24,6 +24,7 @@ sys.dont_write_bytecode = True
 
 import field
 import reference as R
+import sizes
 
 UNKNOWN = (0, 1, 3, 5, 12, 260, 65535)
 UNWRITTEN = 0xA5A5
@@ -170,13 +171,12 @@ class Maker:
     def claim(self, f):
         """The claim that is right of a polynomial that is not 0."""
         m, roots, mults, h = self.m, [], [], trimmed(f)
-        for r in range(self.q):
+        for r in R.zeros(m, f):
             e = 0
             while divided(m, h, [r, 1])[1] == [] and len(h) > 1:
                 h, e = divided(m, h, [r, 1])[0], e + 1
-            if e:
-                roots.append(r)
-                mults.append(e)
+            roots.append(r)
+            mults.append(e)
         return [m, list(f), roots, mults, h, *self.combined(h)]
 
     def combined(self, h):
@@ -191,7 +191,7 @@ class Maker:
         return [times(m, u, scale) or [0], times(m, v, scale) or [0]]
 
     def polynomials(self, count):
-        """Any; with planted roots, some of them several times; without any; constants; the highest degree."""
+        """Any; with planted roots, some of them several times; without any; constants; the highest degree; sizes about the limits."""
         for number in range(count):
             degree = self.rng.randrange(R.MOST_COEFFICIENTS)
             yield [self.rng.randrange(self.q) for _ in range(degree)] + [self.element()]
@@ -204,12 +204,14 @@ class Maker:
             yield f + [0] * self.rng.randrange(R.MOST_COEFFICIENTS + 1 - len(f))
             yield [self.element()]
             yield [self.rng.randrange(self.q) for _ in range(R.MOST_COEFFICIENTS - 1)] + [self.element()]
+        for n in sizes.COEFFICIENTS:
+            yield [self.element() for _ in range(n)]
 
     def slips(self, right):
         """The claim with one slip each."""
         m, f, roots, mults, h, u, v = right
         any_of = self.rng.randrange
-        yield [m, f, roots, mults, h, u + [0] * any_of(3), v + [0] * any_of(3)] if len(u) + 3 < 33 > len(v) + 3 else right
+        yield [m, f, roots, mults, h, u + [0] * any_of(3), v + [0] * any_of(3)] if max(len(u), len(v)) + 3 < R.MOST_COEFFICIENTS else right
         yield [m, f, roots, mults, h, [u[0] ^ self.element()] + u[1:], v]
         yield [m, f, roots, mults, h, u, [v[0] ^ self.element()] + v[1:]]
         yield [m, f, roots, mults, [h[0] ^ self.element()] + h[1:], u, v]
@@ -236,7 +238,7 @@ class Maker:
     def refused(self, right):
         """Each refusal, and each beside every other that can be."""
         m, f, roots, mults, h, u, v = right
-        long, large = [1] * 34, [self.q]
+        long, large = [1] * (R.MOST_COEFFICIENTS + 1), [self.q]
         for part in range(4):
             for bad in ([], long, large, [65535], long + large):
                 lists = [f, h, u, v]
@@ -249,7 +251,7 @@ class Maker:
                         yield [m, both[0], roots, mults, *both[1:]]
         yield [m, f, roots + large, mults + [1], h, u, v]
         yield [m, [0], roots, mults, h, u, v]
-        yield [m, [0] * 33, large, mults, h, u, v]
+        yield [m, [0] * R.MOST_COEFFICIENTS, large, mults, h, u, v]
         for unknown in UNKNOWN:
             yield [unknown, f, roots, mults, h, u, v]
             yield [unknown, [], roots, mults, h, u, v]
@@ -263,11 +265,13 @@ class Maker:
 
     def turned_away(self, f):
         """Each refusal of the making, and each beside every other that can be."""
-        fewest = [R.MOST_ROOTS] * 2 + [R.MOST_COEFFICIENTS] * 3
-        rooms = [fewest] + [fewest[:i] + [n] + fewest[i + 1 :] for i in range(5) for n in (0, fewest[i] - 1)] + [[0] * 5, [31, 32, 33, 33, 32]]
+        roots, most = R.MOST_ROOTS, R.MOST_COEFFICIENTS
+        fewest = [roots] * 2 + [most] * 3
+        rooms = [fewest] + [fewest[:i] + [n] + fewest[i + 1 :] for i in range(5) for n in (0, fewest[i] - 1)]
+        rooms += [[0] * 5, [roots - 1, roots, most, most, most - 1], [R.STORED_ROOTS] * 2 + [R.STORED_ROOTS + 1] * 3]
         for m in (self.m, *UNKNOWN):
-            for bad in (f, [], [1] * 34, [0] * 34, [self.q], [1] * 32 + [65535], [0], [0] * 33):
-                for room in rooms:
+            for bad in (f, [], [1] * (most + 1), [0] * (most + 1), [self.q], [1] * (most - 1) + [65535], [0], [0] * most):
+                for room in rooms if m == self.m else rooms[::2]:
                     yield [m, bad, *room]
 
 

@@ -26,12 +26,13 @@ import field
 import reference as R
 import records
 import writer
+from sizes import ABOUT
 
 LIMIT = R.MOST_BYTES
 BLANKS = b" \t\r"
 ALLOWED = frozenset(b"0123456789" + BLANKS)
 NONE_ABOVE = 65535  # a larger number counts as this
-MOST_NUMBERS = 35
+MOST_NUMBERS = 2 + R.MOST_ROOTS + 1  # m, the cutoff, and a root too many
 EXAMPLE = b"4 1 1 2 3\n5 1\n4 0 1 6 7\n"
 
 RECORD = "record"
@@ -137,7 +138,7 @@ class Maker:
             if shape == 0:
                 m = rng.choice(writer.UNKNOWN + (65536 + m, 70000))
             elif shape == 1:
-                roots = roots + list(range(roots[-1] + 1, roots[-1] + 40))
+                roots = roots + list(range(roots[-1] + 1, roots[-1] + R.MOST_ROOTS + 1))
             elif shape == 2:
                 roots[-1] = rng.choice((maker.q, 65535, 65536, 65536 + roots[-1]))
             elif shape == 3:
@@ -181,10 +182,10 @@ class Maker:
         return self.damaged(self.good()) if shape == 6 else bytes(self.rng.choice(BLANKS) for _ in range(self.rng.randrange(4))) + b"\n"
 
     def exactly(self, length):
-        """Good lines that fill so many bytes, long ones with blanks at their end; no line feed at the end of the last."""
+        """Good lines of few roots that fill so many bytes, long ones with blanks at their end; no line feed at the end of the last."""
         data = b""
         while length - len(data) > 1200:
-            data += self.good()[:-1].ljust(self.rng.randrange(1000), bytes((self.rng.choice(BLANKS),))) + b"\n"
+            data += self.good(count=self.rng.randrange(9))[:-1].ljust(self.rng.randrange(1000), bytes((self.rng.choice(BLANKS),))) + b"\n"
         return data + b"4 2 3 5 7".ljust(length - len(data))
 
 
@@ -239,10 +240,10 @@ def sizes():
 
 
 def counts():
-    """Every number of numbers, good and bad ones behind the 35th, a letter behind them all."""
+    """Every number of numbers, good and bad ones behind those that count, a letter behind them all."""
     for m, step in ((11, 3), (8, 2), (4, 1), (5, 1)):
-        yield "count-%d" % m, b"".join(text(*(m, 1, *range(0, step * n, step))[:n]) for n in range(1, 60))
-    for n in (30, 31, 32, 33, 34, 35, 40, 300):
+        yield "count-%d" % m, b"".join(text(*(m, 1, *range(0, step * n, step))[:n]) for n in range(1, MOST_NUMBERS + 20))
+    for n in (30, *ABOUT, MOST_NUMBERS, MOST_NUMBERS + 5, 300):
         roots = range(5, 5 + n)
         for more in ((), (1,), (5000,), (70000,), (0, 0, 0)):
             yield "count-behind-%d" % n, text(11, 3, *roots, *more) + text(11, 4, *roots, *more) + text(3, 4, *roots, *more)
@@ -254,7 +255,8 @@ def refusals():
     """Each refusal alone and two together, in each field; cutoffs 0 to 5 and above."""
     for m in field.DEGREES:
         q = field.size(m)
-        long = list(range(min(q, 33))) + [q - 1] * (33 - min(q, 33))
+        many = R.MOST_ROOTS + 1
+        long = list(range(min(q, many))) + [q - 1] * (many - min(q, many))
         lists = ([], [1, 2], [2, 1], [1, 1], [1, q], [q, 1], [q, q], [0], [q - 1], [q - 2, q - 1], long, long[::-1], long[:-1] + [q])
         yield "refused-%d" % m, b"".join(text(degree, cutoff, *roots) for degree in (m, m + 1, 256 + m) for cutoff in (0, 3, 4, 65535) for roots in lists)
         yield "refused-cutoffs-%d" % m, b"".join(text(m, cutoff, 1, 2) for cutoff in writer.CUTOFFS)

@@ -28,6 +28,7 @@ sys.dont_write_bytecode = True
 
 import field
 import reference as R
+import sizes
 
 REMAINDER, SQUARE, Z_POWER, TRACE, GCD, QUOTIENT, VALUE, DEGREE, MONIC = range(1, 10)
 KINDS = {
@@ -41,7 +42,7 @@ KINDS = {
     DEGREE: "degree",
     MONIC: "monic",
 }
-MOST = 32
+MOST = R.MOST_ROOTS
 
 
 def pack(kind, m, k, first, second):
@@ -171,7 +172,7 @@ class Maker:
 
     def size_of(self):
         rng = self.rng
-        return rng.choice((0, 1, 2, 3, MOST - 1, MOST, rng.randrange(MOST + 1), rng.randrange(MOST + 1)))
+        return rng.choice((0, 1, 2, 3, R.STORED_ROOTS, MOST - 1, MOST, *(rng.randrange(most + 1) for most in R.LIMITS.values())))
 
     def with_zeros_on_top(self, f, most):
         return f + [0] * self.rng.randrange(most - len(f) + 1) if len(f) < most else f
@@ -276,11 +277,11 @@ class Maker:
 
 
 def fixed_cases(m):
-    """p = 1 and p of degree 1 for every kind; every k."""
+    """p = 1 and p of degree 1 for every kind, and p about each limit; every k."""
     top = field.size(m) - 1
-    for p in ([], [0], [1], [top], [1, 1], [0, 0], [0] * MOST, [top] * MOST, [1] + [0] * (MOST - 1)):
+    for p in ([], [0], [1], [top], [1, 1], [0] * MOST, [top] * MOST, [1] + [0] * (MOST - 1), [top] * R.STORED_ROOTS, [1] * (R.STORED_ROOTS + 1)):
         n = len(p)
-        for f in ([], [0], [1], [0, 1], [0] * 33, [0] * 32 + [1], [top] * 33, [0] * n, p + [1]):
+        for f in ([], [0], [1], [0, 1], [0] * (MOST + 1), [0] * MOST + [1], [top] * (MOST + 1), [0] * n, p + [1]):
             yield REMAINDER, m, 0, p, f
             yield GCD, m, 0, p, f
         for f in ([0] * n, [1] * n, [top] * n, list(range(1, n + 1)) if n < top else [2] * n):
@@ -291,14 +292,14 @@ def fixed_cases(m):
             yield TRACE, m, k, p, []
         yield QUOTIENT, m, 0, p, p
         yield QUOTIENT, m, 0, p, []
-    for n in range(34):
+    for n in range(MOST + 2):
         yield DEGREE, m, 0, [], [0] * n
-        for place in range(n):
+        for place in range(n) if n < 12 or n in sizes.ABOUT else (0, n - 1):
             yield DEGREE, m, 0, [], [0] * place + [top] + [0] * (n - place - 1)
     for x in (0, 1, 2, top):
-        for f in ([], [0], [7], [0, 1], [1, 1], [0] * 32 + [1], [top] * 33):
+        for f in ([], [0], [7], [0, 1], [1, 1], [0] * MOST + [1], *([top] * n for n in sizes.COEFFICIENTS)):
             yield VALUE, m, 0, [x], f
-    for f in ([1], [top], [0, top], [top] * 33, [1, 0, 0], [3, top, 0], [0] * 32 + [2]):
+    for f in ([1], [top], [0, top], [1, 0, 0], [3, top, 0], [0] * MOST + [2], *([top] * n for n in sizes.COEFFICIENTS)):
         yield MONIC, m, 0, [], f
 
 

@@ -21,7 +21,9 @@ sys.dont_write_bytecode = True
 
 import field
 import reference as R
+import sizes
 import tables
+import writer
 
 LIMIT = R.MOST_BYTES
 EXAMPLE = bytes.fromhex(
@@ -54,6 +56,11 @@ class Maker:
             return record(rng.choice(field.DEGREES), tables.drawn_cutoff(rng), [1 + rng.randrange(15)])
         return record(4, tables.drawn_cutoff(rng), self.makers[4].polynomial())
 
+    def too_many(self):
+        """A number of coefficients that the count byte can say and that is refused."""
+        first = R.MOST_COEFFICIENTS + 1
+        return self.rng.choice((first, first + 1, 255, self.rng.randrange(first, 256)))
+
     def refused(self):
         """A complete record with a refusal, or with several."""
         rng = self.rng
@@ -68,11 +75,11 @@ class Maker:
             elif shape == 1:
                 f = []
             elif shape == 2:
-                f = [rng.randrange(q) for _ in range(rng.choice((34, 35, 255, 34 + rng.randrange(222))))]
+                f = [rng.randrange(q) for _ in range(self.too_many())]
             elif shape == 3 and f:
                 f[rng.randrange(len(f))] = rng.choice((q, q + 1, 65535, q + rng.randrange(q)))
             elif shape == 4:
-                f = [0] * rng.choice((1, 2, 33, 34, 1 + rng.randrange(33)))
+                f = [0] * rng.choice((1, 2, R.MOST_COEFFICIENTS, R.MOST_COEFFICIENTS + 1, 1 + rng.randrange(R.MOST_COEFFICIENTS)))
             elif shape == 5:
                 cutoff = rng.choice((4, 5, 255, 4 + rng.randrange(252)))
             elif shape == 6:
@@ -93,7 +100,7 @@ class Maker:
         while length - len(data) > 300:
             data += self.quick()
         nine = record(8, 1, [1, 2])
-        while length - len(data) > 71:
+        while length - len(data) > writer.MOST_BYTES:
             data += nine + nine
         if (length - len(data)) % 2 == 0:  # each record is odd in length
             data += nine
@@ -135,12 +142,12 @@ class Maker:
         # every value of one header byte, all else as in the example
         yield "every-m", b"".join(record(m, 1, [6, 7, 0, 1]) for m in range(256))
         yield "every-m-empty", b"".join(record(m, 0, []) for m in range(256))
-        yield "every-m-long", b"".join(record(m, 9, [65535] * 34) for m in range(256))
+        yield "every-m-long", b"".join(record(m, 9, [65535] * (R.MOST_COEFFICIENTS + 1)) for m in range(256))
         yield "every-m-constant-0", b"".join(record(m, 0, [0]) for m in range(256))
         yield "every-m-constant-300", b"".join(record(m, 0, [300]) for m in range(256))
         yield "every-cutoff", b"".join(record(4, c, [6, 7, 0, 1]) for c in range(256))
         for m in (8, 11, 5):
-            f = R.from_roots(8, range(3, 20)) if m == 8 else R.from_roots(11, range(100, 132)) if m == 11 else [1]
+            f = R.from_roots(8, range(3, 20)) if m == 8 else R.from_roots(11, range(100, 100 + R.MOST_ROOTS)) if m == 11 else [1]
             yield "every-cutoff-field-%d" % m, b"".join(record(m, c, f) for c in range(256))
         yield "every-cutoff-empty", b"".join(record(4, c, []) for c in range(256))
         yield "every-cutoff-zero", b"".join(record(4, c, [0, 0]) for c in range(256))
@@ -150,7 +157,7 @@ class Maker:
             yield "every-n-high-%d" % m, b"".join(record(m, 2, [1] * n) for n in range(128, 256))
             yield "every-n-over-%d" % m, b"".join(record(m, 2, [1] * n) for n in range(256))
         # each n with a body that ends one byte early, or misses
-        for n in (0, 1, 2, 32, 33, 34, 127, 128, 254, 255):
+        for n in (0, 1, 2, *sizes.ABOUT, 127, 128, 254, 255):
             for m in (4, 5):
                 body = [1] * n
                 yield "n-%d-short-%d" % (n, m), EXAMPLE + record(m, 9, body)[:-1]
@@ -170,15 +177,15 @@ class Maker:
                 (4, [3, 2]),
                 (4, [7]),
                 (4, [0, 1] + [0] * 14 + [1]),
-                (4, [0, 1] + [0] * 30 + [1]),
+                *((4, [0, 1] + [0] * (n - 2) + [1]) for n in R.LIMITS.values()),
                 (11, [0, 1, 1, 0]),
                 (4, [0, 0]),
                 (4, [16, 1]),
-                (8, [0] * 32 + [1]),
+                (8, [0] * R.MOST_ROOTS + [1]),
                 (8, [255]),
-                (11, [2047] * 33),
-                (11, [0] * 33),
-                (11, [1] * 34),
+                *((11, [2047] * n) for n in sizes.ABOUT),
+                (11, [0] * R.MOST_COEFFICIENTS),
+                (11, [1] * (R.MOST_COEFFICIENTS + 1)),
             )
             for c in range(5)
         )
@@ -188,9 +195,10 @@ class Maker:
                 yield "listing", EXAMPLE[:place] + bytes((byte,)) + EXAMPLE[place + 1:]
         # bodies that hold records: who skips a head alone reads them
         inner = record(4, 1, [6, 7, 0, 1])
+        fit = 2 * R.MOST_COEFFICIENTS // len(inner)
         for m in (4, 8, 11, 5):
             for cutoff in (2, 3, 4):
-                for repeats in (1, 2, 3, 5, 6, 30):
+                for repeats in (1, 2, 3, fit, fit + 1, 30):
                     body = (inner * repeats)[:510]
                     words = [body[i] | body[i + 1] << 8 for i in range(0, len(body) - 1, 2)]
                     yield "nested", record(m, cutoff, words) + EXAMPLE
@@ -237,7 +245,7 @@ class Maker:
                 # headers drawn at random, bodies of the stated length
                 data = b""
                 for _ in range(rng.randrange(1, 20)):
-                    n = rng.choice((0, 1, 2, 33, 34, rng.randrange(256)))
+                    n = rng.choice((0, 1, 2, rng.choice(sizes.ABOUT), R.MOST_COEFFICIENTS, rng.randrange(256)))
                     m = rng.choice((4, 8, 11, rng.randrange(256)))
                     top = rng.choice((1, 16, 256, 2048, 65536))
                     body = [rng.randrange(top) for _ in range(n)]

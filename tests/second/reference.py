@@ -8,6 +8,7 @@ comes in is never changed in place.
 """
 
 import functools
+import operator
 
 import field
 
@@ -18,9 +19,13 @@ HOUSE = "house"  # a record's cutoff 0
 
 CONVENTIONS = (0, 1)  # of a position: Goppa, recorders
 HOUSE_CUTOFF = 3
-MOST_COEFFICIENTS = 33
-MOST_ROOTS = 32
-SLOTS = 100
+MOST_ROOTS = 64  # the limit: of a degree, of a table's factors and their sum; the fewest slots of a list
+MOST_COEFFICIENTS = MOST_ROOTS + 1
+STORED_ROOTS = 32  # the limit of tables that were stored before it grew
+HEAD_SLOTS = 4
+SLOTS = HEAD_SLOTS + 3 * MOST_ROOTS  # so many factors of degree 1 fill a table
+STORED_SLOTS = HEAD_SLOTS + 3 * STORED_ROOTS
+LIMITS = {SLOTS: MOST_ROOTS, STORED_SLOTS: STORED_ROOTS}  # a table's limit by its size
 MARK = b"\x4c\x52"
 MOST_BYTES = 65536
 
@@ -166,36 +171,30 @@ _power_logs = {}
 
 
 def power_logs(m):
-    """For each nonzero x the logarithms of x^0, x^1, ..., x^32."""
+    """For each i up to the limit the logarithms of x^i, of every nonzero x in ascending order."""
     if m not in _power_logs:
         tables = field.logs(m)
-        _power_logs[m] = [
-            [tables.log[x] * i % tables.order for i in range(MOST_COEFFICIENTS)]
-            for x in range(1, field.size(m))
-        ]
+        _power_logs[m] = [[l * i % tables.order for l in tables.log[1:]] for i in range(MOST_COEFFICIENTS)]
     return _power_logs[m]
 
 
 def zeros(m, f):
-    """Every element at which f (degree at most 32) is 0, ascending."""
+    """Every element at which f, of a degree within the limit, is 0, ascending."""
     return list(_zeros(m, tuple(trim(f))))
 
 
 @functools.lru_cache(maxsize=20000)
 def _zeros(m, f):
+    """The terms of f are added up at all nonzero elements side by side."""
     tables = field.logs(m)
-    exp = tables.exp
     if not f:
         return list(range(field.size(m)))
-    terms = [(i, tables.log[c]) for i, c in enumerate(f) if c]
-    found = [0] if f[0] == 0 else []
-    for x, row in enumerate(power_logs(m), 1):
-        total = 0
-        for i, l in terms:
-            total ^= exp[l + row[i]]
-        if total == 0:
-            found.append(x)
-    return found
+    totals = [0] * tables.order
+    for i, c in enumerate(f):
+        if c:
+            multiples = tables.exp[tables.log[c]:]  # at l the product of c and a^l
+            totals = list(map(operator.xor, totals, map(multiples.__getitem__, power_logs(m)[i])))
+    return [0] * (f[0] == 0) + [x for x, total in enumerate(totals, 1) if total == 0]
 
 
 def multiplicity(m, f, r):
@@ -358,14 +357,14 @@ def affine(m, coefficients, constant, lent):
 # The work table.
 
 
-def write_table(m, c, steps, factors):
+def write_table(m, c, steps, factors, slots=SLOTS):
     """Factors are (level, monic polynomial)."""
     table = [m, c, len(factors), steps]
     for level, f in factors:
         table += [level, len(f) - 1] + f[:-1]
-    if len(table) > SLOTS:
+    if len(table) > slots:
         raise ValueError("the factors do not fit the table")
-    return tuple(table + [0] * (SLOTS - len(table)))
+    return tuple(table + [0] * (slots - len(table)))
 
 
 def limit(m, c, factors):
@@ -374,26 +373,27 @@ def limit(m, c, factors):
 
 
 def read_table(table):
-    """(m, c, steps, factors) of a sound table of 100 slots; None if not sound."""
-    m, c, count, steps = table[:4]
+    """(m, c, steps, factors) of a sound table of either size; None if not sound."""
+    slots, most = len(table), LIMITS[len(table)]
+    m, c, count, steps = table[:HEAD_SLOTS]
     if m not in field.DEGREES:
         return None
     if not 1 <= c <= 3:
         return None
-    if count > 32:
+    if count > most:
         return None
-    at = 4
+    at = HEAD_SLOTS
     total = 0
     factors = []
     for _ in range(count):
-        if at + 2 > SLOTS:
+        if at + 2 > slots:
             return None
         level, d = table[at], table[at + 1]
         at += 2
         if level > m or d < 1:
             return None
         total += d
-        if total > 32 or at + d > SLOTS:
+        if total > most or at + d > slots:
             return None
         below = list(table[at:at + d])
         at += d
@@ -437,7 +437,7 @@ def split(m, level, p):
 
 def step(table):
     table = tuple(table)
-    if len(table) != SLOTS:
+    if len(table) not in LIMITS:
         return 7, (), table
     sound = read_table(table)
     if sound is None:
@@ -451,14 +451,14 @@ def step(table):
         return 9, (), table
     parts = [(level + 1, f) for f in split(m, level, p) if len(f) > 1]
     factors[place:place + 1] = parts
-    return 0, (), write_table(m, c, steps + 1, factors)
+    return 0, (), write_table(m, c, steps + 1, factors, len(table))
 
 
 def finish(table, lent):
     """The memory is the root list; the table is not written."""
     table = tuple(table)
     lent = tuple(lent)
-    if len(table) != SLOTS or len(lent) < MOST_ROOTS:
+    if len(table) not in LIMITS or len(lent) < MOST_ROOTS:
         return 7, (), lent
     sound = read_table(table)
     if sound is None:

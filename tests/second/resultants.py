@@ -23,7 +23,7 @@ import reference as R
 
 # The constant b of the first map z^2 + b z in each field: a polynomial in z^2 + b z has all its roots by pairs.
 FIRST = {4: 1, 8: 136, 11: 1013}
-DEGREE = R.MOST_COEFFICIENTS - 1
+DEGREE = R.MOST_ROOTS
 
 
 def composed(m, g, b):
@@ -76,7 +76,7 @@ class Maker:
         yield [0] * self.rng.randrange(DEGREE) + [self.unit()]
 
     def case(self, f):
-        """With a list of 32 slots or more."""
+        """With a list of the fewest slots or more."""
         slots = R.MOST_ROOTS + self.rng.choice((0, 0, 1, 7))
         return self.m, list(f), [self.rng.randrange(65536) for _ in range(slots)]
 

@@ -23,8 +23,10 @@ import polynomials
 import records
 import reference as R
 import sheet
+import sizes
 import tables
 import writer
+from sizes import sized
 
 counts = {}
 failures = []
@@ -44,7 +46,7 @@ def stale(n):
 
 def run(m, coefficients, cutoff):
     """Begin, steps until done, finish: (roots, steps, every table)."""
-    outcome, _, table = R.begin(m, coefficients, cutoff, stale(100))
+    outcome, _, table = R.begin(m, coefficients, cutoff, stale(R.SLOTS))
     passed = [table]
     while True:
         outcome, _, table = R.step(passed[-1])
@@ -53,7 +55,7 @@ def run(m, coefficients, cutoff):
         if outcome != 0:
             return outcome, None, passed
         passed.append(table)
-    lent = stale(40)
+    lent = stale(R.MOST_ROOTS + 8)
     _, (s,), memory = R.finish(table, lent)
     check("finish leaves the slots behind", memory[s:] == lent[s:])
     return list(memory[:s]), len(passed) - 1, passed
@@ -162,7 +164,7 @@ def check_figures():
     name = "bench figures"
 
     def figure(m, f, cutoff, roots, steps):
-        lent, mults = stale(35), stale(34)
+        lent, mults = stale(R.MOST_ROOTS + 3), stale(R.MOST_ROOTS + 2)
         outcome, values, memory = R.whole(m, f, cutoff, lent, mults)
         expected = tuple(roots) + lent[len(roots):]
         check(name, (outcome, values, memory[0]) == (0, (len(roots), steps), expected), m, f, cutoff)
@@ -174,8 +176,8 @@ def check_figures():
     passed = run(4, [6, 7, 0, 1], 1)[2]
     third = (4, 1, 2, 3, 3, 1, 1, 3, 2, 6, 1)
     fourth = (4, 1, 3, 4, 3, 1, 1, 4, 1, 2, 4, 1, 3)
-    check(name, passed[3] == third + (0,) * (100 - len(third)))
-    check(name, passed[4] == fourth + (0,) * (100 - len(fourth)))
+    check(name, passed[3] == sized(third, R.SLOTS))
+    check(name, passed[4] == sized(fourth, R.SLOTS))
     figure(4, [1, 0, 0, 1], 1, [1, 6, 7], 4)
     figure(4, [1, 0, 0, 1], 2, [1, 6, 7], 2)
     figure(4, [1, 0, 0, 1], 0, [1, 6, 7], 0)
@@ -188,29 +190,63 @@ def check_figures():
     for cutoff, steps in ((1, 15), (2, 7), (3, 7)):
         figure(4, [0, 1] + [0] * 14 + [1], cutoff, list(range(16)), steps)
     figure(11, [0, 1, 1, 0], 1, [0, 1], 1)
-    lent = stale(32)
+    least, most = R.MOST_ROOTS, R.MOST_COEFFICIENTS
+    lent = stale(least)
     for f, cutoff, number in (([0, 0], 1, 5), ([16, 1], 1, 4), ([3, 2], 4, 6)):
         check(name, R.whole(4, f, cutoff, lent, lent) == (number, (), (lent, lent)))
-        check(name, R.begin(4, f, cutoff, stale(100)) == (number, (), stale(100)))
+        check(name, R.begin(4, f, cutoff, stale(R.SLOTS)) == (number, (), stale(R.SLOTS)))
     check(name, R.whole(4, [3, 2], 3, lent, lent)[0] == 0)
     for f, number in (([0, 0], 5), ([16, 1], 4)):
         check(name, R.search(4, f, lent, lent) == (number, (), (lent, lent)))
     for call in (lambda f: R.whole(4, f, 0, lent, lent)[0], lambda f: R.search(4, f, lent, lent)[0],
-                 lambda f: R.begin(4, f, 0, stale(100))[0]):
-        check(name, call([1] * 33) == 0 and call([1] * 34) == 3 and call([1] * 33 + [0]) == 3 and call([]) == 2)
-    for memory in ((stale(31), stale(32)), (stale(32), stale(31)), (stale(31), stale(31))):
+                 lambda f: R.begin(4, f, 0, stale(R.SLOTS))[0]):
+        check(name, call([1] * most) == 0 and call([1] * (most + 1)) == 3 and call([1] * most + [0]) == 3 and call([]) == 2)
+    for memory in ((stale(least - 1), lent), (lent, stale(least - 1)), (stale(R.STORED_ROOTS), stale(R.STORED_ROOTS))):
         check(name, R.whole(4, [3, 2], 0, *memory) == (7, (), memory))
         check(name, R.search(4, [3, 2], *memory) == (7, (), memory))
     done = run(4, [6, 7, 0, 1], 1)[2][-1]
-    check(name, R.finish(done, stale(32))[0] == 0 and R.finish(done, stale(31)) == (7, (), stale(31)))
-    for table in (done[:99], done + (0,), ()):
-        check(name, R.begin(4, [3, 2], 0, table) == (7, (), table))
-        check(name, R.step(table) == (7, (), table))
-        check(name, R.finish(table, lent) == (7, (), lent))
+    for table in (sized(done, slots) for slots in (*sizes.ABOUT_TABLES, 0)):
+        if len(table) != R.SLOTS:
+            check(name, R.begin(4, [3, 2], 0, table) == (7, (), table))
+        if len(table) in (R.SLOTS, R.STORED_SLOTS):
+            check(name, R.step(table) == (R.DONE, (), table))
+            check(name, R.finish(table, lent) == (0, (3,), (1, 2, 3) + lent[3:]))
+            check(name, R.finish(table, lent[1:]) == (7, (), lent[1:]))
+        else:
+            check(name, R.step(table) == (7, (), table))
+            check(name, R.finish(table, lent) == (7, (), lent))
     double = R.write_table(4, 1, 0, [(0, [0, 0, 1])])  # P = z^2
     outcome, _, table = R.step(double)
     check(name, outcome == 0 and table == R.write_table(4, 1, 1, [(1, [0, 1]), (1, [0, 1])]))
     check(name, R.finish(table, lent) == (0, (1,), (0,) + lent[1:]))
+
+
+def check_sizes():
+    """The numbers of the two sizes of a table, and tables that are sound in one of them alone."""
+    name = "sizes of tables"
+    check(name, R.LIMITS == {196: 64, 100: 32} and R.SLOTS == 196 and R.MOST_COEFFICIENTS == 65 and writer.MOST_BYTES == 135)
+    check(name, sizes.ABOUT == (31, 32, 33, 34, 63, 64, 65, 66) and sizes.ABOUT_TABLES == (99, 100, 101, 195, 196, 197))
+    for m, c, total in itertools.product(field.DEGREES, (1, 2, 3), sizes.ABOUT):
+        for slots, most in R.LIMITS.items():
+            table = R.write_table(m, c, 0, [(0, [1] * total + [1])], slots)
+            outcome, _, after = R.step(table)
+            check(name, outcome == (0 if total <= most else 8) and len(after) == slots, m, c, total, slots)
+            for more, number in ((0, 9 if total <= most else 8), (1, 8)):
+                full = table[:3] + (m * (total // (c + 1)) + more,) + table[4:]
+                check(name, R.step(full) == (number, (), full), m, c, total, slots)
+
+
+def check_stored(rng, count):
+    """A table of the stored size is stepped and finished as the same front in the other."""
+    for m in field.DEGREES:
+        maker = tables.Maker(m, rng)
+        for _ in range(count):
+            f, cutoff = maker.polynomial(R.STORED_ROOTS), rng.randrange(1, 4)
+            roots, steps, passed = run(m, f, cutoff)
+            stored = maker.begun(f, cutoff, R.STORED_SLOTS)
+            check("stored tables: each step", [sized(table, R.SLOTS) for table in stored] == passed, m, f, cutoff)
+            check("stored tables: the roots", R.finish(stored[-1], stale(R.MOST_ROOTS))[1:] == (
+                (len(roots),), tuple(roots) + stale(R.MOST_ROOTS)[len(roots):]), m, f, cutoff)
 
 
 # Order of refusals, stated the other way: the least number that applies.
@@ -220,28 +256,28 @@ def check_orders(rng, count):
     for _ in range(count):
         m = rng.choice((4, 8, 11, 4, 8, 11, 0, 5, 260))
         q = 1 << m if m in (4, 8, 11) else None
-        n = rng.choice((0, 1, 2, 33, 34, 35))
+        n = rng.choice((0, 1, 2, R.MOST_COEFFICIENTS, *sizes.ABOUT[-2:], rng.choice(sizes.ABOUT)))
         top = rng.choice((1, 16, 17, 256, 257, 2048, 2049, 65536))
         f = [rng.randrange(top) for _ in range(n)]
         if f and rng.randrange(8) == 0:
             f[rng.randrange(n)] = 65535
         cutoff = rng.choice((0, 1, 2, 3, 4, 65535))
-        room, mult_room = rng.choice((0, 31, 32, 33)), rng.choice((0, 31, 32, 33))
-        slots = rng.choice((0, 99, 100, 100, 101))
+        room, mult_room = (rng.choice((0, R.MOST_ROOTS, *sizes.ABOUT)) for _ in range(2))
+        slots = rng.choice((0, R.SLOTS, R.SLOTS, *sizes.ABOUT_TABLES))
         applies = {
             1: q is None,
             2: n == 0,
-            3: n > 33,
+            3: n > R.MOST_COEFFICIENTS,
             4: q is not None and any(c >= q for c in f),
             5: n > 0 and sum(f) == 0,
             6: cutoff > 3,
-            7: room < 32 or mult_room < 32,
+            7: room < R.MOST_ROOTS or mult_room < R.MOST_ROOTS,
         }
         first = min([no for no in applies if applies[no]], default=0)
         check("order of refusals", R.whole(m, f, cutoff, stale(room), stale(mult_room))[0] == first, m, f, cutoff, room)
         first = min([no for no in applies if applies[no] and no != 6], default=0)
         check("order of refusals", R.search(m, f, stale(room), stale(mult_room))[0] == first, m, f, room)
-        applies[7] = slots != 100
+        applies[7] = slots != R.SLOTS
         first = min([no for no in applies if applies[no]], default=0)
         check("order of refusals", R.begin(m, f, cutoff, stale(slots))[0] == first, m, f, cutoff, slots)
 
@@ -261,7 +297,7 @@ def check_polynomials(rng, count):
         maker = polynomials.Maker(m, rng)
         for number in range(count):
             p = maker.monic_of(maker.size_of())
-            f = R.trim(maker.any_list(rng.randrange(34)))
+            f = R.trim(maker.any_list(rng.randrange(R.MOST_COEFFICIENTS + 1)))
             quotient, rest = R.divide(m, f, p)
             check("f = quotient p + remainder",
                   R.add(R.multiply(m, quotient, p), rest) == f and len(rest) < len(p), m, p, f)
@@ -274,14 +310,14 @@ def check_polynomials(rng, count):
                 total = R.add(total, term)
                 term = R.remainder(m, R.multiply(m, term, term), p)
             check("Tr(a^i z) modulo p by squaring", total == R.remainder(m, R.trace_polynomial(m, k), p), m, p, k)
-            d = rng.randrange(1, min(31, field.size(m)))
+            d = rng.randrange(1, min(R.MOST_ROOTS, field.size(m)))
             chosen = rng.sample(range(field.size(m)), d + 1)
             i = rng.randrange(d + 1)
             j = rng.randrange(i, d + 1)
             left, right = R.from_roots(m, chosen[:j]), R.from_roots(m, chosen[i:])
             check("the gcd of split polynomials", R.gcd(m, left, R.scale(m, right, maker.nonzero())) ==
                   R.from_roots(m, chosen[i:j]), m, chosen, i, j)
-            if number < 30:
+            if number < 12:
                 every = [x for x in range(field.size(m)) if horner(m, p, x) == 0]
                 check("roots by Horner and the plain product", every == R.zeros(m, p), m, p)
             x = rng.randrange(field.size(m))
@@ -318,13 +354,14 @@ def rank(rows):
 
 def check_affine(rng, count):
     """Roots by Horner on the polynomial written out; the rank of the images of the basis; sums of three roots; the whole call where the degree allows."""
+    terms = R.MOST_ROOTS.bit_length()  # at z, z^2, z^4, .. within the limit
     for m in field.DEGREES:
         maker, q = affine.Maker(m, rng), field.size(m)
         for number in range(count):
             k = number % (m + 1)
             f = maker.of_dimension(k) if number % 3 else maker.elements(m)
             if number % 5 == 0:
-                f[6:] = [0] * len(f[6:])
+                f[terms:] = [0] * len(f[terms:])
             constant = maker.with_roots(f) if number % 4 else rng.randrange(q)
             lent = stale(q + number % 3)
             outcome, values, memory = R.affine(m, f, constant, lent)
@@ -341,7 +378,7 @@ def check_affine(rng, count):
             if s > 2:
                 x, y, z = (rng.choice(roots) for _ in range(3))
                 check("affine: sums of three roots are roots", x ^ y ^ z in roots, m, f, constant)
-            if any(long[:33]) and not any(long[33:]):
+            if any(long[:R.MOST_COEFFICIENTS]) and not any(long[R.MOST_COEFFICIENTS:]):
                 check("affine: the roots of the whole call", list(roots) == R.zeros(m, long), m, f, constant)
 
 
@@ -433,7 +470,7 @@ def check_whole(rng, count):
             f = rng.choice((maker.polynomial, maker.repeated))()
             cutoff = rng.randrange(4)
             c = cutoff or 3
-            lent, old = stale(rng.choice((32, 33, 50))), stale(rng.choice((32, 33, 50)))
+            lent, old = stale(sizes.room(rng)), stale(sizes.room(rng))
             outcome, (s, steps), (memory, mults) = R.whole(m, f, cutoff, lent, old)
             roots = list(memory[:s])
             check("whole call: the list", outcome == 0 and memory[s:] == lent[s:] and roots == sorted(set(roots)))
@@ -450,9 +487,9 @@ def check_whole(rng, count):
 
 def sound_again(table):
     """The paragraph on soundness once more, slot by slot."""
-    slots = list(table)
+    slots, most = list(table), R.LIMITS[len(table)]
     m, c, count, steps = (slots.pop(0) for _ in range(4))
-    if m not in (4, 8, 11) or c not in (1, 2, 3) or not count <= 32:
+    if m not in (4, 8, 11) or c not in (1, 2, 3) or not count <= most:
         return False
     s = 0
     for _ in range(count):
@@ -460,7 +497,7 @@ def sound_again(table):
             return False
         level, d = slots.pop(0), slots.pop(0)
         s += d
-        if not (level <= m and d >= 1 and s <= 32 and d <= len(slots)):
+        if not (level <= m and d >= 1 and s <= most and d <= len(slots)):
             return False
         for _ in range(d):
             if not slots.pop(0) < 2**m:
@@ -491,17 +528,17 @@ def check_tables(rng, count):
                     break
                 check("a step keeps the table sound", sound_again(after), table)
                 table = after
-            outcome, values, memory = R.finish(table, stale(32))
+            outcome, values, memory = R.finish(table, stale(R.MOST_ROOTS))
             if above:
-                check("finish before done gives 10", (outcome, values, memory) == (10, (), stale(32)))
+                check("finish before done gives 10", (outcome, values, memory) == (10, (), stale(R.MOST_ROOTS)))
             else:
                 check("steps keep the union of the roots", list(memory[:values[0]]) == sorted(union), table)
-        for table in rng.sample(every, min(20, len(every))):
-            for damaged in maker.damage(table):
-                truth = sound_again(damaged)
-                check("soundness of damaged tables", truth == (R.read_table(damaged) is not None), damaged)
-                check("an unsound table gives 8", truth != (R.step(damaged)[0] == 8) and
-                      truth != (R.finish(damaged, stale(32))[0] == 8), damaged)
+        damages = [damaged for table in rng.sample(every, min(20, len(every))) for damaged in maker.damage(table)]
+        for damaged in damages + list(maker.sums()):
+            truth = sound_again(damaged)
+            check("soundness of damaged tables", truth == (R.read_table(damaged) is not None), damaged)
+            check("an unsound table gives 8", truth != (R.step(damaged)[0] == 8) and
+                  truth != (R.finish(damaged, stale(R.MOST_ROOTS))[0] == 8), damaged)
 
 
 # Records.
@@ -526,18 +563,20 @@ def check_records(rng, count):
     check("reader", R.read_record(example, 20) == (0, (4, R.HOUSE, 25, 8, 33), ()))
     for at in (33, 34, 100, 10**6):
         check("reader", R.read_record(example, at) == (R.END, (), ()))
-    make = records.record
+    make, most = records.record, R.MOST_COEFFICIENTS
     for data, number in (
         (make(5, 9, []), 1),
-        (make(5, 9, [65535] * 34), 1),
+        (make(5, 9, [65535] * (most + 1)), 1),
         (make(4, 9, []), 2),
-        (make(4, 9, [65535] * 34), 3),
+        *((make(4, 9, [65535] * n), 4 if n <= most else 3) for n in sizes.ABOUT),
+        (make(4, 9, [0] * most), 5),
+        (make(4, 9, [1] * most), 6),
         (make(4, 9, [65535] * 255), 3),
         (make(4, 9, [16, 0]), 4),
         (make(4, 9, [0, 0]), 5),
         (make(4, 4, [1]), 6),
         (make(4, 255, [1]), 6),
-        (make(5, 9, [1] * 34)[:-1], 12),
+        (make(5, 9, [1] * (most + 1))[:-1], 12),
         (make(4, 9, [1] * 255)[:-1], 12),
         (make(4, 9, [], n=1), 12),
         (b"\x00", 12),
@@ -548,12 +587,13 @@ def check_records(rng, count):
     ):
         values = (len(data),) if number < 7 else ()
         check("reader", R.read_record(data, 0) == (number, values, ()), data)
+    check("reader", R.read_record(make(8, 1, [1] * most), 0) == (0, (8, 1, 5, 2 * most, writer.MOST_BYTES), ()))
     check("no roots, no space behind", R.roots_lines(make(4, 1, [8, 1, 1])) == ["1 0 0 0"])
     check("the program stops after 11", R.roots_lines(b"\x00\x00" + example) == ["1 11"])
-    sizes = set()
+    lengths = set()
     for kind, data in records.make_files(rng.randrange(1000), count):
         if kind.startswith("limit"):
-            sizes.add(len(data))
+            lengths.add(len(data))
             cut = R.roots_lines(data[:65536])
             check("what is behind 65,536 bytes is ignored", R.roots_lines(data) == cut, kind)
             if kind == "limit-exact":
@@ -563,7 +603,7 @@ def check_records(rng, count):
                 check("a record behind the limit has no line", cut == exact)
             if kind.startswith("limit-cut-") and "wrong" not in kind and not kind.endswith("-13"):
                 check("a record cut by the limit gives 12", cut[-1].split()[1:] == ["12"], kind)
-    check("sizes about the limit", {65535, 65536, 65537} <= sizes)
+    check("sizes about the limit", {65535, 65536, 65537} <= lengths)
 
 
 # Writing records.
@@ -571,17 +611,18 @@ def check_records(rng, count):
 
 def check_written(m, cutoff, roots):
     """The product is monic, 0 exactly at the roots, and that of logarithms; the record is read back, whatever is behind it, and the rest of the room stays."""
-    lent = bytes(range(100))
+    lent = bytes(range(writer.MOST_BYTES + 29))
     outcome, (length,), memory = writer.write(m, cutoff, roots, lent)
     f = writer.product_of(m, roots)
-    every = R.zeros(m, f) if m == 11 else [x for x in range(field.size(m)) if horner(m, f, x) == 0]
+    plain = m < 11 and (len(f) < 18 or len(f) in sizes.ABOUT)
+    every = [x for x in range(field.size(m)) if horner(m, f, x) == 0] if plain else R.zeros(m, f)
     check("writer: 0 exactly at the roots", every == roots and f[-1] == 1 and len(f) == len(roots) + 1, m, roots)
     check("writer: the product by logarithms", f == R.from_roots(m, roots), m, roots)
     check("writer: length and memory", (outcome, length, memory[length:]) == (0, 7 + 2 * len(roots), lent[length:]), m, roots)
     check("writer: the record", memory[:length] == records.record(m, cutoff, f), m, roots)
     stated = R.HOUSE if cutoff == 0 else cutoff
     check("writer: the reader gives it back", R.read_record(memory, 0) == (0, (m, stated, 5, 2 * len(f), length), ()), m, roots)
-    _, (s, steps), (found, mults) = R.whole(m, R.coefficients_of(memory[5:length]), cutoff, stale(32), stale(32))
+    _, (s, steps), (found, mults) = R.whole(m, R.coefficients_of(memory[5:length]), cutoff, stale(R.MOST_ROOTS), stale(R.MOST_ROOTS))
     check("writer: the whole call lists the roots, each once", list(found[:s]) == roots and set(mults[:s]) <= {1}, m, roots)
     line = text_line(m, cutoff, roots)
     check("lists: the record of a line", lists.jobs(line) == (memory[:length], []), line)
@@ -614,15 +655,15 @@ def check_writer_orders(rng, count):
     """The order of refusals, stated the other way: the first of the order's numbers that applies."""
     for _ in range(count):
         m = rng.choice((4, 8, 11, 4, 8, 11, 0, 5, 260))
-        n = rng.choice((0, 1, 2, 3, 31, 32, 33, 34))
+        n = rng.choice((0, 1, 2, 3, *sizes.ABOUT))
         top = rng.choice((16, 17, 256, 257, 2048, 2049, 65536))
         roots = [rng.randrange(top) for _ in range(n)]
         if rng.randrange(4):
             roots = sorted(set(roots))
-        cutoff, room = rng.choice((0, 1, 3, 4, 65535)), rng.choice((0, 6, 7, 9, 70, 71, 80))
+        cutoff, room = rng.choice((0, 1, 3, 4, 65535)), rng.choice((0, 6, 7, 9, writer.MOST_BYTES - 1, writer.MOST_BYTES, writer.MOST_BYTES + 9))
         lent = rng.randbytes(room)
         outcome = writer.write(m, cutoff, roots, lent)
-        applies = {1: m not in (4, 8, 11), 3: len(roots) > 32, 4: max(roots, default=0) >> min(m, 16) > 0, 25: roots != sorted(set(roots)), 6: cutoff > 3,
+        applies = {1: m not in (4, 8, 11), 3: len(roots) > R.MOST_ROOTS, 4: max(roots, default=0) >> min(m, 16) > 0, 25: roots != sorted(set(roots)), 6: cutoff > 3,
                    7: room < 7 + 2 * len(roots)}
         first = next((number for number in (1, 3, 4, 25, 6, 7) if applies[number]), 0)
         check("writer: order of refusals", outcome[0] == first and (first == 0 or outcome[1:] == ((), lent)), m, cutoff, roots, room)
@@ -638,12 +679,13 @@ def check_lists():
     check("lists: no input", lists.jobs(b"") == (b"", []))
     for data in (b"4 1 1 2 3", b"\t4\r1 1  2 3\r\n\n \n", b"04 001 1 2 0000000000000000000000003\n"):
         check("lists: blanks, line ends and zeros", lists.jobs(data) == (one, []), data)
-    for bad in (b"4", b"65536", b"4 1 1 -2", b"+4 1", b"x", b"4 1\x00", b"4 1 \x80", b"4\x0b1", b"4 1" + b" 1" * 40 + b" x"):
+    for bad in (b"4", b"65536", b"4 1 1 -2", b"+4 1", b"x", b"4 1\x00", b"4 1 \x80", b"4\x0b1", b"4 1" + b" 1" * (R.MOST_ROOTS + 8) + b" x"):
         check("lists: not decimal numbers", lists.jobs(b"\n" + bad + b"\n4 1 1 2 3") == (one, [NOT_DECIMAL % 2]), bad)
-    for asked, number in ((b"65540 1", 1), (b"4 65536", 6), (b"4 0 1 65538", 4), (b"4 1 2 1", 25), (b"4 9 2 1 70000", 4), (b"11 9" + b" 1" * 33, 3), (b"11 9" + b" 1" * 32, 25)):
+    for asked, number in ((b"65540 1", 1), (b"4 65536", 6), (b"4 0 1 65538", 4), (b"4 1 2 1", 25), (b"4 9 2 1 70000", 4), (b"11 9" + b" 1" * (R.MOST_ROOTS + 1), 3),
+                          (b"11 9" + b" 1" * R.MOST_ROOTS, 25)):
         check("lists: refused", lists.jobs(asked) == (b"", ["jobs: line 1: refused under %d" % number]), asked)
-    full = text_line(11, 1, range(33))
-    check("lists: the first 35 numbers count", lists.jobs(full + b" 5 70000")[1] == lists.jobs(full)[1] == ["jobs: line 1: refused under 3"])
+    full = text_line(11, 1, range(R.MOST_ROOTS + 1))
+    check("lists: the numbers behind a root too many", lists.jobs(full + b" 5 70000")[1] == lists.jobs(full)[1] == ["jobs: line 1: refused under 3"])
     told = ["jobs: line 65530 is cut off at byte 65,536: no record of it was written; the rest was not read"]
     check("lists: a line that is cut off", lists.jobs(b"\n" * 65529 + b"4 1 1 2 3") == (b"", told))
     check("lists: its line feed behind the limit", lists.jobs(b"\n" * 65529 + b"4 1 1 2\n") == (b"", told))
@@ -769,8 +811,8 @@ def check_formats(rng):
         check("polynomial cases survive packing", back == [tuple(case)], case)
         polynomials.line(case)
     for _ in range(50):
-        table = tuple(rng.randrange(65536) for _ in range(rng.choice((0, 99, 100, 101))))
-        lent = tuple(rng.randrange(65536) for _ in range(rng.choice((0, 31, 32))))
+        table = tuple(rng.randrange(65536) for _ in range(rng.choice((0, *sizes.ABOUT_TABLES))))
+        lent = tuple(rng.randrange(65536) for _ in range(rng.choice((0, R.MOST_ROOTS - 1, R.MOST_ROOTS))))
         data = tables.pack_begin(4, [6, 7, 0, 1], 1, table) + tables.pack_step(table) + tables.pack_finish(table, lent)
         back = list(tables.Tape(data).answers())
         direct = [(0, R.begin(4, [6, 7, 0, 1], 1, table)), (1, R.step(table)), (2, R.finish(table, lent))]
@@ -795,6 +837,8 @@ def main():
     check_elements()
     check_positions(rng)
     check_figures()
+    check_sizes()
+    check_stored(rng, options.count // 4)
     check_orders(rng, 3 * options.count)
     check_polynomials(rng, options.count)
     check_affine(rng, options.count)

@@ -204,7 +204,7 @@ def one_field(maker):
     """Files of one field alone: accepted, refused under each number, none that competes, one that does behind many."""
     for m in field.DEGREES:
         q = field.size(m)
-        bad = [records.record(m, 1, []), records.record(m, 1, [1] * 34), records.record(m, 1, [q]), records.record(m, 1, [0, 0]), records.record(m, 4, [1])]
+        bad = [records.record(m, 1, []), records.record(m, 1, [1] * (R.MOST_COEFFICIENTS + 1)), records.record(m, 1, [q]), records.record(m, 1, [0, 0]), records.record(m, 4, [1])]
         for k, one in enumerate(bad, 2):
             yield "one-field-refused", one
             yield "one-field-refused", one * k + maker.of(m) + b"".join(bad[:k - 2])

@@ -22,6 +22,7 @@ the list (finish), or of both lists with `|` between (whole and search).
 """
 
 import argparse
+import itertools
 import random
 import struct
 import sys
@@ -31,10 +32,13 @@ sys.dont_write_bytecode = True
 import field
 import polynomials
 import reference as R
+import sizes
+from sizes import sized
 
 BEGIN, STEP, FINISH, WHOLE, SEARCH = range(5)
 OPS = ("begin", "step", "finish", "whole", "search")
 GOOD = [6, 7, 0, 1]  # the first figure of RULES 10
+DRAWN = 150  # the most changes behind its head that are made to a table
 
 
 def pack_numbers(numbers):
@@ -128,46 +132,51 @@ class Maker:
         self.polynomials = polynomials.Maker(m, rng)
 
     def noise(self, n):
-        return [self.rng.randrange(65536) for _ in range(n)]
+        return list(struct.unpack("<%dH" % n, self.rng.randbytes(2 * n)))
 
-    def polynomial(self):
-        """Coefficients of a polynomial that is not zero, 1 to 33 of them."""
+    def limit(self):
+        """The limit of one of the two sizes."""
+        return self.rng.choice(tuple(R.LIMITS.values()))
+
+    def polynomial(self, most=None):
+        """Coefficients of a polynomial that is not zero and of degree at most `most`, else the limit of one of the two sizes."""
         rng = self.rng
+        most = self.limit() if most is None else most
         shape = rng.randrange(8)
         if shape < 3:  # distinct roots
-            d = min(rng.randrange(33), self.q)
+            d = min(rng.randrange(most + 1), self.q)
             f = R.from_roots(self.m, rng.sample(range(self.q), d))
         elif shape == 3:  # neighbours, which share trace bits
-            d = min(rng.randrange(33), self.q)
+            d = min(rng.randrange(most + 1), self.q)
             order = sorted(range(self.q), key=lambda x: field.trace_bits(self.m, x))
             start = rng.randrange(self.q - d + 1)
             f = R.from_roots(self.m, order[start:start + d])
         elif shape < 7:
-            f = self.polynomials.monic_of(rng.randrange(33))
+            f = self.polynomials.monic_of(rng.randrange(most + 1))
         else:
-            f = self.polynomials.any_list(1 + rng.randrange(33))
+            f = self.polynomials.any_list(1 + rng.randrange(most + 1))
             if R.degree(f) is None:
                 f = [1]
         f = R.scale(self.m, f, rng.choice((1, self.polynomials.nonzero())))
-        return self.polynomials.with_zeros_on_top(f, 33)
+        return self.polynomials.with_zeros_on_top(f, most + 1)
 
     def repeated(self):
-        """Coefficients of a product of powers of z + r and of a rest, degree at most 32."""
-        rng = self.rng
-        f, left = [1], rng.choice((32, 1 + rng.randrange(32)))
+        """Coefficients of a product of powers of z + r and of a rest, of degree at most the limit of one of the two sizes."""
+        rng, most = self.rng, self.limit()
+        f, left = [1], rng.choice((most, 1 + rng.randrange(most)))
         for r in rng.sample(range(self.q), min(self.q, 1 + rng.randrange(8))):
-            e = min(left, rng.choice((1, 2, 3, 4, 8, 1 + rng.randrange(32))))
+            e = min(left, rng.choice((1, 2, 3, 4, 8, 1 + rng.randrange(most))))
             f = R.multiply(self.m, f, R.from_roots(self.m, [r] * e))
             left -= e
         if rng.randrange(2):
             f = R.multiply(self.m, f, self.polynomials.monic_of(rng.randrange(left + 1)))
         f = R.scale(self.m, f, rng.choice((1, self.polynomials.nonzero())))
-        return self.polynomials.with_zeros_on_top(f, 33)
+        return self.polynomials.with_zeros_on_top(f, most + 1)
 
-    def begun(self, f, cutoff):
-        """The begun table and its followers, up to the one that is done."""
-        outcome, _, table = R.begin(self.m, f, cutoff, [0] * 100)
-        tables = [table]
+    def begun(self, f, cutoff, slots=R.SLOTS):
+        """The begun table in so many slots, within its limit, and its followers, up to the one that is done."""
+        outcome, _, table = R.begin(self.m, f, cutoff, [0] * R.SLOTS)
+        tables = [sized(table, slots)]
         while outcome == 0:
             outcome, _, table = R.step(tables[-1])
             if outcome == 0:
@@ -202,18 +211,20 @@ class Maker:
     def foreign(self):
         rng = self.rng
         c = 1 + rng.randrange(3)
-        total = rng.choice((0, 1, 2, 31, 32, rng.randrange(33), rng.randrange(33)))
+        slots, limit = rng.choice(tuple(R.LIMITS.items()))
+        total = rng.choice((0, 1, 2, limit - 1, limit, rng.randrange(limit + 1), rng.randrange(limit + 1)))
         factors = self.foreign_factors(total)
         most = R.limit(self.m, c, factors)
         steps = rng.choice((0, most, max(most - 1, 0), rng.randrange(most + 1), rng.randrange(most + 1)))
-        return R.write_table(self.m, c, steps, factors)
+        return R.write_table(self.m, c, steps, factors, slots)
 
     def done_foreign(self):
         """A foreign table on which finish is accepted."""
         rng = self.rng
         c = 1 + rng.randrange(3)
+        slots, limit = rng.choice(tuple(R.LIMITS.items()))
         factors = []
-        left = rng.choice((32, rng.randrange(33)))
+        left = rng.choice((limit, rng.randrange(limit + 1)))
         pool = [rng.randrange(self.q) for _ in range(4)]
         while left:
             d = 1 + rng.randrange(min(c, left))
@@ -224,88 +235,101 @@ class Maker:
             factors.append((rng.randrange(self.m + 1), f))
             left -= d
         most = R.limit(self.m, c, factors)
-        return R.write_table(self.m, c, rng.choice((0, most, rng.randrange(most + 1))), factors)
+        return R.write_table(self.m, c, rng.choice((0, most, rng.randrange(most + 1))), factors, slots)
+
+    def full(self, slots, c):
+        """Sound tables of a size whose sum is at its limit: linear factors and one factor, and the steps at their limit and below it."""
+        m, q, limit = self.m, self.q, R.LIMITS[slots]
+        most = m * (limit // (c + 1))
+        yield R.write_table(m, c, 0, [(m, [q - 1, 1])] * limit, slots)
+        yield R.write_table(m, c, 0, [(0, [0] * limit + [1])], slots)
+        yield R.write_table(m, c, most, [(0, [1, 1])] * limit, slots)
+        yield R.write_table(m, c, most - 1, [(m - 1, [q - 1] * limit + [1])], slots)
+        yield R.write_table(m, c, most, [(0, [0] * limit + [1])], slots)
+        yield R.write_table(m, c, 0, [(m, [1] * limit + [1])], slots)
 
     def edges(self):
-        """Sound tables at the limits of the layout."""
+        """Sound tables at the limits of the layout, of both sizes."""
         m, q = self.m, self.q
         one = [1, 1]
-        for c in (1, 2, 3):
-            yield R.write_table(m, c, 0, [])
-            most = m * (32 // (c + 1))
-            yield R.write_table(m, c, 0, [(m, [q - 1, 1])] * 32)
-            yield R.write_table(m, c, most, [(0, one)] * 32)
-            yield R.write_table(m, c, 0, [(0, [0] * 32 + [1])])
-            yield R.write_table(m, c, most - 1, [(m - 1, [q - 1] * 32 + [1])])
-            yield R.write_table(m, c, most, [(0, [0] * 32 + [1])])
-            yield R.write_table(m, c, 0, [(m, [1] * 32 + [1])])
+        for c, (slots, limit) in itertools.product((1, 2, 3), R.LIMITS.items()):
+            yield R.write_table(m, c, 0, [], slots)
+            yield from self.full(slots, c)
             d = c + 1
             for level in (0, m - 1, m):
                 for below in ([0] * d, [1] + [0] * (d - 1), [q - 1] * d):
                     # one factor just above the cutoff among linear ones
                     tail = [(level, below + [1])]
-                    yield R.write_table(m, c, 0, [(m, one)] * (32 - d) + tail)
-                    yield R.write_table(m, c, 0, tail + [(m, [0, 1])] * (32 - d))
-                    yield R.write_table(m, c, 0, tail)
-                    yield R.write_table(m, c, m - 1, tail)
-                    yield R.write_table(m, c, m, tail)
+                    yield R.write_table(m, c, 0, [(m, one)] * (limit - d) + tail, slots)
+                    yield R.write_table(m, c, 0, tail + [(m, [0, 1])] * (limit - d), slots)
+                for steps in (0, m - 1, m):
+                    yield R.write_table(m, c, steps, tail, slots)
             # first factor above the cutoff at level m, a later one not, and back
             big, small = [1] * d + [1], [0] * d + [1]
-            yield R.write_table(m, c, 0, [(m, big), (0, small)])
-            yield R.write_table(m, c, 0, [(0, big), (m, small)])
-            yield R.write_table(m, c, 0, [(m, one), (0, big), (m, small)])
+            yield R.write_table(m, c, 0, [(m, big), (0, small)], slots)
+            yield R.write_table(m, c, 0, [(0, big), (m, small)], slots)
+            yield R.write_table(m, c, 0, [(m, one), (0, big), (m, small)], slots)
+
+    def sums(self):
+        """Tables of either size whose sum is about either limit: sound in one size and not in the other, and in none. Some are cut."""
+        m = self.m
+        for c, total in itertools.product((1, 2, 3), sizes.ABOUT):
+            for degrees in ([total], [total - 1, 1], [1, total - 1], [total // 2, total - total // 2], [c] * (total // c) + [total % c] * (total % c > 0)):
+                factors = [(0, [1] * d + [1]) for d in degrees]
+                for steps in (0, m * (total // (c + 1)), m * (total // (c + 1)) + 1):
+                    for slots in sizes.TABLES:
+                        yield sized(R.write_table(m, c, steps, factors, 2 * R.SLOTS), slots)
 
     def damage(self, table):
-        """One slot of the table changed, every slot in turn."""
+        """One slot of the table changed: its head by every value, and at most so many changes behind it."""
         rng, m, q = self.rng, self.m, self.q
         m_now, c, steps, factors = R.read_table(table)
         most = R.limit(m_now, c, factors)
-        changes = []
+        head, changes = [], []
         for value in (0, 1, 2, 3, 4, 5, 7, 8, 9, 10, 11, 12, 13, 16, 260, 264, 267, 65535):
-            changes.append((0, value))
+            head.append((0, value))
         for value in (0, 1, 2, 3, 4, 5, 16, 257, 65535):
-            changes.append((1, value))
-        for value in (0, len(factors) - 1, len(factors) + 1, 31, 32, 33, 256 + len(factors), 65535):
-            changes.append((2, max(value, 0)))
-        for value in (0, steps + 1, most - 1, most, most + 1, m * 32, 32768, 65535):
-            changes.append((3, max(value, 0)))
-        at = 4
+            head.append((1, value))
+        for value in (0, len(factors) - 1, len(factors) + 1, *sizes.ABOUT, 256 + len(factors), 65535):
+            head.append((2, max(value, 0)))
+        for value in (0, steps + 1, most - 1, most, most + 1, m * R.LIMITS[len(table)], 32768, 65535):
+            head.append((3, max(value, 0)))
+        at = R.HEAD_SLOTS
         for level, f in factors:
             d = len(f) - 1
             for value in (0, level + 1, m - 1, m, m + 1, 256, 65535):
                 changes.append((at, value))
-            for value in (0, d - 1, d + 1, 32, 33, 256 + d, 65534, 65535):
+            for value in (0, d - 1, d + 1, R.LIMITS[len(table)], R.LIMITS[len(table)] + 1, 256 + d, 65534, 65535):
                 changes.append((at + 1, value))
             for place in range(at + 2, at + 2 + d):
                 for value in (q - 1, q, q + rng.randrange(q), 65535, rng.randrange(q)):
                     changes.append((place, value))
             at += 2 + d
-        for place in range(at, 100):
+        for place in range(at, len(table)):
             changes.append((place, rng.choice((1, q - 1, q, 65535))))
-        for place, value in changes:
+        for place, value in head + rng.sample(changes, min(DRAWN, len(changes))):
             if table[place] != value:
                 yield table[:place] + (value,) + table[place + 1:]
 
     def bad_lists(self):
         """Coefficients that meet 2 to 5, or just do not."""
-        q = self.q
+        q, most = self.q, R.MOST_COEFFICIENTS
         return (
             GOOD,
             [],
-            [1] * 34,
-            [0] * 34,
-            [1] * 33 + [0],
-            [q] * 34,
+            *([1] * n for n in sizes.ABOUT),
+            [0] * (most + 1),
+            [1] * most + [0],
+            [q] * (most + 1),
             [1] * 255,
             [1] * 256 + [0] * 4,
             [q, 1],
-            [1] * 32 + [q],
-            [0] * 32 + [65535],
+            [1] * (most - 1) + [q],
+            [0] * (most - 1) + [65535],
             [0, q + 1],
             [0],
-            [0] * 33,
-            [1] * 33,
-            [0] * 32 + [1],
+            [0] * most,
+            [0] * (most - 1) + [1],
             [q - 1],
         )
 
@@ -313,37 +337,43 @@ class Maker:
         rng, m = self.rng, self.m
         for number in range(count):
             f = self.polynomial()
-            yield pack_begin(m, f, drawn_cutoff(rng), self.noise(100))
+            yield pack_begin(m, f, drawn_cutoff(rng), self.noise(R.SLOTS))
         # every refusal, and each with those behind it in the order
         bad_lists = self.bad_lists()
         for degree in (m, 0, 1, 5, 13, 255, 256 + m, 65535):
             known = degree == m
             for f in bad_lists:
-                for cutoff in (2, 3, 4, 256, 65535) if known else (2, 4):
-                    for slots in (100, 99, 101, 0) if known else (100, 99):
+                for cutoff in (2, 3, 4, 65535) if known else (2, 4):
+                    for slots in (R.SLOTS, R.SLOTS - 1, R.STORED_SLOTS, 0) if known else (R.SLOTS, R.STORED_SLOTS):
                         yield pack_begin(degree, f, cutoff, self.noise(slots))
-        for slots in (1, 3, 4, 50, 200, 356):
+        for slots in (1, 3, 4, 50, *sizes.ABOUT_TABLES, 256 + R.SLOTS, 2 * R.SLOTS):
             yield pack_begin(m, GOOD, 2, self.noise(slots))
 
     def wholes(self, count):
         """The whole call and the search, accepted and refused."""
         rng, m = self.rng, self.m
-        powers = [R.from_roots(m, [r] * e) for r in (0, 1, self.q - 1) for e in (1, 2, 31, 32)]
+        powers = [R.from_roots(m, [r] * e) for r in (0, 1, self.q - 1) for e in (1, 2, R.MOST_ROOTS - 1, R.MOST_ROOTS)]
         repeated = powers + [self.repeated() for _ in range(count)]
         for f in [self.polynomial() for _ in range(count)] + repeated:
-            room, mult_room = rng.choice((32, 33, 40)), rng.choice((32, 33, 40))
+            room, mult_room = sizes.room(rng), sizes.room(rng)
             yield pack_whole(m, f, drawn_cutoff(rng), self.noise(room), self.noise(mult_room))
             yield pack_search(m, f, self.noise(room), self.noise(mult_room))
+        least = R.MOST_ROOTS
+        short = ((least - 1, least), (least, least - 1), (0, least + 8), (least + 8, 0), (0, 0))
         for degree in (m, 0, 1, 5, 13, 256 + m, 65535):
+            known = degree == m
             for f in self.bad_lists():
-                for rooms in ((32, 32), (31, 32), (32, 31), (0, 40), (40, 0), (0, 0)):
-                    for cutoff in (2, 3, 4, 65535):
+                for rooms in ((least, least), *(short if known else short[:2])):
+                    for cutoff in (2, 3, 4, 65535) if known else (2, 4):
                         yield pack_whole(degree, f, cutoff, *map(self.noise, rooms))
                     yield pack_search(degree, f, *map(self.noise, rooms))
+        for rooms in itertools.product(sizes.ABOUT, repeat=2):
+            yield pack_whole(m, GOOD, 2, *map(self.noise, rooms))
+            yield pack_search(m, GOOD, *map(self.noise, rooms))
 
     def both(self, table, room=None):
         """The table for step and for finish."""
-        room = self.rng.choice((32, 32, 33, 40)) if room is None else room
+        room = sizes.room(self.rng) if room is None else room
         yield pack_step(table)
         yield pack_finish(table, self.noise(room))
 
@@ -353,8 +383,9 @@ class Maker:
         yield from self.wholes(count)
         bases = []
         for number in range(count):
-            tables = self.begun(self.polynomial(), drawn_cutoff(rng))
-            if number < 40:
+            slots = sizes.TABLES[number % 2]
+            tables = self.begun(self.polynomial(R.LIMITS[slots]), drawn_cutoff(rng), slots)
+            if number < 24:
                 for table in tables:
                     yield from self.both(table)
             else:
@@ -362,44 +393,48 @@ class Maker:
                 yield from self.both(tables[-1])
             bases.append(rng.choice(tables))
         edges = list(self.edges())
-        for table in edges:
+        for table in edges + list(self.sums()):
             yield from self.both(table)
         foreign = [self.foreign() for _ in range(count)]
         foreign += [self.done_foreign() for _ in range(count)]
         for number, table in enumerate(foreign):
             yield from self.both(table)
-            if number % 8 == 0:  # and what its steps make of it
+            if number % 12 == 0:  # and what its steps make of it
                 outcome, _, table = R.step(table)
                 while outcome == 0:
                     yield from self.both(table)
                     outcome, _, table = R.step(table)
-        # the table of the first figure with its followers, a full one, a few of each kind
-        chosen = [t for c in (1, 2, 3) for t in self.begun(GOOD, c)]
-        chosen += rng.sample(bases, min(3, count)) + rng.sample(foreign, min(3, count))
-        chosen += [edges[1], edges[3]]
+        # the table of the first figure with its followers, full ones, a few of each kind
+        chosen = [t for c, slots in ((1, R.SLOTS), (2, R.STORED_SLOTS), (3, R.SLOTS)) for t in self.begun(GOOD, c, slots)]
+        chosen += rng.sample(bases, min(4, count)) + rng.sample(foreign, min(4, count))
+        chosen += [t for slots in sizes.TABLES for t in itertools.islice(self.full(slots, 1), 2)]
         for table in chosen:
             for damaged in self.damage(table):
                 yield from self.both(damaged)
-        # lengths and rooms, on tables that are done, not done, not sound
+        yield from self.lengths()
+        for number in range(count):
+            yield from self.both(tuple(self.noise(sizes.TABLES[number % 2])))
+
+    def lengths(self):
+        """Lengths and rooms, on tables that are done, not done, not sound."""
+        m = self.m
         done = self.begun(GOOD, 1)[-1]
         fresh = self.begun(GOOD, 1)[0]
         stuck = R.write_table(m, 1, 0, [(m, [1, 1, 1])])
-        unsound = done[:99] + (1,)
-        for table in (done, fresh, stuck, unsound, tuple(self.noise(100)), (0,) * 100):
-            lengths = (table, table[:99], table + (0,), (), table[:1], table[:4], table + table)
-            for cut in lengths:
+        unsound = done[:R.STORED_SLOTS - 1] + (1,)
+        for table in (done, fresh, stuck, unsound, tuple(self.noise(R.SLOTS)), ()):
+            for slots in (0, 1, 4, *sizes.ABOUT_TABLES, 256 + R.STORED_SLOTS, 2 * R.SLOTS):
+                cut = sized(table, slots)
                 yield pack_step(cut)
-                for room in (0, 1, 31, 32, 33, 100):
+                for room in (0, 1, *sizes.ABOUT, 2 * R.MOST_ROOTS) if slots in R.LIMITS else (0, R.MOST_ROOTS - 1, R.MOST_ROOTS):
                     yield pack_finish(cut, self.noise(room))
-        for _ in range(count):
-            yield from self.both(tuple(self.noise(100)))
 
     def house(self, count):
         """Cutoff 0, which stands for the house default: begin and the whole call, accepted and refused."""
         for f in [self.polynomial() for _ in range(count)] + list(self.bad_lists()) + [GOOD]:
             for degree in (self.m, 5):
-                yield pack_begin(degree, f, 0, self.noise(100))
-                yield pack_whole(degree, f, 0, self.noise(32), self.noise(32))
+                yield pack_begin(degree, f, 0, self.noise(R.SLOTS))
+                yield pack_whole(degree, f, 0, self.noise(R.MOST_ROOTS), self.noise(R.MOST_ROOTS))
 
 
 def make_cases(seed, count):
@@ -413,10 +448,11 @@ def make_cases(seed, count):
 def tally(data):
     counts = {}
     for op, answer in Tape(data).answers():
-        key = (op, str(answer[0]))
+        slots = len(answer[2]) if op == STEP and len(answer[2]) in R.LIMITS else 0
+        key = (op, slots, str(answer[0]))
         counts[key] = counts.get(key, 0) + 1
-    for op, outcome in sorted(counts):
-        print("%s, outcome %s: %d" % (OPS[op], outcome, counts[op, outcome]))
+    for op, slots, outcome in sorted(counts):
+        print("%s%s, outcome %s: %d" % (OPS[op], " of %d slots" % slots if slots else "", outcome, counts[op, slots, outcome]))
     print("cases: %d" % sum(counts.values()))
 
 

@@ -23,7 +23,6 @@ import field
 import reference as R
 
 TESTS = (1, 3, 4, 25, 6, 7)  # in order
-MOST_BYTES = 71  # of a record that is written
 UNKNOWN = (0, 1, 3, 5, 7, 12, 255, 256, 260, 264, 267, 65535)
 CUTOFFS = (0, 1, 2, 3, 4, 5, 255, 256, 257, 259, 32768, 65535)
 
@@ -39,6 +38,9 @@ def most_roots(m):
 def length_of(count):
     """The bytes of the record of so many roots."""
     return 7 + 2 * count
+
+
+MOST_BYTES = length_of(R.MOST_ROOTS)  # of a record that is written
 
 
 def product_of(m, roots):
@@ -151,9 +153,9 @@ def cutoffs(maker):
 
 def rooms(maker):
     """Rooms that are empty, short, exact and longer."""
-    for n in (0, 1, 5, maker.most - 1, maker.most):
+    for n in (0, 1, 5, min(R.STORED_ROOTS, maker.q - 2), maker.most - 1, maker.most):
         length = length_of(n)
-        for room in sorted({0, 1, 2, 4, 5, 6, 7, length - 2, length - 1, length, length + 1, length + 2, length + 63, 71, 300}):
+        for room in sorted({0, 1, 2, 4, 5, 6, 7, length - 2, length - 1, length, length + 1, length + 2, length + 63, MOST_BYTES, 300}):
             yield maker.case(maker.roots(n), room=room)
 
 
@@ -183,8 +185,9 @@ def outside(maker):
 
 
 def many(maker):
-    """More than 32 roots, ascending as far as there are so many numbers, and counts whose low byte is small."""
-    for n in (33, 34, 35, 64, 65, 255, 256, 257, 259, 288, 1000):
+    """More roots than there may be, ascending as far as there are so many numbers, and counts whose low byte is small."""
+    most = R.MOST_ROOTS
+    for n in (most + 1, most + 2, most + 3, 2 * most, 2 * most + 1, 255, 256, 257, 259, 256 + most, 1000):
         for room in (None, MOST_BYTES, 0):
             yield maker.case(range(n), room=room)
         yield maker.case(sorted(maker.rng.randrange(maker.q) for _ in range(n)), room=300)
@@ -196,7 +199,8 @@ def together(maker):
     for unknown, long, large, mixed, high, short in itertools.product((False, True), repeat=6):
         roots = maker.roots(8)
         if long:
-            roots = list(range(33)) if maker.q > 33 else roots + [maker.q - 1] * 25
+            many_roots = R.MOST_ROOTS + 1
+            roots = list(range(many_roots)) if maker.q > many_roots else roots + [maker.q - 1] * (many_roots - len(roots))
         if large:
             roots[-1] = maker.rng.choice((maker.q, 65535))
         if mixed:
@@ -209,7 +213,7 @@ def together(maker):
 def unknown_fields(maker):
     """Field degrees that there are not, also such as have the low byte of one that there is."""
     for m in UNKNOWN:
-        for roots in ([], [1, 2, 3], [3, 2, 1], [65535], [0] * 40):
+        for roots in ([], [1, 2, 3], [3, 2, 1], [65535], [0] * (R.MOST_ROOTS + 8)):
             yield maker.case(roots, room=maker.rng.choice((0, 7, 13, 100)), m=m)
 
 

@@ -84,7 +84,7 @@ fn main() -> Result<(), Refusal> {
     solve("16 in field 4", 4, &[16, 1], 1);
     solve("cutoff 4", 4, &cubic, 4);
     println!(
-        "31 slots: {}",
+        "63 slots: {}",
         outcome(locator::solve(
             4,
             &cubic,

@@ -27,18 +27,21 @@ pub use field::Field;
 /// The version, that of include/locator.h.
 pub const VERSION: &str = env!("CARGO_PKG_VERSION");
 
-/// The slots of a work table.
-pub const SLOTS: usize = 100;
+/// The slots of a new work table.
+pub const SLOTS: usize = 196;
+/// The slots of a work table that was stored when polynomials had a degree of at most 32: [`step`] and [`finish`] take
+/// it too.
+pub const STORED_SLOTS: usize = 100;
 /// The fewest slots of a root list.
-pub const ROOTS: usize = 32;
+pub const ROOTS: usize = 64;
 /// The most coefficients of a polynomial.
-pub const COEFFICIENTS: usize = 33;
+pub const COEFFICIENTS: usize = 65;
 /// Slots that are enough for the roots of an affine polynomial in any field.
 pub const ELEMENTS: usize = 2048;
 /// The bytes of a word of the block corrector and encoder.
 pub const WORD: usize = 256;
 /// The most bytes of a record that [`write()`] makes.
-pub const RECORD: usize = 71;
+pub const RECORD: usize = 135;
 
 /// Why an input is turned away, under its number (docs/RULES.md section 8). Numbers that no call of this crate can
 /// give are not here: 11 and 12 are of job records, and 21 is of a convention that there is not, which a
@@ -50,7 +53,7 @@ pub enum Refusal {
     Field = 1,
     /// There are no coefficients.
     Empty = 2,
-    /// There are more than 33 coefficients, or more than 32 roots of a record.
+    /// There are more than 65 coefficients, or more than 64 roots of a record.
     Long = 3,
     /// An element, a coefficient or a root is 2^m or more.
     Element = 4,
@@ -58,8 +61,8 @@ pub enum Refusal {
     AllZero = 5,
     /// The cutoff is above 3.
     Cutoff = 6,
-    /// The root list has under 32 slots (of an affine polynomial under 2^m), the table has not 100, or the room for a
-    /// salvaged file or a record is shorter than that.
+    /// The root list has under 64 slots (of an affine polynomial under 2^m), the table has not 196 (for step and
+    /// finish: nor 100), or the room for a salvaged file or a record is shorter than that.
     Room = 7,
     /// The table is not sound.
     Unsound = 8,
@@ -104,11 +107,11 @@ impl Refusal {
         match self {
             Field => "there is no field of this degree",
             Empty => "there are no coefficients",
-            Long => "there are more than 33 coefficients, or 32 roots of a record",
+            Long => "there are more than 65 coefficients, or 64 roots of a record",
             Element => "an element, a coefficient or a root is 2^m or more",
             AllZero => "every coefficient is 0",
             Cutoff => "the cutoff is above 3",
-            Room => "a buffer is too small, or a table has not 100 slots",
+            Room => "a buffer is too small, or a table has neither 196 nor 100 slots",
             Unsound => "the table is not sound",
             Stuck => "the table cannot be stepped",
             NotDone => "the table is not done",
@@ -363,12 +366,12 @@ pub fn affine<'a>(
     })
 }
 
-/// Begins a work table.
+/// Begins a work table of [`SLOTS`] slots.
 pub fn begin(m: u16, coeffs: &[u16], cutoff: u16, table: &mut [u16]) -> Result<(), Refusal> {
     accepted(face::begin(m, coeffs, cutoff, table))
 }
 
-/// One step of a work table.
+/// One step of a work table of [`SLOTS`] or [`STORED_SLOTS`] slots.
 pub fn step(table: &mut [u16]) -> Result<Step, Refusal> {
     let stepped = face::step(table);
     accepted(stepped.outcome).map(|()| {
@@ -380,7 +383,7 @@ pub fn step(table: &mut [u16]) -> Result<Step, Refusal> {
     })
 }
 
-/// The roots of a work table that is done.
+/// The roots of a work table that is done, of [`SLOTS`] or [`STORED_SLOTS`] slots.
 pub fn finish<'a>(table: &[u16], roots: &'a mut [u16]) -> Result<&'a [u16], Refusal> {
     let found = face::finish(table, roots);
     accepted(found.outcome)?;
@@ -471,7 +474,7 @@ pub fn salvage<'a>(file: &[u8], kept: &'a mut [u8]) -> Result<&'a [u8], Refusal>
     Ok(&kept[..salvaged.length])
 }
 
-/// The job record of a field, a cutoff and 0 to 32 strictly ascending roots, at the front of `room` ([`RECORD`] bytes
+/// The job record of a field, a cutoff and 0 to 64 strictly ascending roots, at the front of `room` ([`RECORD`] bytes
 /// are enough for any): its polynomial is the monic one with exactly these roots, each simple. What is behind it is
 /// not written.
 ///

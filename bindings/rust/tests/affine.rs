@@ -86,9 +86,9 @@ fn one_root_differs_from_none() {
 fn the_whole_call_finds_the_same_within_its_limit() {
     let (mut list, mut short, mut mults) = ([0; ELEMENTS], [0; ROOTS], [0; ROOTS]);
     for constant in 0..2048 {
-        let mut dense = [0; 33];
-        (dense[0], dense[1], dense[2], dense[16], dense[32]) = (constant, 7, 1000, 3, 1);
-        let coeffs = [7, 1000, 0, 0, 3, 1, 0, 0, 0, 0, 0];
+        let mut dense = [0; COEFFICIENTS];
+        (dense[0], dense[1], dense[2], dense[16], dense[64]) = (constant, 7, 1000, 3, 1);
+        let coeffs = [7, 1000, 0, 0, 3, 0, 1, 0, 0, 0, 0];
         let space = affine(11, &coeffs, constant, &mut list).unwrap();
         let whole = solve(11, &dense, 2, &mut short, &mut mults).unwrap();
         assert_eq!(space.roots(), whole.roots.distinct);

@@ -75,8 +75,8 @@ fn quadratics_have_none_a_double_or_two_roots() {
 
 #[test]
 fn the_engines_agree_and_write_the_roots_only() {
-    let (mut list, mut mults) = ([999; 40], [888; 40]);
-    let (mut seen, mut counted) = ([999; 40], [888; 40]);
+    let (mut list, mut mults) = ([999; ROOTS + 8], [888; ROOTS + 8]);
+    let (mut seen, mut counted) = ([999; ROOTS + 8], [888; ROOTS + 8]);
     let roots = Roots {
         distinct: &[1, 2, 3],
         multiplicities: &[1, 1, 1],
@@ -92,10 +92,10 @@ fn the_engines_agree_and_write_the_roots_only() {
 #[test]
 fn repeated_roots_have_their_multiplicity() {
     let shapes: [&[(u16, u16)]; 4] = [
-        &[(7, 32)],
+        &[(7, 64)],
         &[(0, 2), (3, 3)],
-        &[(1, 1), (5, 16), (9, 15)],
-        &[(0, 31), (2, 1)],
+        &[(1, 1), (5, 32), (9, 31)],
+        &[(0, 63), (2, 1)],
     ];
     for m in [4, 8, 11] {
         for shape in shapes {
@@ -135,12 +135,35 @@ fn steps_until_done_give_the_whole_call() {
 }
 
 #[test]
+fn a_stored_table_is_stepped_and_finished_under_its_own_limit() {
+    let mut table = [0; STORED_SLOTS];
+    table[..9].copy_from_slice(&[4, 1, 1, 0, 0, 3, 6, 7, 0]);
+    let mut taken = 0;
+    while step(&mut table) == Ok(Step::Taken) {
+        taken += 1;
+    }
+    assert_eq!(taken, 4);
+    assert_eq!(finish(&table, &mut [0; 32]), Err(Refusal::Room));
+    assert_eq!(finish(&table, &mut [0; ROOTS]), Ok(&[1, 2, 3][..]));
+    for (degree, slots, outcome) in [
+        (32, STORED_SLOTS, Ok(Step::Taken)),
+        (33, STORED_SLOTS, Err(Refusal::Unsound)),
+        (64, SLOTS, Ok(Step::Taken)),
+        (65, SLOTS, Err(Refusal::Unsound)),
+    ] {
+        let mut table = vec![0; slots];
+        table[..6].copy_from_slice(&[11, 3, 1, 0, 0, degree]);
+        assert_eq!(step(&mut table), outcome, "degree {degree}, {slots} slots");
+    }
+}
+
+#[test]
 fn every_refusal_has_its_number_and_writes_nothing() {
     let (mut list, mut mults) = ([999; ROOTS], [888; ROOTS]);
     let calls: [(u16, &[u16], u16); 6] = [
         (1120, &CUBIC, 2),
         (4, &[], 2),
-        (4, &[1; 34], 2),
+        (4, &[1; COEFFICIENTS + 1], 2),
         (4, &[16, 1], 2),
         (4, &[0, 0], 2),
         (4, &CUBIC, 4),
@@ -154,13 +177,21 @@ fn every_refusal_has_its_number_and_writes_nothing() {
         );
         assert_eq!((list, mults), ([999; ROOTS], [888; ROOTS]));
     }
-    for (room, mult_room) in [(31, 32), (32, 31), (31, 31)] {
+    for (room, mult_room) in [(63, 64), (64, 63), (32, 32)] {
         let (roots, mults) = (&mut list[..room], &mut mults[..mult_room]);
         assert_eq!(solve(4, &CUBIC, 2, roots, mults), Err(Refusal::Room));
         assert_eq!(search(4, &CUBIC, roots, mults), Err(Refusal::Room));
     }
-    assert_eq!(begin(4, &CUBIC, 2, &mut [0; 99]), Err(Refusal::Room));
+    for slots in [99, STORED_SLOTS, 101, 195, 197] {
+        let mut table = vec![0; slots];
+        assert_eq!(begin(4, &CUBIC, 2, &mut table), Err(Refusal::Room));
+        if slots != STORED_SLOTS {
+            assert_eq!(step(&mut table), Err(Refusal::Room));
+            assert_eq!(finish(&table, &mut list), Err(Refusal::Room));
+        }
+    }
     assert_eq!(step(&mut [0; SLOTS]), Err(Refusal::Unsound));
+    assert_eq!(step(&mut [0; STORED_SLOTS]), Err(Refusal::Unsound));
     let mut stuck = [0; SLOTS];
     stuck[..8].copy_from_slice(&[4, 1, 1, 0, 4, 2, 1, 1]);
     assert_eq!(step(&mut stuck), Err(Refusal::Stuck));
@@ -198,7 +229,7 @@ fn coefficients(record: &[u8]) -> Vec<u16> {
 
 #[test]
 fn a_written_record_gives_its_roots_back() {
-    for (m, most, step) in [(4, 16, 1), (8, 32, 7), (11, 32, 64)] {
+    for (m, most, step) in [(4, 16, 1), (8, 64, 3), (11, 64, 32)] {
         for n in 0..=most {
             let roots: Vec<u16> = (0..n).map(|k| k * step).collect();
             let factors: Vec<(u16, u16)> = roots.iter().map(|&r| (r, 1)).collect();
@@ -220,14 +251,14 @@ fn a_written_record_gives_its_roots_back() {
 
 #[test]
 fn the_refusals_of_a_record_stand_in_their_order_and_write_nothing() {
-    let many: Vec<u16> = (0..33).rev().collect();
+    let many: Vec<u16> = (0..=ROOTS as u16).rev().collect();
     let calls: [(u16, u16, &[u16], usize, Refusal); 9] = [
         (260, 9, &many, 0, Refusal::Field),
         (8, 9, &many, 0, Refusal::Long),
         (11, 9, &[2048, 1], 0, Refusal::Element),
-        (4, 0, &[1, 16], 71, Refusal::Element),
+        (4, 0, &[1, 16], RECORD, Refusal::Element),
         (4, 9, &[2, 1], 0, Refusal::Order),
-        (4, 0, &[1, 1], 71, Refusal::Order),
+        (4, 0, &[1, 1], RECORD, Refusal::Order),
         (4, 4, &[1, 2], 0, Refusal::Cutoff),
         (4, 3, &[1, 2], 10, Refusal::Room),
         (4, 3, &[], 6, Refusal::Room),

@@ -19,6 +19,7 @@ fn limits() {
     assert_eq!(defined(&header, "LOCATOR_VERSION"), locator::VERSION);
     let limits = [
         ("SLOTS", locator::SLOTS),
+        ("STORED_SLOTS", locator::STORED_SLOTS),
         ("ROOTS", locator::ROOTS),
         ("COEFFICIENTS", locator::COEFFICIENTS),
         ("ELEMENTS", locator::ELEMENTS),

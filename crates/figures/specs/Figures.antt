@@ -1,10 +1,10 @@
--- The figures of docs/RULES.md section 10, in one table: inputs of the whole call with two empty lists of 32
--- slots, what it answers, and how the work table begins after so many steps, where they say that.
+-- The figures of docs/RULES.md section 10, in one table: inputs of the whole call with two empty lists of as
+-- many slots as they must have, what it answers, and how the work table begins after so many steps, where they say that.
 --   Figure   field degree, cutoff, coefficients; the outcome's number and values; the roots where it is accepted;
 --            work tables, each behind its steps
 --   wholeField   z^16 + z
 --   figures  the table
---   room     a lent list of 32 slots
+--   room     a lent list of as many slots
 --   Right    what is claimed of a figure: the whole call's outcome, the roots, and the work tables
 --   figureAfter   the slots of a figure's begun table after n steps;  StartsWith  slots begin with a list, and zeros
 --                 follow
@@ -17,6 +17,7 @@ use lib.Dec.{eqb}
 use lib.ListN.{length, replicate}
 use Rattle.algebra.specs.Trial.{All}
 use Rattle.input.specs.Cutoff.{inForce}
+use Rattle.input.specs.Limit.{limit}
 use Rattle.table_rules.specs.Layout.{byFactor}
 use Rattle.field.specs.Field.{rootsAt}
 use Rattle.table_rules.specs.Splitting.{slotsBegun, slotsAfter}
@@ -87,7 +88,7 @@ StartsWith l front = l ≡ front ++ replicate (slots - length front) 0
 
 -- as many slots as a list must have
 abbrev pub room : List ℕ
-room = replicate 32 0
+room = replicate limit 0
 
 pub record Right (f : Figure) : Type 0 where
   pub outcome : solveOutcome (f .m) (f .cutoff) (f .coefficients) room room ≡ (f .number, figureValues f)

@@ -18,6 +18,7 @@ use Rattle.table_rules.specs.Layout.{byFactor}
 use Rattle.table_rules.specs.Table.{encode, sound}
 use Rattle.table_rules.specs.Splitting.{isDone, stuck, slotsRoots, slotsDone, slotsStuck, slotsStepped, slotsAfter}
 use Rattle.table_rules.specs.Demand.{Demand3, stepCount, groupsAfter, groupsSlots}
+use Rattle.table_rules.proofs.Sizes.{limit-new, sound-under}
 use Rattle.table_rules.proofs.Layouts.{byFactor-lawful}
 use Rattle.table_rules.proofs.Soundness.{done-encode, stuck-encode, roots-encode}
 use Rattle.table_rules.proofs.Keeping.{sound-length}
@@ -69,10 +70,14 @@ module _ {m c : ℕ} {f table : List ℕ} (s : Stepping m c f table) where
 
   sound-now : isSound table ≡ true
   unfolding n count
-  sound-now = ap isSound (s .slots-are) ∙ D .sounds byFactor-lawful limit (s .most) (s .few) n (s .taken)
+  sound-now =
+      ap isSound (s .slots-are)
+      ∙ sound-under limit (limit-new refl) (groupsSlots m c f n) (D .sounds byFactor-lawful limit (s .most) (s .few) n (s .taken))
 
   pub long-now : length table ≡ slots
-  long-now = sound-length byFactor-lawful limit table sound-now
+  unfolding n count
+  long-now =
+      ap length (s .slots-are) ∙ sound-length byFactor-lawful limit (groupsSlots m c f n) (D .sounds byFactor-lawful limit (s .most) (s .few) n (s .taken))
 
   -- the head names the field
   pub width-now : widthOf table ≡ m

@@ -21,7 +21,7 @@ pub const HIGHEST_CUTOFF: u16 = 3;
 pub const HOUSE_DEFAULT: u16 = 3;
 
 // The highest degree of a polynomial (specs/Limit.antt), and the most coefficients, one more.
-pub const LIMIT: usize = 32;
+pub const LIMIT: usize = 64;
 
 pub const COEFFICIENTS: usize = LIMIT + 1;
 

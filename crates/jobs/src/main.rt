@@ -154,7 +154,7 @@ fn main() {
     if !job_streams::starts(
         b"jobs",
         b"jobs <list >jobs.lr",
-        b"Writes the job record of each line of a list of roots: m, a cutoff and up to 32 ascending roots, in decimal.\n",
+        b"Writes the job record of each line of a list of roots: m, a cutoff and up to 64 ascending roots, in decimal.\n",
     ) {
         return;
     }

@@ -6,8 +6,8 @@ use mathlib.Core.Path.{_≡_, refl, sym, ap, ap₂, _∙_}
 use mathlib.Core.Bool.{Bool, true, false, not, _||_, true≢false}
 use mathlib.Core.List.{List, [], _∷_}
 use Prim.Native.Nat.{ℕ, _≤_, _<_}
-use borrow.Author.Tests.{lt-ltb, le-ltb, ltb-false, eq-eqb, ne-eqb}
-use lib.Dec.{eqb, ltb}
+use borrow.Author.Tests.{lt-ltb, le-ltb, ltb-false}
+use lib.Dec.{ltb}
 use lib.ListN.{length}
 use Rattle.refusals.specs.Order.{Given, Passed}
 use Rattle.refusals.specs.Order.Passed.{none}
@@ -20,9 +20,8 @@ use Rattle.refusals.proofs.Order as order
 use Rattle.input.specs.Limit.{limit}
 use Rattle.table_rules.specs.Layout.{byFactor}
 use Rattle.table_rules.specs.Splitting.{slotsDone}
-use Rattle.table_rules.specs.Sizes.{slots, isSound}
-use Rattle.table_rules.proofs.Layouts.{byFactor-lawful}
-use Rattle.table_rules.proofs.Keeping.{sound-length}
+use Rattle.table_rules.specs.Sizes.{isTableSize, isSound}
+use Rattle.table_rules.proofs.Sizes.{size-exactly, sound-size}
 use Rattle.table_slots.specs.Slots.{cutoffOf, Heads}
 use Rattle.table_slots.specs.Walk.{soughtIn}
 use Rattle.table_slots.specs.declared.Head.{Head}
@@ -41,7 +40,7 @@ use Rattle.table_finish.specs.declared.Finished.the-variants.{Listed}
 module _ (l list : List ℕ) where
   -- refusal 7, for the list
   pub admit-room : length list < limit → Admits (finishTests l list) (Out Room)
-  admit-room h = holds (go (not (eqb (length l) slots)) (lt-ltb (length list) limit h))
+  admit-room h = holds (go (not (isTableSize (length l))) (lt-ltb (length list) limit h))
     where
       go : (a : Bool) {b : Bool} → b ≡ true → (a || b) ≡ true
       go true e = refl
@@ -53,7 +52,7 @@ module _ (l list : List ℕ) where
     roomy = le-ltb (length list) limit enough
 
     -- test 7 is then that of the table
-    first : {a : Bool} → not (eqb (length l) slots) ≡ a → (not (eqb (length l) slots) || ltb (length list) limit) ≡ a
+    first : {a : Bool} → not (isTableSize (length l)) ≡ a → (not (isTableSize (length l)) || ltb (length list) limit) ≡ a
     first {a} e = ap₂ (λ x y. x || y) e roomy ∙ go a
       where
         go : (a : Bool) → (a || false) ≡ a
@@ -62,13 +61,13 @@ module _ (l list : List ℕ) where
 
     -- the refusal that the check found
     pub admit-unfit : {k : Refusal} → Checks l (Unfit k) → Admits (finishTests l list) (Out k)
-    admit-unfit (short n) = holds (first (ap not (ne-eqb (length l) slots n)))
-    admit-unfit (unsound e u) = fails (first (ap not (eq-eqb (length l) slots e))) (holds (ap not u))
+    admit-unfit (short n) = holds (first (ap not n))
+    admit-unfit (unsound e u) = fails (first (ap not e)) (holds (ap not u))
 
     module _ {s : ℕ} (g : Fit l s) where
       -- test 7 fails
-      long-enough : not (eqb (length l) slots) ≡ false
-      long-enough = ap not (eq-eqb (length l) slots (sound-length byFactor-lawful limit l (g .sound)))
+      long-enough : not (isTableSize (length l)) ≡ false
+      long-enough = ap not (size-exactly (length l) .1 (sound-size l (g .sound)))
 
       module _ {h : Head} (k : Heads l h) {f : Spot} (e : f ≡ soughtIn (h .cutoff) l) where
         -- at the cutoff of the slots
@@ -96,7 +95,7 @@ module _ (l list : List ℕ) where
   done-asks p = record {
     sound = unflip (isSound l) (failed (others p));
     done = unflip (slotsDone byFactor l) (failed (others (others p)));
-    room = ltb-false (length list) limit (right (not (eqb (length l) slots)) (failed p));
+    room = ltb-false (length list) limit (right (not (isTableSize (length l))) (failed p));
   }
     where
       unflip : (b : Bool) → not b ≡ false → b ≡ true

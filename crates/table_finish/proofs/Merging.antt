@@ -31,14 +31,15 @@ use Rattle.input.specs.Cutoff.{highestCutoff}
 use Rattle.input.specs.Limit.{limit}
 use Rattle.table_rules.specs.Entries.{above, done}
 use Rattle.table_rules.specs.Layout.{factorSlots, Factor, degreeSum, blocks, byFactor}
-use Rattle.table_rules.specs.Table.{Table, headSlots, encode, decode}
+use Rattle.table_rules.specs.Table.{Table, headSlots, slotsFor, encode, decode}
 use Rattle.table_rules.specs.Splitting.{someZero, slotsDone, slotsRoots}
+use Rattle.table_rules.proofs.Sizes.{limit-most}
 use Rattle.table_rules.proofs.Layouts.{byFactor-lawful}
 use Rattle.table_rules.specs.Places.{spare}
 use Rattle.table_rules.proofs.Soundness.{Fair, Valid, sound-valid, sound-encoded, sound-rules}
 use Rattle.field.specs.Field.{fieldAt, G, rootsAt}
 use Rattle.field.specs.Tables.{Halves, Logs, Antilogs}
-use Rattle.table_rules.specs.Sizes.{slots}
+use Rattle.table_rules.specs.Sizes.{limitBy}
 use Rattle.table_slots.specs.Slots.{widthOf, cutoffOf, countOf, degreeAt, factorAt, nextAt, StandsWhole, Heads}
 use Rattle.table_slots.specs.declared.Head.{Head}
 use Rattle.table_finish.specs.Finishing.{Mergeable, RootsIn, Lendable, Listable, ListedIn}
@@ -144,12 +145,12 @@ zero-none m x z = z .1
 -- a sound table has its slots, and its field is known
 module _ {l list : List ℕ} (g : Lendable l list) where
   -- its slots
-  table-long : length l ≡ slots
-  table-long = sound-rules byFactor known limit l .0 (g .sound) .size
+  table-long : length l ≡ slotsFor (limitBy l)
+  table-long = sound-rules byFactor known (limitBy l) l .0 (g .sound) .size
 
   -- its field
   pub table-known : known (widthOf l) ≡ true
-  table-known = sound-rules byFactor known limit l .0 (g .sound) .field
+  table-known = sound-rules byFactor known (limitBy l) l .0 (g .sound) .field
 
   -- it has a head
   pub head-there : headSlots ≤ length l
@@ -166,13 +167,13 @@ module _ {ls ts hs l list : List ℕ} (g : Listable ls ts hs l list) where
   t = decode byFactor l
 
   -- the table keeps the rules
-  valid : Valid known limit t
-  valid = sound-valid byFactor-lawful known limit l (g .given .sound)
+  valid : Valid known (limitBy l) t
+  valid = sound-valid byFactor-lawful known (limitBy l) l (g .given .sound)
 
   -- the slots of the head, those of the factors, and zeros
-  apart : l ≡ (t .width ∷ t .cutoff ∷ length (t .factors) ∷ t .taken ∷ []) ++ (blocks (t .factors) ++ replicate (spare slots t) 0)
+  apart : l ≡ (t .width ∷ t .cutoff ∷ length (t .factors) ∷ t .taken ∷ []) ++ (blocks (t .factors) ++ replicate (spare (slotsFor (limitBy l)) t) 0)
   unfolding encode
-  apart = sym (sound-encoded byFactor-lawful known limit l (g .given .sound))
+  apart = sym (sound-encoded byFactor-lawful known (limitBy l) l (g .given .sound))
 
   -- the cutoff is at most the highest
   cutoff-small : cutoffOf l ≤ highestCutoff
@@ -194,7 +195,7 @@ module _ {ls ts hs l list : List ℕ} (g : Listable ls ts hs l list) where
   finish-from e = record {
     ahead = t .factors;
     pre = t .width ∷ t .cutoff ∷ length (t .factors) ∷ t .taken ∷ [];
-    after = replicate (spare slots t) 0;
+    after = replicate (spare (slotsFor (limitBy l)) t) 0;
     seen = [];
     count = e ∙ ap countOf apart;
     slots = apart;
@@ -202,7 +203,7 @@ module _ {ls ts hs l list : List ℕ} (g : Listable ls ts hs l list) where
     long = refl;
     room = g .given .room;
     merged = merged-none 0 list (omega arith);
-    few = omega (arith, valid .sum);
+    few = omega (arith, limit-most (length l), valid .sum);
     fair = all-fair;
     low = all-low;
     exact = λ x. (λ z. inr z, λ o. ⊎-elim (λ h. absurd (List·Memᴰ·not-nil h)) (λ z. z) o);

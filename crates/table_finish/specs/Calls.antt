@@ -8,21 +8,21 @@
 use mathlib.Core.Bool.{Bool, not, _||_}
 use mathlib.Core.List.{List, [], _∷_}
 use Prim.Native.Nat.{ℕ}
-use lib.Dec.{eqb, ltb}
+use lib.Dec.{ltb}
 use lib.ListN.{length}
 use Rattle.refusals.specs.Order.{outcome, memory, Answers}
 use Rattle.refusals.specs.Numbers.{numberOf}
 use Rattle.slices.specs.Lists.{copied}
 use Rattle.input.specs.Limit.{limit}
 use Rattle.table_rules.specs.Layout.{byFactor}
-use Rattle.table_rules.specs.Sizes.{slots, isSound}
+use Rattle.table_rules.specs.Sizes.{isTableSize, isSound}
 use Rattle.table_rules.specs.Splitting.{slotsDone, slotsRoots}
 use Rattle.table_finish.specs.declared.Finished.{Finished}
 use Rattle.table_finish.specs.declared.Finished.the-variants.{Listed, NotFinished}
 
 abbrev pub finishTests : List ℕ → List ℕ → List (ℕ × Bool)
 finishTests table list =
-    (7, not (eqb (length table) slots) || ltb (length list) limit) ∷ (8, not (isSound table))
+    (7, not (isTableSize (length table)) || ltb (length list) limit) ∷ (8, not (isSound table))
     ∷ (10, not (slotsDone byFactor table)) ∷ []
 
 abbrev pub finishOutcome : List ℕ → List ℕ → ℕ × List ℕ

@@ -30,7 +30,7 @@ use Rattle.table_rules.proofs.Finish.{finish-is}
 
 module _ {Y : Layout} (L : Lawful Y) where
   -- one step more on slots
-  slots-more : (n : ℕ) (l : List ℕ) → slotsAfter Y (suc n) l ≡ slotsStepped Y (slotsAfter Y n l)
+  pub slots-more : (n : ℕ) (l : List ℕ) → slotsAfter Y (suc n) l ≡ slotsStepped Y (slotsAfter Y n l)
   unfolding slotsAfter
   slots-more zero l = refl
   slots-more (suc n) l = slots-more n (slotsStepped Y l)

@@ -7,7 +7,8 @@ pub mod Counting
 pub mod Grouped
 pub mod Steps
 pub mod Carry
--- slots: layouts, soundness, soundness in one pass
+-- slots: the limit by a table's size, layouts, soundness, soundness in one pass
+pub mod Sizes
 pub mod Layouts
 pub mod Soundness
 pub mod Scanning

@@ -4,7 +4,8 @@
 --   groupsAfter  the table after n steps, told by groups
 --   stepCount    how many groups, levels 0 to m-1, have more than c members: the number of steps
 --   stepsAt      the same of a polynomial's roots, at the cutoff in force
---   groupsSlots  the slots of the table after n steps, told by the groups of a polynomial's roots
+--   groupsUnder  the slots of the table after n steps, told by the groups of a polynomial's roots, under a limit
+--   groupsSlots  those of a new table
 --   Demand3      all of it: the table after each step, the order of factors, the levels, the steps to "done", no
 --                refusal, the bound, finish, the slots
 -- Assumes nothing.
@@ -18,10 +19,10 @@ use Rattle.algebra.specs.Routines.{monicRoots}
 use Rattle.field.specs.Rows.{known}
 use Rattle.field.specs.Field.{rootsAt, G}
 use Rattle.input.specs.Cutoff.{highestCutoff, inForce}
+use Rattle.input.specs.Limit.{limit}
 use Rattle.table_rules.specs.Groups.{InOrder, group, groupCount}
 use Rattle.table_rules.specs.Layout.{Layout, Lawful, byFactor}
 use Rattle.table_rules.specs.Table.{Table, slotsFor, encode, sound}
-use Rattle.table_rules.specs.Sizes.{slots}
 use Rattle.table_rules.specs.Splitting.{isDone, stuck, tableAfter, begunTable}
 use Rattle.table_rules.specs.Splitting.{groupedTable, finished, traceBitAt, halvingAt, slotsAfter}
 
@@ -35,9 +36,13 @@ stepCount m c roots = groupCount (traceBitAt m) c m roots
 abbrev pub stepsAt : ℕ → ℕ → List ℕ → ℕ
 stepsAt m c f = stepCount m (inForce c) (rootsAt m f)
 
--- in the house's layout and size
+-- in the house's layout
+abbrev pub groupsUnder : ℕ → ℕ → ℕ → List ℕ → ℕ → List ℕ
+groupsUnder limit m c f n = encode byFactor (slotsFor limit) (groupsAfter m c (rootsAt m f) n)
+
+-- and size
 abbrev pub groupsSlots : ℕ → ℕ → List ℕ → ℕ → List ℕ
-groupsSlots m c f n = encode byFactor slots (groupsAfter m c (rootsAt m f) n)
+groupsSlots m c f n = groupsUnder limit m c f n
 
 pub record Demand3 (m c : ℕ) (roots : List ℕ) : Type 0 where
   -- THE TABLE AFTER n STEPS, from begin's one factor over all roots, is the table of the groups after n steps: the

@@ -13,13 +13,12 @@ use lib.Dec.{ltb}
 use lib.ListN.{length, getD, take, replicate, length-append}
 use lib.Seq.{getD-append-add}
 use Rattle.field.specs.Rows.{known}
-use Rattle.input.specs.Limit.{limit}
 use Rattle.table_rules.specs.Entries.{above, firstAbove, done}
 use Rattle.table_rules.specs.Layout.{factorSlots, Factor, blocks, byFactor}
-use Rattle.table_rules.specs.Table.{Table, encode, decode}
+use Rattle.table_rules.specs.Table.{Table, slotsFor, encode, decode}
 use Rattle.table_rules.specs.Splitting.{isDone, firstFactor, slotsDone}
 use Rattle.table_rules.specs.Places.{beyond, leading, place, slotsOf, spare}
-use Rattle.table_rules.specs.Sizes.{slots, isSound}
+use Rattle.table_rules.specs.Sizes.{limitBy, isSound}
 use Rattle.table_rules.proofs.Layouts.{byFactor-lawful}
 use Rattle.table_rules.proofs.Soundness.{Valid, sound-valid, sound-encoded}
 use Rattle.table_rules.proofs.Places.{level-at, encode-around}
@@ -94,12 +93,12 @@ module _ (l : List ℕ) (s : isSound l ≡ true) where
   t = decode byFactor l
 
   -- it is valid
-  valid : Valid known limit t
-  valid = sound-valid byFactor-lawful known limit l s
+  valid : Valid known (limitBy l) t
+  valid = sound-valid byFactor-lawful known (limitBy l) l s
 
   -- and the slots are its encoding
-  encoded : encode byFactor slots t ≡ l
-  encoded = sound-encoded byFactor-lawful known limit l s
+  encoded : encode byFactor (slotsFor (limitBy l)) t ≡ l
+  encoded = sound-encoded byFactor-lawful known (limitBy l) l s
 
   module _ {f : Spot} (e : f ≡ soughtIn (cutoffOf l) l) where
     -- what is answered
@@ -108,7 +107,7 @@ module _ (l : List ℕ) (s : isSound l ≡ true) where
     sought =
         let j : length (t .width ∷ t .cutoff ∷ length (t .factors) ∷ t .taken ∷ []) + length (blocks (take (firstAbove (t .cutoff) (t .factors)) (t .factors))) ≡ place t = omega arith in
         e ∙ ap (λ u. soughtIn (cutoffOf u) u) (sym encoded)
-        ∙ seek-of (t .cutoff) (t .factors) (t .width ∷ t .cutoff ∷ length (t .factors) ∷ t .taken ∷ []) (replicate (spare slots t) 0)
+        ∙ seek-of (t .cutoff) (t .factors) (t .width ∷ t .cutoff ∷ length (t .factors) ∷ t .taken ∷ []) (replicate (spare (slotsFor (limitBy l)) t) 0)
         ∙ ap (λ k. cond (isDone t) Nowhere (At k)) j
 
     -- nothing is found where it is done
@@ -136,10 +135,10 @@ module _ (l : List ℕ) (s : isSound l ≡ true) where
         go true d q = let x : _≡_ {A = ℕ} 0 1 = cc in absurd (omega arith)
         go false d q =
             let same : at ≡ place t = cc in
-            let around = encode-around t valid d slots in
+            let around = encode-around t valid d (slotsFor (limitBy l)) in
             record {
               more = d;
               here = same;
-              level = ap₂ (λ u k. levelAt u k) (sym encoded) same ∙ level-at t valid d slots;
-              within = omega (arith, ap length (sym encoded ∙ around), length-append (leading t) (slotsOf (firstFactor t) ++ (blocks (beyond t) ++ replicate (spare slots t) 0)));
+              level = ap₂ (λ u k. levelAt u k) (sym encoded) same ∙ level-at t valid d (slotsFor (limitBy l));
+              within = omega (arith, ap length (sym encoded ∙ around), length-append (leading t) (slotsOf (firstFactor t) ++ (blocks (beyond t) ++ replicate (spare (slotsFor (limitBy l)) t) 0)));
             }

@@ -21,10 +21,11 @@ use Rattle.table_rules.specs.Layout.{degreeSum, byFactor}
 use Rattle.table_rules.specs.Table.{Table, headSlots, limitOf, decode}
 use Rattle.table_rules.specs.Splitting.{isDone, firstFactor, slotsDone, slotsStuck}
 use Rattle.table_rules.specs.Splitting as splitting
-use Rattle.table_rules.specs.Sizes.{slots, isSound}
+use Rattle.table_rules.specs.Sizes.{isTableSize, limitBy, isSound}
+use Rattle.table_rules.proofs.Sizes.{limit-most, sound-size}
 use Rattle.table_rules.proofs.Layouts.{byFactor-lawful}
 use Rattle.table_rules.proofs.Soundness.{Valid, sound-valid}
-use Rattle.table_rules.proofs.Keeping.{stuck-order, sound-length}
+use Rattle.table_rules.proofs.Keeping.{stuck-order}
 use Rattle.table_slots.specs.Slots.{cutoffOf, levelAt, Heads}
 use Rattle.table_slots.specs.Walk.{soughtIn, summed}
 use Rattle.table_slots.specs.declared.Head.{Head}
@@ -54,7 +55,7 @@ module _ (l : List ℕ) where
       go false k q = let x : _≡_ {A = ℕ} 0 1 = cc in absurd (omega arith)
 
   -- and none for others
-  pub check-unsound : {r : Sum} → length l ≡ slots → r ≡ summed l → r ≡ sums.Unsound → Checks l (Unfit refusals.Unsound)
+  pub check-unsound : {r : Sum} → isTableSize (length l) ≡ true → r ≡ summed l → r ≡ sums.Unsound → Checks l (Unfit refusals.Unsound)
   unfolding summed
   check-unsound h e u = unsound h (go (isSound l) (sym u ∙ e))
     where
@@ -64,16 +65,16 @@ module _ (l : List ℕ) where
 
   module _ {sum : ℕ} (g : Fit l sum) where
     -- what the slots hold is valid
-    valid : Valid known limit t
-    valid = sound-valid byFactor-lawful known limit l (g .sound)
+    valid : Valid known (limitBy l) t
+    valid = sound-valid byFactor-lawful known (limitBy l) l (g .sound)
 
     -- it has its slots, and so a head
     pub head-there : headSlots ≤ length l
-    head-there = omega (arith, sound-length byFactor-lawful limit l (g .sound))
+    head-there = omega (arith, sound-size l (g .sound))
 
     -- the sum is at most the limit
     pub sum-small : sum ≤ limit
-    sum-small = omega (arith, g .sum, valid .sum)
+    sum-small = omega (arith, limit-most (length l), g .sum, valid .sum)
 
     module _ {h : Head} (k : Heads l h) {f : Spot} (e : f ≡ soughtIn (h .cutoff) l) where
       -- at the cutoff of the slots

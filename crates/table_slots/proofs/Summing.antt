@@ -18,12 +18,13 @@ use Rattle.field.proofs.Known.{row-known, row-unknown}
 use Rattle.input.specs.Cutoff.{highestCutoff}
 use Rattle.input.specs.Limit.{limit}
 use Rattle.table_rules.specs.Layout.{factorSlots, degreeSum, statedSum, readBlocks, byFactor, fairBlocks}
-use Rattle.table_rules.specs.Table.{Table, headSlots, stepLimit, encode, decode}
+use Rattle.table_rules.specs.Table.{Table, headSlots, slotsFor, stepLimit, encode, decode}
+use Rattle.table_rules.proofs.Sizes.{limit-most}
 use Rattle.table_rules.proofs.Layouts.{byFactor-lawful}
 use Rattle.table_rules.proofs.Soundness.{stated-sum, sound-encoded}
 use Rattle.table_rules.proofs.Scanning.{ScanPassed, scan-exactly, sound-by-pass}
 use Rattle.table_rules.specs.Places.{spare}
-use Rattle.table_rules.specs.Sizes.{slots, isSound}
+use Rattle.table_rules.specs.Sizes.{limitBy, isSound}
 use Rattle.table_slots.specs.Slots.{widthOf, cutoffOf, countOf, takenOf}
 use Rattle.table_slots.specs.Walk.{tally, summed}
 use Rattle.table_slots.specs.declared.Sum.{Sum}
@@ -40,20 +41,20 @@ module _ (l : List ℕ) where
   stated-degrees = statedSum (readBlocks (countOf l) (drop headSlots l))
 
   -- a table that is not sound
-  deny : (ScanPassed known limit l → ⊥) → Unsound ≡ summed l
+  deny : (ScanPassed known (limitBy l) l → ⊥) → Unsound ≡ summed l
   unfolding summed
   deny n = go (isSound l) refl
     where
       go : (b : Bool) → isSound l ≡ b → Unsound ≡ cond b (Of (degreeSum (t .factors))) Unsound
-      go true e = absurd (n (sound-by-pass known limit l .0 e))
+      go true e = absurd (n (sound-by-pass known (limitBy l) l .0 e))
       go false e = refl
 
   -- of a sound table they are its degrees
   degrees-stated : isSound l ≡ true → stated-degrees ≡ degreeSum (t .factors)
   unfolding encode
   degrees-stated s =
-      ap (λ u. statedSum (readBlocks (countOf u) (drop headSlots u))) (sym (sound-encoded byFactor-lawful known limit l s))
-      ∙ ap statedSum (byFactor-lawful .read-write (t .factors) (replicate (spare slots t) 0)) ∙ stated-sum (t .factors)
+      ap (λ u. statedSum (readBlocks (countOf u) (drop headSlots u))) (sym (sound-encoded byFactor-lawful known (limitBy l) l s))
+      ∙ ap statedSum (byFactor-lawful .read-write (t .factors) (replicate (spare (slotsFor (limitBy l)) t) 0)) ∙ stated-sum (t .factors)
 
   -- the field is not known
   pub deny-field : {r : FoundRow} → r ≡ rowAt (widthOf l) → r ≡ Unknown → Unsound ≡ summed l
@@ -73,14 +74,17 @@ module _ (l : List ℕ) where
     is-row = row-known (widthOf l) (sym e ∙ at)
 
     -- what `walk` may take for granted
-    pub walk-asks : length l ≡ slots → (row .size ≡ 2 ^ widthOf l) × (suc factorSlots * limit ≤ length (take (length l - headSlots) (drop headSlots l)))
-    walk-asks h = (is-row .size, omega (arith, ap length (rest l headSlots), length-drop headSlots l))
+    pub walk-asks : {lim : ℕ} → lim ≡ limitBy l → length l ≡ slotsFor (limitBy l)
+        → (row .size ≡ 2 ^ widthOf l) × (suc factorSlots * lim ≤ length (take (length l - headSlots) (drop headSlots l)))
+    walk-asks k h = (is-row .size, omega (arith, ap length (rest l headSlots), length-drop headSlots l))
 
-    module _ {r : Sum} (w : r ≡ tally (widthOf l) limit (countOf l) (take (length l - headSlots) (drop headSlots l))) where
+    module _ {lim : ℕ} (under : lim ≡ limitBy l) {r : Sum}
+        (w : r ≡ tally (widthOf l) lim (countOf l) (take (length l - headSlots) (drop headSlots l))) where
       -- what `walk` answers: the sum where the pass finds nothing against the rules
-      walked : r ≡ cond (fairBlocks (widthOf l) limit (countOf l) (drop headSlots l)) (Of stated-degrees) Unsound
+      walked : r ≡ cond (fairBlocks (widthOf l) (limitBy l) (countOf l) (drop headSlots l)) (Of stated-degrees) Unsound
       unfolding tally
-      walked = w ∙ ap (tally (widthOf l) limit (countOf l)) (rest l headSlots)
+      walked = w ∙ ap (λ n. tally (widthOf l) n (countOf l) (take (length l - headSlots) (drop headSlots l))) under
+          ∙ ap (tally (widthOf l) (limitBy l) (countOf l)) (rest l headSlots)
 
       -- the pass found a rule broken
       pub deny-walk : r ≡ Unsound → Unsound ≡ summed l
@@ -91,8 +95,8 @@ module _ (l : List ℕ) where
 
       module _ {sum : ℕ} (o : r ≡ Of sum) where
         -- the pass found none broken, and gave the sum of what is stated
-        found : (fairBlocks (widthOf l) limit (countOf l) (drop headSlots l) ≡ true) × (sum ≡ stated-degrees)
-        found = go (fairBlocks (widthOf l) limit (countOf l) (drop headSlots l)) (sym o ∙ walked)
+        found : (fairBlocks (widthOf l) (limitBy l) (countOf l) (drop headSlots l) ≡ true) × (sum ≡ stated-degrees)
+        found = go (fairBlocks (widthOf l) (limitBy l) (countOf l) (drop headSlots l)) (sym o ∙ walked)
           where
             go : (b : Bool) → Of sum ≡ cond b (Of stated-degrees) Unsound → (b ≡ true) × (sum ≡ stated-degrees)
             go true q = (refl, cc)
@@ -100,7 +104,7 @@ module _ (l : List ℕ) where
 
         -- the sum is at most the limit
         pub few : sum ≤ limit
-        few = omega (arith, found .1, scan-exactly (widthOf l) limit (countOf l) (drop headSlots l) .0 (found .0) .sum)
+        few = omega (arith, limit-most (length l), found .1, scan-exactly (widthOf l) (limitBy l) (countOf l) (drop headSlots l) .0 (found .0) .sum)
 
         -- the limit of slot 3, by the sum
         limit-is : widthOf l * (sum / suc (cutoffOf l)) ≡ stepLimit (widthOf l) (cutoffOf l) stated-degrees
@@ -111,11 +115,11 @@ module _ (l : List ℕ) where
         deny-steps h = deny (λ s. omega (arith, s .steps, limit-is))
 
         -- no test fails
-        pub accept : length l ≡ slots → 1 ≤ cutoffOf l → cutoffOf l ≤ highestCutoff → takenOf l ≤ widthOf l * (sum / suc (cutoffOf l)) → Of sum ≡ summed l
+        pub accept : length l ≡ slotsFor (limitBy l) → 1 ≤ cutoffOf l → cutoffOf l ≤ highestCutoff → takenOf l ≤ widthOf l * (sum / suc (cutoffOf l)) → Of sum ≡ summed l
         unfolding summed
         accept h low high lim =
             let s : isSound l ≡ true =
-            sound-by-pass known limit l .1 (record {
+            sound-by-pass known (limitBy l) l .1 (record {
               size = h;
               field = is-row .list .degree;
               cutoff-least = low;

@@ -9,11 +9,9 @@
 --               stands
 -- Assumes nothing.
 use mathlib.Core.Path.{_≡_}
-use mathlib.Core.Logic.{_≢_}
 use mathlib.Core.Bool.{Bool, true, false, not}
 use mathlib.Core.List.{List, _∷_}
 use Prim.Native.Nat.{ℕ}
-use lib.Dec.{eqb}
 use lib.ListN.{length}
 use Rattle.refusals.specs.declared.Refusal.{Refusal}
 use Rattle.refusals.specs.declared.Refusal.the-variants.{Room, Unsound, Stuck}
@@ -21,14 +19,14 @@ use Rattle.table_rules.specs.Layout.{degreeSum, byFactor}
 use Rattle.table_rules.specs.Table.{decode}
 use Rattle.table_rules.specs.Splitting.{slotsDone, slotsStuck}
 use Rattle.table_rules.specs.Places.{place}
-use Rattle.table_rules.specs.Sizes.{slots, isSound}
+use Rattle.table_rules.specs.Sizes.{isTableSize, isSound}
 use Rattle.table_slots.specs.declared.check.Checked.{Checked}
 use Rattle.table_slots.specs.declared.check.Checked.the-variants.{Unfit, Sound}
 use Rattle.table_slots.specs.declared.check.Verdict.{Verdict}
 use Rattle.table_slots.specs.declared.check.Verdict.the-variants.{Refused, Over, Split}
 
 abbrev pub tableTests : List ℕ → List (ℕ × Bool) → List (ℕ × Bool)
-tableTests l more = (7, not (eqb (length l) slots)) ∷ (8, not (isSound l)) ∷ more
+tableTests l more = (7, not (isTableSize (length l))) ∷ (8, not (isSound l)) ∷ more
 
 pub record Fit (l : List ℕ) (s : ℕ) : Type 0 where
   pub sound : isSound l ≡ true
@@ -36,8 +34,8 @@ pub record Fit (l : List ℕ) (s : ℕ) : Type 0 where
 
 -- the length is tested first
 pub data Checks (l : List ℕ) : Checked → Type 0 where
-  short : length l ≢ slots → Checks l (Unfit Room)
-  unsound : length l ≡ slots → isSound l ≡ false → Checks l (Unfit Unsound)
+  short : isTableSize (length l) ≡ false → Checks l (Unfit Room)
+  unsound : isTableSize (length l) ≡ true → isSound l ≡ false → Checks l (Unfit Unsound)
   fits : {s : ℕ} → Fit l s → Checks l (Sound s)
 
 -- the place of a step

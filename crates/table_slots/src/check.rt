@@ -1,12 +1,12 @@
 // What is decided of a work table before anything is written: whether it is sound (docs/RULES.md section 4.5), and
 // what a step finds in it.
 ghost use Rattle.table_slots.specs.Verdicts.{Checks, Fit, Judged};
-use crate::SLOTS;
 use crate::Spot;
 use crate::Sum;
 use crate::degrees;
 use crate::first_above;
 use crate::head_of;
+use crate::is_table_size;
 use crate::level_at;
 use crate::step_limit;
 use refusals::Refusal;
@@ -28,7 +28,7 @@ pub enum Verdict {
 pub fn check(table: &[u16]) -> Checked
     ensures { λ r. ⌜ Checks (now (table .entry)) r ⌝ }
 {
-    if table.len() != SLOTS {
+    if !is_table_size(table.len()) {
         return Checked::Unfit(Refusal::Room);
     }
     match degrees(table) {

@@ -7,9 +7,9 @@ ghost use Prim.Native.Nat.{suc, _+_, _-_, _*_, _/_, _^_, _≤_, _<_};
 ghost use lib.ListN.{length};
 ghost use Rattle.input.specs.Limit.{limit};
 ghost use Rattle.table_rules.specs.Layout.{factorSlots, byFactor};
-ghost use Rattle.table_rules.specs.Table.{headSlots, encode};
+ghost use Rattle.table_rules.specs.Table.{headSlots, slotsFor, encode};
 ghost use Rattle.table_rules.specs.Splitting.{begunTable};
-ghost use Rattle.table_rules.specs.Sizes.{slots};
+ghost use Rattle.table_rules.specs.Sizes.{slots, isTableSize, limitFor, limitBy};
 ghost use Rattle.table_slots.specs.Slots.{Heads, StandsWhole, levelAt, factorAt, nextAt};
 ghost use Rattle.table_slots.specs.Slots.{Appended, Replaceable, replacedAt};
 ghost use Rattle.table_slots.specs.Walk.{frontSlots, tally, soughtIn, summed};
@@ -37,11 +37,37 @@ const DEGREE: usize = 1;
 
 const LOW: usize = 2;
 
-// The slots of a table, in which each degree has room for a factor of its own.
+// The slots of a new table, in which each degree has room for a factor of its own.
 pub const SLOTS: usize = FIRST + (LOW + 1) * LIMIT;
+
+// The limit of a table that was stored before the limit rose, and its slots.
+const STORED_LIMIT: usize = 32;
+
+pub const STORED_SLOTS: usize = FIRST + (LOW + 1) * STORED_LIMIT;
 
 // The slots of two factors: two heads, and as many coefficients as there can be.
 pub const TWO_FACTORS: usize = 2 * LOW + LIMIT;
+
+// Does some table have n slots?
+pub fn is_table_size(n: usize) -> bool
+    ensures { λ r. ⌜ r ≡ isTableSize n ⌝ }
+{
+    if n == STORED_SLOTS {
+        return true;
+    }
+    n == SLOTS
+}
+
+// The limit that a table of n slots is under.
+fn limit_for(n: usize) -> usize
+    ensures { λ r. ⌜ r ≡ limitFor n ⌝ }
+{
+    if n == STORED_SLOTS {
+        STORED_LIMIT
+    } else {
+        LIMIT
+    }
+}
 
 // What the head says.
 pub struct Head {
@@ -227,7 +253,7 @@ pub fn step_limit(m: u16, c: u16, sum: usize) -> usize
 
 // The sum of the degrees of a sound table: all rules in one pass over its slots.
 pub fn degrees(table: &[u16]) -> Sum
-    requires { ⌜ length (now table) ≡ slots ⌝ }
+    requires { ⌜ length (now table) ≡ slotsFor (limitBy (now table)) ⌝ }
     ensures { λ r. ⌜ r ≡ summed (now (table .entry)) ⌝ }
 {
     let m = table[WIDTH];
@@ -241,7 +267,8 @@ pub fn degrees(table: &[u16]) -> Sum
     if HIGHEST_CUTOFF < c {
         return Sum::Unsound;
     }
-    let Sum::Of(sum) = walk(&table[FIRST..], m, row.size, table[FACTORS], LIMIT) else {
+    let limit = limit_for(table.len());
+    let Sum::Of(sum) = walk(&table[FIRST..], m, row.size, table[FACTORS], limit) else {
         return Sum::Unsound;
     };
     let taken = table[STEPS];

@@ -6,8 +6,6 @@ use mathlib.Core.Path.{_≡_, sym, ap, _∙_}
 use mathlib.Core.Bool.{Bool, true, false, not, cond}
 use mathlib.Core.List.{List, [], _∷_}
 use Prim.Native.Nat.{ℕ}
-use borrow.Author.Tests.{eq-eqb, ne-eqb}
-use lib.Dec.{eqb}
 use lib.ListN.{length}
 use Rattle.refusals.specs.Numbers.{numberOf}
 use Rattle.refusals.specs.Order.{Given, Passed}
@@ -15,12 +13,10 @@ use Rattle.refusals.specs.Order.Passed.{none}
 use Rattle.refusals.specs.declared.Refusal.{Refusal}
 use Rattle.refusals.proofs.Order.{holds, fails, passes}
 use Rattle.refusals.proofs.Order as order
-use Rattle.input.specs.Limit.{limit}
 use Rattle.table_rules.specs.Layout.{byFactor}
 use Rattle.table_rules.specs.Splitting.{slotsDone, slotsStuck, slotsStepped}
-use Rattle.table_rules.specs.Sizes.{slots, isSound}
-use Rattle.table_rules.proofs.Layouts.{byFactor-lawful}
-use Rattle.table_rules.proofs.Keeping.{sound-length}
+use Rattle.table_rules.specs.Sizes.{isTableSize, isSound}
+use Rattle.table_rules.proofs.Sizes.{size-exactly, sound-size}
 use Rattle.table_step.specs.Calls.{stepTests, stepOutcome, stepMemory, toldStepped}
 use Rattle.table_slots.specs.Verdicts.{Checks, Chosen, Judged}
 use Rattle.table_slots.specs.Verdicts.Checks.{short, unsound}
@@ -42,13 +38,13 @@ passed-memory l b d = ap (λ x. cond x l (slotsStepped byFactor l)) d
 
 module _ (l : List ℕ) where
   -- a sound table passes 7 and 8
-  sound-first : isSound l ≡ true → not (eqb (length l) slots) ≡ false
-  sound-first s = ap not (eq-eqb (length l) slots (sound-length byFactor-lawful limit l s))
+  sound-first : isSound l ≡ true → not (isTableSize (length l)) ≡ false
+  sound-first s = ap not (size-exactly (length l) .1 (sound-size l s))
 
   -- the test that a check found to hold
   check-given : {k : Refusal} → Checks l (Unfit k) → Given (numberOf k) (stepTests l)
-  check-given (short n) = holds (ap not (ne-eqb (length l) slots n))
-  check-given (unsound e u) = fails (ap not (eq-eqb (length l) slots e)) (holds (ap not u))
+  check-given (short n) = holds (ap not n)
+  check-given (unsound e u) = fails (ap not e) (holds (ap not u))
 
   -- no test holds
   step-passes : isSound l ≡ true → slotsStuck byFactor l ≡ false → Passed (stepTests l)

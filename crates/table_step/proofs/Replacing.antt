@@ -27,14 +27,15 @@ use Rattle.input.proofs.Fields.{known-field, degree-within}
 use Rattle.input.specs.Limit.{limit, widest}
 use Rattle.table_rules.specs.Entries.{Halving, parts, entryAt, firstAbove, done}
 use Rattle.table_rules.specs.Layout.{factorSlots, Factor, degreeSum, blocks, byFactor}
-use Rattle.table_rules.specs.Table.{Table, headSlots, encode, decode}
+use Rattle.table_rules.specs.Table.{Table, headSlots, slotsFor, encode, decode}
 use Rattle.table_rules.specs.Splitting.{isDone, firstFactor, halvingAt, slotsDone, slotsStuck, slotsStepped}
+use Rattle.table_rules.proofs.Sizes.{limit-most, sound-size}
 use Rattle.table_rules.proofs.Layouts.{byFactor-lawful}
 use Rattle.table_rules.proofs.Soundness.{Valid, sound-valid, sound-encoded, count-within}
-use Rattle.table_rules.proofs.Keeping.{Free, free, LosslessHalving, trace-halves, sound-length, step-slots}
+use Rattle.table_rules.proofs.Keeping.{Free, free, LosslessHalving, trace-halves, step-slots}
 use Rattle.table_rules.specs.Places.{beyond, leading, place, slotsOf, spare}
 use Rattle.table_rules.proofs.Places.{encode-around, level-at, degree-at, coefficients-at, first-fair, room, parts-few, parts-some, length-new, step-spliced}
-use Rattle.table_rules.specs.Sizes.{slots, twoFactors}
+use Rattle.table_rules.specs.Sizes.{limitBy, twoFactors}
 use Rattle.table_slots.specs.Slots.{widthOf, countOf, takenOf, Heads, levelAt, degreeAt, factorAt, nextAt, StandsWhole, Replaceable, replacedAt}
 use Rattle.table_slots.specs.declared.Head.{Head}
 use Rattle.table_slots.specs.Verdicts.{Chosen}
@@ -56,8 +57,8 @@ some-factor c (e ∷ l) d = omega arith
 
 -- where the factor to split stands
 pub record SlotsRead (l : List ℕ) (o : ℕ) : Type 0 where
-  pub long : length l ≡ slots
-  pub room : nextAt l o + factorSlots ≤ slots
+  pub long : headSlots ≤ length l
+  pub room : nextAt l o + factorSlots ≤ length l
   pub few : degreeAt l o ≤ limit
 
 module _ (l : List ℕ) {o : ℕ} (c : Chosen l o) where
@@ -72,15 +73,15 @@ module _ (l : List ℕ) {o : ℕ} (c : Chosen l o) where
   -- its field is known
   is-known : known (widthOf l) ≡ true
   unfolding decode
-  is-known = sound-valid byFactor-lawful known limit l (c .sound) .field
+  is-known = sound-valid byFactor-lawful known (limitBy l) l (c .sound) .field
 
   -- what it holds is valid
-  valid : Valid known limit t
-  valid = sound-valid byFactor-lawful known limit l (c .sound)
+  valid : Valid known (limitBy l) t
+  valid = sound-valid byFactor-lawful known (limitBy l) l (c .sound)
 
   -- and the slots are its encoding
-  encoded : encode byFactor slots t ≡ l
-  encoded = sound-encoded byFactor-lawful known limit l (c .sound)
+  encoded : encode byFactor (slotsFor (limitBy l)) t ≡ l
+  encoded = sound-encoded byFactor-lawful known (limitBy l) l (c .sound)
 
   -- it is not done
   open-still : isDone t ≡ false
@@ -94,7 +95,7 @@ module _ (l : List ℕ) {o : ℕ} (c : Chosen l o) where
 
   -- the level that the code reads
   level-is : levelAt l o ≡ P .0
-  level-is = ap₂ levelAt (sym encoded) (c .at) ∙ level-at t valid open-still slots
+  level-is = ap₂ levelAt (sym encoded) (c .at) ∙ level-at t valid open-still (slotsFor (limitBy l))
 
   -- it is below the degree of the field
   pub level-below-width : levelAt l o < widthOf l
@@ -103,23 +104,22 @@ module _ (l : List ℕ) {o : ℕ} (c : Chosen l o) where
 
   -- the degree that it reads
   degree-is : degreeAt l o ≡ length (P .1)
-  degree-is = ap₂ degreeAt (sym encoded) (c .at) ∙ degree-at t valid open-still slots
+  degree-is = ap₂ degreeAt (sym encoded) (c .at) ∙ degree-at t valid open-still (slotsFor (limitBy l))
 
   -- the coefficients that it reads
   pub factor-is : factorAt l o ≡ P .1
-  factor-is = ap₂ take degree-is (ap₂ (λ k u. drop (k + factorSlots) u) (c .at) (sym encoded)) ∙ coefficients-at t valid open-still slots
+  factor-is = ap₂ take degree-is (ap₂ (λ k u. drop (k + factorSlots) u) (c .at) (sym encoded)) ∙ coefficients-at t valid open-still (slotsFor (limitBy l))
 
   -- the degree of the factor is one of those that are summed up
-  around-long : place t + (length (P .1) + 2 * factorSlots) ≤ slots
+  around-long : place t + (length (P .1) + 2 * factorSlots) ≤ length l
   around-long =
       omega (
         arith,
-        ap length (sym encoded ∙ encode-around t valid open-still slots),
-        sound-length byFactor-lawful limit l (c .sound),
-        length-append (leading t) (slotsOf P ++ (blocks (beyond t) ++ replicate (spare slots t) 0)),
-        length-append (P .1) (blocks (beyond t) ++ replicate (spare slots t) 0),
-        length-append (blocks (beyond t)) (replicate (spare slots t) 0),
-        length-replicate {A = ℕ} (spare slots t) 0,
+        ap length (sym encoded ∙ encode-around t valid open-still (slotsFor (limitBy l))),
+        length-append (leading t) (slotsOf P ++ (blocks (beyond t) ++ replicate (spare (slotsFor (limitBy l)) t) 0)),
+        length-append (P .1) (blocks (beyond t) ++ replicate (spare (slotsFor (limitBy l)) t) 0),
+        length-append (blocks (beyond t)) (replicate (spare (slotsFor (limitBy l)) t) 0),
+        length-replicate {A = ℕ} (spare (slotsFor (limitBy l)) t) 0,
         room t valid open-still,
       )
 
@@ -136,9 +136,9 @@ module _ (l : List ℕ) {o : ℕ} (c : Chosen l o) where
   -- where it stands
   slots-read : SlotsRead l o
   slots-read = record {
-    long = sound-length byFactor-lawful limit l (c .sound);
+    long = omega (arith, sound-size l (c .sound));
     room = omega (arith, degree-is, c .at, around-long);
-    few = omega (arith, degree-is, entry-most (t .factors) (firstAbove (t .cutoff) (t .factors)), valid .sum);
+    few = omega (arith, limit-most (length l), degree-is, entry-most (t .factors) (firstAbove (t .cutoff) (t .factors)), valid .sum);
   }
 
   -- there is a head
@@ -265,12 +265,12 @@ module _ (l : List ℕ) {o : ℕ} (c : Chosen l o) where
         let s = slots-read in
         record {
           some = omega (arith, count-is, some-factor (t .cutoff) (t .factors) open-still);
-          count = omega (arith, count-is, count-within valid);
+          count = omega (arith, limit-most (length l), count-is, count-within valid);
           taken = omega (
             arith,
             taken-is,
             is-free .steps,
-            mul-le-mul {n₂ = widest} {m₂ = limit} (degree-within (t .width) (valid .field)) (le-trans (div-le-self (degreeSum (t .factors)) (suc (t .cutoff))) (valid .sum)),
+            mul-le-mul {n₂ = widest} {m₂ = limit} (degree-within (t .width) (valid .field)) (le-trans (div-le-self (degreeSum (t .factors)) (suc (t .cutoff))) (le-trans (valid .sum) (limit-most (length l)))),
           );
           room = omega (arith, s .room, s .long);
           least = omega (arith, new-count, z .least);
@@ -283,8 +283,8 @@ module _ (l : List ℕ) {o : ℕ} (c : Chosen l o) where
         let old : degreeAt l o + factorSlots ≡ length (slotsOf P) = omega (arith, degree-is) in
         let n : countOf l - 1 + (length (take q w) - degreeAt l o) / factorSlots ≡ length (t .factors) - 1 + length (parts H P) = omega (arith, new-count, new-long, count-is) in
         let j : takenOf l + 1 ≡ suc (t .taken) = omega (arith, taken-is) in
-        let same : spliced o (degreeAt l o + factorSlots) (take q w) l ≡ spliced (place t) (length (slotsOf P)) (blocks (parts H P)) (encode byFactor slots t) =
+        let same : spliced o (degreeAt l o + factorSlots) (take q w) l ≡ spliced (place t) (length (slotsOf P)) (blocks (parts H P)) (encode byFactor (slotsFor (limitBy l)) t) =
         ap₂ (λ (a b : ℕ). spliced a b (take q w) l) (c .at) old ∙ ap₂ (λ (u v : List ℕ). spliced (place t) (length (slotsOf P)) u v) new-is (sym encoded) in
         x ∙ ap₂ (λ (u : List ℕ) (a : ℕ). set (set u 2 a) 3 (takenOf l + 1)) same n
-        ∙ ap (λ a. set (set (spliced (place t) (length (slotsOf P)) (blocks (parts H P)) (encode byFactor slots t)) 2 (length (t .factors) - 1 + length (parts H P))) 3 a) j
-        ∙ sym (step-slots byFactor-lawful limit l (c .sound) ∙ step-spliced t valid open-still H halves)
+        ∙ ap (λ a. set (set (spliced (place t) (length (slotsOf P)) (blocks (parts H P)) (encode byFactor (slotsFor (limitBy l)) t)) 2 (length (t .factors) - 1 + length (parts H P))) 3 a) j
+        ∙ sym (step-slots byFactor-lawful (limitBy l) l (c .sound) ∙ step-spliced t valid open-still H halves)

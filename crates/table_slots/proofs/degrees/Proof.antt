@@ -32,6 +32,9 @@ returns-2 c = deny-low _ (c .if1 .taken)
 returns-3 : tie.Need-returns-3
 returns-3 c = deny-high _ (c .if2 .taken)
 
+limit-for-requires : tie.Need-limit-for-requires
+limit-for-requires c κs = search needs
+
 sub-walk : tie.Need-sub-walk
 sub-walk c = search needs
 
@@ -46,8 +49,10 @@ shared-slice-read-walk c = search needs
 
 walk-requires : tie.Need-walk-requires
 walk-requires c κs =
-    let k = c .before .before .before .before .before in
-    walk-asks (now (k .before .before .before .before .before .before .args .table)) (k .before .before .row-of .ensures) (k .row .given .1) (search needs)
+    let n = c .before .before in
+    let k = n .before .before .before .before in
+    walk-asks (now (k .before .before .before .before .before .before .args .table)) (k .before .before .row-of .ensures) (k .row .given .1)
+    (n .limit-for .ensures) (n .before .before .before .before .before .before .before .before .before .before .pre)
 
 enum-known-sum : tie.Need-enum-known-sum
 enum-known-sum c = search needs
@@ -58,8 +63,9 @@ enum-told-2 c = search needs
 returns-4 : tie.Need-returns-4
 returns-4 c =
     let w = c .before .before in
-    let k = w .before .before .before .before .before .before in
-    deny-walk _ (k .before .before .row-of .ensures) (k .row .given .1) (w .walk .ensures) (c .enum-told2 .given .1)
+    let n = w .before .before .before in
+    let k = n .before .before .before .before in
+    deny-walk _ (k .before .before .row-of .ensures) (k .row .given .1) (n .limit-for .ensures) (w .walk .ensures) (c .enum-told2 .given .1)
 
 shared-slice-read-taken : tie.Need-shared-slice-read-taken
 shared-slice-read-taken c = search needs
@@ -68,8 +74,9 @@ step-limit-requires : tie.Need-step-limit-requires
 step-limit-requires c κs =
     let s = c .before .before in
     let w = s .before .before in
-    let k = w .before .before .before .before .before .before in
-    few (now (k .before .before .before .before .before .before .args .table)) (k .before .before .row-of .ensures) (k .row .given .1) (w .walk .ensures) (s .sum .given .1)
+    let n = w .before .before .before in
+    let k = n .before .before .before .before in
+    few (now (k .before .before .before .before .before .before .args .table)) (k .before .before .row-of .ensures) (k .row .given .1) (n .limit-for .ensures) (w .walk .ensures) (s .sum .given .1)
 
 cast-if3 : tie.Need-cast-if3
 cast-if3 c = omega (arith, c .before .shared-slice-known5 .given 3)
@@ -78,16 +85,18 @@ returns-5 : tie.Need-returns-5
 returns-5 c =
     let s = c .before .before .before .before in
     let w = s .before .before in
-    let k = w .before .before .before .before .before .before in
-    deny-steps _ (k .before .before .row-of .ensures) (k .row .given .1) (w .walk .ensures) (s .sum .given .1)
+    let n = w .before .before .before in
+    let k = n .before .before .before .before in
+    deny-steps _ (k .before .before .row-of .ensures) (k .row .given .1) (n .limit-for .ensures) (w .walk .ensures) (s .sum .given .1)
     (omega (arith, c .before .step-limit .ensures, c .if3 .taken))
 
 returns-6 : tie.Need-returns-6
 returns-6 c =
     let s = c .before .before .before .before in
     let w = s .before .before in
-    let k = w .before .before .before .before .before .before in
-    accept _ (k .before .before .row-of .ensures) (k .row .given .1) (w .walk .ensures) (s .sum .given .1) (search needs) (omega arith) (omega arith)
+    let n = w .before .before .before in
+    let k = n .before .before .before .before in
+    accept _ (k .before .before .row-of .ensures) (k .row .given .1) (n .limit-for .ensures) (w .walk .ensures) (s .sum .given .1) (search needs) (omega arith) (omega arith)
     (omega (arith, c .before .step-limit .ensures, c .if3 .left))
 
 pub degrees-spec : {M : Type 1} → statement M
@@ -102,6 +111,7 @@ degrees-spec =
     returns
     returns-2
     returns-3
+    limit-for-requires
     sub-walk
     part-walk-start
     part-walk-end
