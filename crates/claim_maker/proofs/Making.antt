@@ -1,6 +1,5 @@
 -- The call: from the roots to the five buffers.
 --   make-solves .. make-is    `make_lent`: what each routine asks, and what is left
---   arm                       in the arm of the field of degree n, with its tables lent
 --   admit-all                 the tests of the five buffers, one behind the other
 --   prove-told                what is known of what was let in
 -- Assumes nothing.
@@ -24,11 +23,10 @@ use Rattle.algebra.specs.Polynomial.{Below, fromRoots}
 use Rattle.algebra.proofs.NumberMonic.{norm-made}
 use Rattle.algebra.proofs.RootList.{rootsOf-ascending}
 use Rattle.algebra.proofs.StaysBelow.{rootsOf-below}
-use Rattle.field.specs.Field.{G, fieldAt, multiplicitiesAt, rootsAt}
-use Rattle.field.specs.Tables.{Antilogs, Halves, Logs}
+use Rattle.field.specs.Field.{G, multiplicitiesAt, rootsAt}
 use Rattle.slices.specs.Lists.{copied}
 use Rattle.slices.proofs.Lists.{copied-front, length-copied}
-use Rattle.poly.proofs.Lending.{lent-at}
+use Rattle.poly.specs.Lent.{Lent}
 use Rattle.poly.proofs.Logs.{numbers-of}
 use Rattle.poly.proofs.RootProducts.{product-below}
 use Rattle.input.specs.Cutoff.{houseDefault}
@@ -47,6 +45,10 @@ use Rattle.claim_maker.specs.Making.{AsField, IsPower, Makeable, Makeabl
 use Rattle.claim_maker.proofs.Powering.{reduced}
 
 module _ {m : ℕ} {f ls ts hs roots mults h u v : List ℕ} (g : MakeableLent m f ls ts hs (claimOf roots mults h u v)) where
+  -- the tables that it is given
+  lent : Lent m ls ts
+  lent = record { degree = g .makeable .polynomial .field; logs = g .logs; antilogs = g .antilogs }
+
   t : PolynomialIn m f
   t = g .makeable .polynomial
 
@@ -64,7 +66,7 @@ module _ {m : ℕ} {f ls ts hs roots mults h u v : List ℕ} (g : MakeableLent m
   pub make-solves : Solvable m houseDefault f ls ts hs roots × (widest * limit ≤ length (replicate {A = ℕ} (widest * limit) 0))
   unfolding t
   make-solves = (
-    record { polynomial = t; least = omega arith; most = omega arith; tables = g .tables; halves = g .halves; room = g .makeable .roots },
+    record { polynomial = t; least = omega arith; most = omega arith; tables = lent; halves = g .halves; room = g .makeable .roots },
     omega (arith, length-replicate {A = ℕ} (widest * limit) 0),
   )
 
@@ -85,7 +87,7 @@ module _ {m : ℕ} {f ls ts hs roots mults h u v : List ℕ} (g : MakeableLent m
     -- what z^(2^m) + z asks
     pub make-powers : Powerable m ls ts f rows (replicate (suc limit) 0)
     unfolding t
-    make-powers = record { tables = g .tables; polynomial = t; degree = o .degree; powers = o .powers; room = o .room; zeros = refl }
+    make-powers = record { tables = lent; polynomial = t; degree = o .degree; powers = o .powers; room = o .room; zeros = refl }
 
     front : take n roots′ ≡ rootsAt m f
     front = ap (take n) (o .slots-are) ∙ copied-front (rootsAt m f) roots (sym (o .count))
@@ -93,7 +95,7 @@ module _ {m : ℕ} {f ls ts hs roots mults h u v : List ℕ} (g : MakeableLent m
     -- and can be counted
     pub make-counts : CountableLent m f (take n roots′) ls ts mults
     unfolding t
-    make-counts = record { countable = countable roots t (o .count) (o .slots-are) (g .makeable .times); tables = g .tables }
+    make-counts = record { countable = countable roots t (o .count) (o .slots-are) (g .makeable .times); tables = lent }
 
     module _ {mults′ : List ℕ} (x : mults′ ≡ copied (multiplicitiesAt m f) mults) where
       -- as many multiplicities
@@ -111,7 +113,7 @@ module _ {m : ℕ} {f ls ts hs roots mults h u v : List ℕ} (g : MakeableLent m
       pub make-splits : Splittable m ls ts f (take n roots′) (take n mults′) (take (suc limit) h)
       unfolding t
       make-splits = record {
-        tables = g .tables;
+        tables = lent;
         polynomial = t;
         all = front;
         beside = ap (take n) x ∙ copied-front (multiplicitiesAt m f) mults count;
@@ -135,18 +137,18 @@ module _ {m : ℕ} {f ls ts hs roots mults h u v : List ℕ} (g : MakeableLent m
         as-field : {b : List ℕ} → IsPower m f b → AsField m y b
         unfolding t
         as-field {b} p x e =
-            let numbers = numbers-of (g .tables) in
+            let numbers = numbers-of lent in
             let d = norm-made numbers y (s .small) e in
             let q = norm-made numbers f (t .small) (p .made) in
             let roots-below : Below (2 ^ m) (spreadOut (rootsAt m f) (multiplicitiesAt m f)) = spread-below (2 ^ m) (rootsAt m f) (multiplicitiesAt m f) (rootsOf-below (G m) (2 ^ m) f) in
             reduced numbers m x (p .low) y f (fromRoots (G m) (spreadOut (rootsAt m f) (multiplicitiesAt m f))) b (d .lead) (q .lead) (d .small) (q .small) (s .small) (t .small)
-            (product-below m (g .tables .degree) (spreadOut (rootsAt m f) (multiplicitiesAt m f)) roots-below) (p .small) (d .lead-below) (q .lead-below) (q .nonzero)
+            (product-below m (lent .degree) (spreadOut (rootsAt m f) (multiplicitiesAt m f)) roots-below) (p .small) (d .lead-below) (q .lead-below) (q .nonzero)
             (d .exact) (s .product) (q .exact) (p .power)
 
         -- what u and v ask
         pub make-pairs : {b : List ℕ} → IsPower m f b → Pairable m ls ts (take (suc limit) (y ++ drop (suc limit) h)) b (take (suc limit) u) (take (suc limit) v)
         make-pairs {b} p = subst (λ l. Pairable m ls ts l b (take (suc limit) u) (take (suc limit) v)) (sym whole) (record {
-          tables = g .tables;
+          tables = lent;
           small = s .small;
           small-b = p .small;
           same = as-field p;
@@ -198,13 +200,6 @@ module _ {m : ℕ} {f ls ts hs roots mults h u v : List ℕ} (g : MakeableLent m
             five : {a a′ b b′ c c′ d d′ e e′ : List ℕ} → a ≡ a′ → b ≡ b′ → c ≡ c′ → d ≡ d′ → e ≡ e′ → claimOf a b c d e ≡ claimOf a′ b′ c′ d′ e′
             five {a} {a′} {b} {b′} {c} {c′} {d} {d′} {e} {e′} x y z p q =
                 ap₂ (λ i j. claimOf i j c d e) x y ∙ ap₂ (λ i j. claimOf a′ b′ i j e) z p ∙ ap (claimOf a′ b′ c′ d′) q
-
--- ---- the tables
-
--- in the arm of the field of degree n, with its tables lent
-pub arm : {m n : ℕ} {f ls ts hs : List ℕ} {b : Claim} → Makeable m f b → m ≡ n → Logs (fieldAt n) ls → Antilogs (fieldAt n) ts → Halves (fieldAt n) hs
-    → MakeableLent m f ls ts hs b
-arm {m} {n} {f} {ls} {ts} {hs} g e l a h = record { makeable = g; tables = lent-at e (g .polynomial .field) l a; halves = subst (λ i. Halves (fieldAt i) hs) (sym e) h }
 
 -- ---- the tests
 

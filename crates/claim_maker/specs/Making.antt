@@ -22,7 +22,7 @@ use Rattle.algebra.specs.Multiplicity.{total}
 use Rattle.algebra.specs.Polynomial.{Below, add, coef, eval, fieldPoly, fromRoots, mul}
 use Rattle.algebra.specs.Routines.{frobeniusMod, monicRoots, norm, rem}
 use Rattle.field.specs.Field.{G, fieldAt, multiplicitiesAt, rootsAt}
-use Rattle.field.specs.Tables.{Halves}
+use Rattle.field.specs.Tables.{Antilogs, Halves, Logs}
 use Rattle.poly.specs.Lent.{Lent, LogRow, logRow}
 use Rattle.slices.specs.Lists.{copied}
 use Rattle.table_begin.specs.SplitPart.{Powered}
@@ -174,5 +174,6 @@ pub record Makeable (m : ℕ) (f : List ℕ) (b : Claim) : Type 0 where
 -- with the field's tables
 pub record MakeableLent (m : ℕ) (f ls ts hs : List ℕ) (b : Claim) : Type 0 where
   pub makeable : Makeable m f b
-  pub tables : Lent m ls ts
+  pub logs : Logs (fieldAt m) ls
+  pub antilogs : Antilogs (fieldAt m) ts
   pub halves : Halves (fieldAt m) hs

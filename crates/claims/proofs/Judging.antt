@@ -1,6 +1,5 @@
 -- From the parts of the check to its answer.
 --   weigh-no, weigh-says           `weigh_lent`: the first equation fails, or the second decides
---   arm                            `weigh`: the tables of the field are lent
 --   DegreesFit, degrees-fit        an acceptable claim has a cofactor that is not 0, and degrees that add up
 --   judge-zero, judge-high, judge-tally   `judge`: where they do not, it is not acceptable
 --   judge-spread .. judge-says     what each routine asks, and what the equations say
@@ -19,11 +18,8 @@ use Rattle.algebra.specs.Multiplicity.{total}
 use Rattle.algebra.specs.Trial.{All}
 use Rattle.algebra.specs.Polynomial.{Below, coef, fromRoots, mul}
 use Rattle.algebra.proofs.StaysBelow.{take-below}
-use Rattle.field.specs.Field.{G, fieldAt}
-use Rattle.field.specs.Tables.{Antilogs, Logs}
-use Rattle.poly.specs.Lent.{Lent}
+use Rattle.field.specs.Field.{G}
 use Rattle.poly.specs.Monic.{TopIs}
-use Rattle.poly.proofs.Lending.{lent-at}
 use Rattle.input.specs.Limit.{limit}
 use Rattle.input.proofs.Fields.{known-field}
 use Rattle.input.proofs.Polynomials.{nonzero-place}
@@ -52,11 +48,6 @@ weigh-says {m} {f} {list} {h} {u} {v} {a} d t e = record {
   yes = λ y. record { product = d .yes (not-false a t); coprime = e .yes y };
   no = λ y w. e .no y (w .coprime);
 }
-
--- the tables of the field
-pub arm : {m n : ℕ} {f list h u v ls ts : List ℕ} → Weighable m f list h u v → m ≡ n → Logs (fieldAt n) ls → Antilogs (fieldAt n) ts
-    → Lent m ls ts × Weighable m f list h u v
-arm w e l t = (lent-at e (w .field) l t, w)
 
 -- ---- `judge`
 

@@ -313,9 +313,9 @@ fn weigh(m: u16, f: &[u16], list: &[u16], h: &[u16], u: &[u16], v: &[u16]) -> bo
         (now (v .entry))) ⌝ }
 {
     match m {
-        4 => weigh_lent(m, &logs4(), &antilogs4(), f, list, h, u, v),
-        8 => weigh_lent(m, &logs8(), &antilogs8(), f, list, h, u, v),
-        _ => weigh_lent(m, &logs11(), &antilogs11(), f, list, h, u, v),
+        4 => weigh_lent(m, &logs4(m), &antilogs4(m), f, list, h, u, v),
+        8 => weigh_lent(m, &logs8(m), &antilogs8(m), f, list, h, u, v),
+        _ => weigh_lent(m, &logs11(m), &antilogs11(m), f, list, h, u, v),
     }
 }
 

@@ -176,8 +176,8 @@ fn locate(odd: [u16; 8], t: u16) -> Places
     requires { ⌜ Under odd × (t ≤ 8) ⌝ }
     ensures { λ r. ⌜ Located odd t r ⌝ }
 {
-    let logs = logs11();
-    let antilogs = antilogs11();
+    let logs = logs11(F11::DEGREE);
+    let antilogs = antilogs11(F11::DEGREE);
     let s = corrector_locator::all_sums(&logs, &antilogs, odd);
     let r = corrector_locator::key(&logs, &antilogs, &s, t as usize);
     let locator = r.locator;

@@ -47,14 +47,14 @@ impl F4 {
         requires { do ⌜ (0 < r) × (r < (← ⟦F4::SIZE⟧)) ⌝ }
         ensures { λ j. ⌜ j ≡ position (fieldAt 4) r ⌝ }
     {
-        position_of(F4::DEGREE, F4::POLY, &logs4(), r)
+        position_of(F4::DEGREE, F4::POLY, &logs4(F4::DEGREE), r)
     }
 
     pub fn roots(a: u16, b: u16) -> Quadratic
         requires { do ⌜ (a < (← ⟦F4::SIZE⟧)) × (b < (← ⟦F4::SIZE⟧)) ⌝ }
         ensures { λ r. ⌜ SolvesQuadratic (fieldAt 4) a b r ⌝ }
     {
-        quadratic_of(F4::DEGREE, F4::POLY, &halves4(), a, b)
+        quadratic_of(F4::DEGREE, F4::POLY, &halves4(F4::DEGREE), a, b)
     }
 }
 
@@ -86,14 +86,14 @@ impl F8 {
         requires { do ⌜ (0 < r) × (r < (← ⟦F8::SIZE⟧)) ⌝ }
         ensures { λ j. ⌜ j ≡ position (fieldAt 8) r ⌝ }
     {
-        position_of(F8::DEGREE, F8::POLY, &logs8(), r)
+        position_of(F8::DEGREE, F8::POLY, &logs8(F8::DEGREE), r)
     }
 
     pub fn roots(a: u16, b: u16) -> Quadratic
         requires { do ⌜ (a < (← ⟦F8::SIZE⟧)) × (b < (← ⟦F8::SIZE⟧)) ⌝ }
         ensures { λ r. ⌜ SolvesQuadratic (fieldAt 8) a b r ⌝ }
     {
-        quadratic_of(F8::DEGREE, F8::POLY, &halves8(), a, b)
+        quadratic_of(F8::DEGREE, F8::POLY, &halves8(F8::DEGREE), a, b)
     }
 }
 
@@ -125,14 +125,14 @@ impl F11 {
         requires { do ⌜ (0 < r) × (r < (← ⟦F11::SIZE⟧)) ⌝ }
         ensures { λ j. ⌜ j ≡ position (fieldAt 11) r ⌝ }
     {
-        position_of(F11::DEGREE, F11::POLY, &logs11(), r)
+        position_of(F11::DEGREE, F11::POLY, &logs11(F11::DEGREE), r)
     }
 
     pub fn roots(a: u16, b: u16) -> Quadratic
         requires { do ⌜ (a < (← ⟦F11::SIZE⟧)) × (b < (← ⟦F11::SIZE⟧)) ⌝ }
         ensures { λ r. ⌜ SolvesQuadratic (fieldAt 11) a b r ⌝ }
     {
-        quadratic_of(F11::DEGREE, F11::POLY, &halves11(), a, b)
+        quadratic_of(F11::DEGREE, F11::POLY, &halves11(F11::DEGREE), a, b)
     }
 }
 

@@ -62,8 +62,8 @@ pub fn images(m: u16, coeffs: &[u16], constant: u16) -> [u16; COLUMNS]
     ensures { λ r. ⌜ Imaged m (now (coeffs .entry)) constant r ⌝ }
 {
     match m {
-        4 => images_lent(m, &logs4(), &antilogs4(), coeffs, constant),
-        8 => images_lent(m, &logs8(), &antilogs8(), coeffs, constant),
-        _ => images_lent(m, &logs11(), &antilogs11(), coeffs, constant),
+        4 => images_lent(m, &logs4(m), &antilogs4(m), coeffs, constant),
+        8 => images_lent(m, &logs8(m), &antilogs8(m), coeffs, constant),
+        _ => images_lent(m, &logs11(m), &antilogs11(m), coeffs, constant),
     }
 }

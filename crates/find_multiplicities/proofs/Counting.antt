@@ -5,7 +5,6 @@
 --   simple-written  as many roots as the degree: each is simple, and ones are written
 --   none            no root: nothing is written
 --   lent-asks, lent-counts   what the count on a copy asks, and that it gives the multiplicities
---   countable-lent  in the arm of a field, with its tables lent
 -- Assumes nothing.
 use mathlib.Core.Path.{_≡_, refl, sym, ap, ap₂, _∙_, subst}
 use mathlib.Core.Logic.{_≢_}
@@ -21,14 +20,12 @@ use Rattle.algebra.specs.Multiplicity.{left, multiplicitiesIn, multiplicity}
 use Rattle.algebra.proofs.StaysBelow.{below-at, rootsOf-below}
 use Rattle.algebra.proofs.RootList.{rootsOf-distinct}
 use Rattle.algebra.proofs.NumberMultiplicity as M
-use Rattle.field.specs.Field.{G, fieldAt, multiplicitiesAt, rootsAt}
-use Rattle.field.specs.Tables.{Antilogs, Logs}
+use Rattle.field.specs.Field.{G, multiplicitiesAt, rootsAt}
 use Rattle.slices.specs.Lists.{copied}
 use Rattle.slices.proofs.Lists.{copied-behind, copied-front, length-copied}
 use Rattle.slices.proofs.Filling.{Filling, fill-from, fill-on, fill-stop}
 use Rattle.poly.specs.Monic.{TopIs}
 use Rattle.poly.proofs.Logs.{numbers-of}
-use Rattle.poly.proofs.Lending.{lent-at}
 use Rattle.poly.proofs.Parts.{part-none, part-rest}
 use Rattle.input.specs.Polynomials.{PolynomialIn}
 use Rattle.input.proofs.Fields.{known-field}
@@ -187,10 +184,3 @@ module _ {m : ℕ} {f roots ls ts mults : List ℕ} (g : CountableLent m f roots
       h ∙ ap (λ u. copied u mults)
       (ap₂ (λ (a b : List ℕ). multiplicitiesIn (G m) a b) (ap (take (length f)) e ∙ copied-front f d refl) (c .all)
       ∙ M.taken-out (numbers-of (g .tables)) s f (rootsOf-below (G m) (2 ^ m) f) (c .polynomial .small) (j .0) (j .1) (rootsOf-distinct (G m) (2 ^ m) f))
-
--- ---- the tables
-
--- in the arm of the field of degree n, with its tables lent
-pub countable-lent : {m n : ℕ} {f roots ls ts mults : List ℕ} → Countable m f roots mults → m ≡ n → Logs (fieldAt n) ls → Antilogs (fieldAt n) ts
-    → CountableLent m f roots ls ts mults
-countable-lent g e l t = record { countable = g; tables = lent-at e (g .polynomial .field) l t }

@@ -89,6 +89,18 @@ pub fn multiplicities_lent(
     count_each(m, roots, logs, antilogs, &mut work[..n], mults);
 }
 
+// The same. The field's tables are lent here.
+fn count_in(m: u16, coeffs: &[u16], roots: &[u16], mults: &mut [u16])
+    requires { ⌜ Countable m (now coeffs) (now roots) (now mults) ⌝ }
+    ensures { λ _. ⌜ now (mults .exit) ≡ copied (multiplicitiesAt m (now (coeffs .entry))) (now (mults .entry)) ⌝ }
+{
+    match m {
+        4 => multiplicities_lent(m, coeffs, roots, &logs4(m), &antilogs4(m), mults),
+        8 => multiplicities_lent(m, coeffs, roots, &logs8(m), &antilogs8(m), mults),
+        _ => multiplicities_lent(m, coeffs, roots, &logs11(m), &antilogs11(m), mults),
+    }
+}
+
 // Writes the multiplicity of each root of an accepted polynomial to the front of mults, in the order of its roots.
 pub fn multiplicities_in(m: u16, coeffs: &[u16], roots: &[u16], mults: &mut [u16])
     requires { ⌜ Countable m (now coeffs) (now roots) (now mults) ⌝ }
@@ -102,9 +114,5 @@ pub fn multiplicities_in(m: u16, coeffs: &[u16], roots: &[u16], mults: &mut [u16
     if n == 0 {
         return;
     }
-    match m {
-        4 => multiplicities_lent(m, coeffs, roots, &logs4(), &antilogs4(), mults),
-        8 => multiplicities_lent(m, coeffs, roots, &logs8(), &antilogs8(), mults),
-        _ => multiplicities_lent(m, coeffs, roots, &logs11(), &antilogs11(), mults),
-    }
+    count_in(m, coeffs, roots, mults);
 }

@@ -2,7 +2,6 @@
 --   cut-coef      zeros above the highest coefficient change nothing
 --   led-from      a list whose last element is not 0
 --   found-NAME    what the calls of `find_lent` ask and leave
---   findable-at, findable-11   what is asked of it, in a field whose tables and chain are at hand
 -- Assumes nothing.
 use mathlib.Core.Path.{_≡_, _∙_, refl, sym, ap, ap₂, subst, fun-ext}
 use mathlib.Core.Logic.{_≢_, _↔_}
@@ -27,19 +26,14 @@ use Rattle.slices.specs.Bounded.{allZero}
 use Rattle.slices.proofs.Bounded.{allZero-exactly}
 use Rattle.slices.proofs.Lists.{length-copied, copied-front}
 use Rattle.slices.proofs.Ordered.{merged-kept, merged-count}
-use Rattle.field.specs.Field.{fieldAt, G, rootsAt}
-use Rattle.field.specs.Tables.{Logs, Antilogs}
+use Rattle.field.specs.Field.{G, rootsAt}
 use Rattle.poly.specs.Monic.{TopIs}
 use Rattle.poly.proofs.Logs.{numbers-of}
-use Rattle.poly.proofs.Lending.{lent-at}
 use Rattle.input.specs.Limit.{limit}
-use Rattle.input.specs.Polynomials.{PolynomialIn}
-use Rattle.find_search.specs.Searching.{Searchable, SearchedOut}
+use Rattle.find_search.specs.Searching.{SearchedOut}
 use Rattle.poly_resultants.specs.Maps.{Led}
 use Rattle.poly_resultants.specs.Levels.{room, Climbs, Levelled}
-use Rattle.poly_resultants.specs.Chains.{Chained, chainOf, endOf}
 use Rattle.poly_resultants.proofs.Numbers.{few-roots}
-use Rattle.poly_resultants.proofs.Reaching.{chained-of}
 use Rattle.find_resultants.specs.Finding.{Findable}
 
 -- ---- zeros above the highest coefficient
@@ -173,21 +167,3 @@ module _ {m : ℕ} {f ls ts chain : List ℕ} {end : ℕ} {roots : List ℕ} (a 
 
       pub found-small : {n : ℕ} {roots′ : List ℕ} → Merged 0 (take k xs) roots n roots′ → n ≤ limit
       found-small g = omega (arith, merged-count g (omega arith), found-few)
-
--- ---- one arm of the match over the degree, for all arms
-
-pub findable-at : {m n : ℕ} → m ≡ n → {f ls ts cs : List ℕ} {e′ : ℕ} {roots : List ℕ} → PolynomialIn m f → limit ≤ length roots
-    → Logs (fieldAt n) ls → Antilogs (fieldAt n) ts → cs ≡ chainOf n → e′ ≡ endOf n
-    → Findable m f ls ts cs e′ roots
-findable-at {m} {n} e {e′ = e′} p r l t c d = record {
-  searchable = record { polynomial = p; tables = lent-at e (p .field) l t; room = r };
-  chained = subst (λ u. Chained m u e′) (sym (c ∙ ap chainOf (sym e)))
-      (subst (λ u. Chained m (chainOf m) u) (sym (d ∙ ap endOf (sym e))) (chained-of m (p .field)));
-}
-
-pub findable-11 : {f ls ts cs : List ℕ} {e′ : ℕ} {roots : List ℕ} → Searchable 11 f ls ts roots → cs ≡ chainOf 11 → e′ ≡ endOf 11
-    → Findable 11 f ls ts cs e′ roots
-findable-11 {e′ = e′} s c d = record {
-  searchable = s;
-  chained = subst (λ u. Chained 11 u e′) (sym c) (subst (λ u. Chained 11 (chainOf 11) u) (sym d) (chained-of 11 (s .polynomial .field)));
-}

@@ -55,7 +55,15 @@ pub fn find11(f: &[u16], logs: &[u16], antilogs: &[u16], roots: &mut [u16]) -> u
     requires { ⌜ Searchable 11 (now f) (now logs) (now antilogs) (now roots) ⌝ }
     ensures { λ k. ⌜ SearchedOut 11 (now (f .entry)) (now (roots .entry)) k (now (roots .exit)) ⌝ }
 {
-    find_lent(F11::DEGREE, f, logs, antilogs, &chain11(), END11, roots)
+    find_lent(
+        F11::DEGREE,
+        f,
+        logs,
+        antilogs,
+        &chain11(F11::DEGREE),
+        END11,
+        roots,
+    )
 }
 
 // The roots of an accepted polynomial, over the field's tables and its chain, which are lent here.
@@ -64,8 +72,8 @@ pub fn find_in(m: u16, f: &[u16], roots: &mut [u16]) -> u16
     ensures { λ k. ⌜ SearchedOut m (now (f .entry)) (now (roots .entry)) k (now (roots .exit)) ⌝ }
 {
     match m {
-        4 => find_lent(m, f, &logs4(), &antilogs4(), &chain4(), END4, roots),
-        8 => find_lent(m, f, &logs8(), &antilogs8(), &chain8(), END8, roots),
-        _ => find_lent(m, f, &logs11(), &antilogs11(), &chain11(), END11, roots),
+        4 => find_lent(m, f, &logs4(m), &antilogs4(m), &chain4(m), END4, roots),
+        8 => find_lent(m, f, &logs8(m), &antilogs8(m), &chain8(m), END8, roots),
+        _ => find_lent(m, f, &logs11(m), &antilogs11(m), &chain11(m), END11, roots),
     }
 }

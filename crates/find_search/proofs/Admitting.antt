@@ -3,7 +3,6 @@
 --   both-rooms    the second list's room is tested behind the first's;  beside-room  so it has room for the limit
 --   searched-within, searched-counts, searched-both   the roots stand in their list, can be counted, and both lists
 --                 are filled
---   searchable    in the arm of the field of degree n, with its tables lent, the elements can be tried
 -- Assumes nothing.
 use mathlib.Core.Path.{_≡_, ap}
 use mathlib.Core.Bool.{Bool}
@@ -21,28 +20,22 @@ use Rattle.refusals.proofs.Admitting.{admits-also}
 use Rattle.refusals.proofs.Order.{failed, others}
 use Rattle.slices.specs.Lists.{copied}
 use Rattle.slices.proofs.Lists.{length-copied}
-use Rattle.field.specs.Field.{fieldAt, rootsAt, multiplicitiesAt}
-use Rattle.field.specs.Tables.{Logs, Antilogs}
+use Rattle.field.specs.Field.{rootsAt, multiplicitiesAt}
 use Rattle.input.specs.Limit.{limit}
 use Rattle.input.specs.Polynomials.{polynomialTests, PolynomialIn}
 use Rattle.input.proofs.Polynomials.{polynomial-told, roots-few, passed-rest}
 use Rattle.input.proofs.RootMemory.{lists-accepted}
-use Rattle.poly.proofs.Lending.{lent-at}
 use Rattle.find_multiplicities.specs.Counting.{Countable}
 use Rattle.find_multiplicities.proofs.Asking.{countable}
 use Rattle.find_search.specs.Calls.{searchTests, Searches}
 use Rattle.find_search.specs.declared.Searched.the-variants.{Seen}
-use Rattle.find_search.specs.Searching.{Searchable, SearchedOut}
+use Rattle.find_search.specs.Searching.{SearchedOut}
 
 pub search-room : (m : ℕ) (f roots : List ℕ) {us : List (ℕ × Bool)} → Passed (polynomialTests m f ((7, ltb (length roots) limit) ∷ us)) → limit ≤ length roots
 search-room m f roots h = ltb-false (length roots) limit (failed (passed-rest m f h))
 
 pub roots-room : {m n : ℕ} {f : List ℕ} → PolynomialIn m f → limit ≤ n → length (rootsAt m f) ≤ n
 roots-room p h = omega (arith, roots-few p)
-
-pub searchable : {m n : ℕ} {f ls ts roots : List ℕ} → PolynomialIn m f → limit ≤ length roots → m ≡ n → Logs (fieldAt n) ls → Antilogs (fieldAt n) ts
-    → Searchable m f ls ts roots
-searchable p r e l a = record { polynomial = p; tables = lent-at e (p .field) l a; room = r }
 
 -- ---- both lists
 

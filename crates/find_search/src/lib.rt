@@ -4,6 +4,7 @@
 ghost use mathlib.Core.Path.{_≡_};
 ghost use Prim.Native.Nat.{_+_, _≤_, _<_};
 ghost use lib.ListN.{length};
+ghost use Rattle.field_tables.specs.Naming.{LastField};
 ghost use Rattle.input.specs.Limit.{limit};
 ghost use Rattle.input.specs.Polynomials.{PolynomialIn};
 ghost use Rattle.find_search.specs.Calls.{Searches};
@@ -114,6 +115,14 @@ fn search11(f: &[u16], roots: &mut [u16]) -> u16
     k
 }
 
+// The same for the degree m of the field that is left.
+fn search_words(m: u16, f: &[u16], roots: &mut [u16]) -> u16
+    requires { ⌜ LastField m × PolynomialIn m (now f) × (limit ≤ length (now roots)) ⌝ }
+    ensures { λ k. ⌜ SearchedOut m (now (f .entry)) (now (roots .entry)) k (now (roots .exit)) ⌝ }
+{
+    search11(f, roots)
+}
+
 // The roots of an accepted polynomial: in the small fields element by element, over the field's tables, which are lent
 // here; in field 11 by words.
 fn search_in(m: u16, f: &[u16], roots: &mut [u16]) -> u16
@@ -121,9 +130,9 @@ fn search_in(m: u16, f: &[u16], roots: &mut [u16]) -> u16
     ensures { λ k. ⌜ SearchedOut m (now (f .entry)) (now (roots .entry)) k (now (roots .exit)) ⌝ }
 {
     match m {
-        4 => search_lent(m, f, &logs4(), &antilogs4(), roots),
-        8 => search_lent(m, f, &logs8(), &antilogs8(), roots),
-        _ => search11(f, roots),
+        4 => search_lent(m, f, &logs4(m), &antilogs4(m), roots),
+        8 => search_lent(m, f, &logs8(m), &antilogs8(m), roots),
+        _ => search_words(m, f, roots),
     }
 }
 

@@ -1,6 +1,5 @@
 -- What is known of what the whole call lets in.
 --   admitted                          the cutoff in force is from 1 to 3, and the list has its room
---   solvable                          in the arm of the field of degree n, with its tables lent, the engine can run
 --   solve-begins, begun-stepping      it can begin a table, and step what begin leaves
 --   solved-at                         what it gives at the cutoff in force
 --   both-rooms                        the second list's room is tested behind the first's
@@ -22,8 +21,7 @@ use Rattle.refusals.proofs.Admitting.{admits-also}
 use Rattle.refusals.proofs.Order.{failed, others}
 use Rattle.slices.specs.Lists.{copied}
 use Rattle.slices.proofs.Lists.{length-copied}
-use Rattle.field.specs.Field.{fieldAt, rootsAt, multiplicitiesAt}
-use Rattle.field.specs.Tables.{Logs, Antilogs, Halves}
+use Rattle.field.specs.Field.{rootsAt, multiplicitiesAt}
 use Rattle.input.specs.Cutoff.{highestCutoff, houseDefault, inForce}
 use Rattle.input.proofs.Cutoff.{inForce-least, inForce-most}
 use Rattle.input.specs.Limit.{limit, widest}
@@ -36,7 +34,6 @@ use Rattle.table_rules.proofs.Demand.{begin-slots}
 use Rattle.table_rules.specs.Sizes.{slots}
 use Rattle.table_begin.specs.SplitPart.{Beginnable}
 use Rattle.table_rules.specs.Demand.{stepCount}
-use Rattle.poly.proofs.Lending.{lent-at, halves-at}
 use Rattle.table_begin.proofs.Writing.{rows-room}
 use Rattle.find_multiplicities.specs.Counting.{Countable}
 use Rattle.find_multiplicities.proofs.Asking.{countable}
@@ -58,17 +55,6 @@ admitted m c f roots h e =
       subst (λ (w : ℕ). w ≤ highestCutoff) (sym e) (inForce-most houseDefault c (omega arith) most),
       ltb-false (length roots) limit (failed (others six)),
     )
-
-pub solvable : {m c n : ℕ} {f ls ts hs roots : List ℕ} → PolynomialIn m f × (1 ≤ c) × (c ≤ highestCutoff) × (limit ≤ length roots) → m ≡ n
-    → Logs (fieldAt n) ls → Antilogs (fieldAt n) ts → Halves (fieldAt n) hs → Solvable m c f ls ts hs roots
-solvable p e l a h = record {
-  polynomial = p .0;
-  least = p .1;
-  most = p .2;
-  tables = lent-at e (p .0 .field) l a;
-  halves = halves-at e h;
-  room = p .3;
-}
 
 -- ---- the engine
 

@@ -201,9 +201,17 @@ fn solve_traced(m: u16, c: u16, coeffs: &[u16], roots: &mut [u16]) -> Counts
     ensures { λ r. ⌜ SolvedOut m c (now (coeffs .entry)) (now (roots .entry)) r (now (roots .exit)) ⌝ }
 {
     match m {
-        4 => solve_lent(m, c, coeffs, &logs4(), &antilogs4(), &halves4(), roots),
-        8 => solve_lent(m, c, coeffs, &logs8(), &antilogs8(), &halves8(), roots),
-        _ => solve_lent(m, c, coeffs, &logs11(), &antilogs11(), &halves11(), roots),
+        4 => solve_lent(m, c, coeffs, &logs4(m), &antilogs4(m), &halves4(m), roots),
+        8 => solve_lent(m, c, coeffs, &logs8(m), &antilogs8(m), &halves8(m), roots),
+        _ => solve_lent(
+            m,
+            c,
+            coeffs,
+            &logs11(m),
+            &antilogs11(m),
+            &halves11(m),
+            roots,
+        ),
     }
 }
 

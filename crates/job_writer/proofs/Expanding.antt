@@ -1,6 +1,5 @@
 -- The polynomial of roots.
 --   expanded-none, expanded-one   of no root it is 1, of one root z + r; where they are stored
---   multipliable                  in the arm of a field, with its tables lent
 -- Assumes nothing.
 use mathlib.Core.Path.{_≡_, refl, sym, ap, ap₂, _∙_}
 use mathlib.Core.List.{List, [], _∷_}
@@ -10,13 +9,10 @@ use lib.Bits.{xor-zero-r}
 use lib.ListN.{length, getD, set}
 use Rattle.algebra.specs.Polynomial.{add, mul, fromRoots}
 use Rattle.field.specs.Field.{fieldAt}
-use Rattle.field.specs.Tables.{Logs, Antilogs}
 use Rattle.field.proofs.Known.{listed}
 use Rattle.field.proofs.Generator.{generated, one-below}
 use Rattle.field.proofs.Ring.{ring}
 use Rattle.slices.specs.Lists.{copied}
-use Rattle.poly.proofs.Lending.{lent-at}
-use Rattle.poly.specs.Products.{Multipliable}
 use Rattle.job_writer.specs.Records.{rootPolynomial}
 use Rattle.job_writer.specs.Writing.{Expandable}
 
@@ -33,11 +29,6 @@ of-one {m} {r} x =
     let laws = ring (fieldAt m) (g .monic) in
     ap₂ (λ a b. a ∷ b ∷ []) (xor-zero-r _ ∙ laws .mul-one-r r (x .small .0))
     (xor-zero-r _ ∙ laws .mul-one-r 1 (one-below (fieldAt m) g))
-
-module _ {m : ℕ} {roots f : List ℕ} (x : Expandable m roots f) where
-  pub multipliable : {n : ℕ} {ls ts : List ℕ} → m ≡ n → Logs (fieldAt n) ls → Antilogs (fieldAt n) ts
-      → Multipliable m ls ts roots f
-  multipliable e l t = record { tables = lent-at e (x .field) l t; small = x .small; room = x .room }
 
 -- of no root it is stored at once
 pub expanded-none : {m : ℕ} (roots f : List ℕ) → Expandable m roots f → length roots ≡ 0

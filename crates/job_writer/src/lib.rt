@@ -80,6 +80,18 @@ fn admit(m: u16, cutoff: u16, roots: &[u16], room: usize) -> Admission
     Admission::In
 }
 
+// The polynomial of the roots, at the front of f. The field's tables are lent here.
+fn expand(m: u16, roots: &[u16], f: &mut [u16])
+    requires { ⌜ Expandable m (now roots) (now f) ⌝ }
+    ensures { λ _. ⌜ now (f .exit) ≡ copied (rootPolynomial m (now (roots .entry))) (now (f .entry)) ⌝ }
+{
+    match m {
+        4 => product_over(m, roots, &logs4(m), &antilogs4(m), f),
+        8 => product_over(m, roots, &logs8(m), &antilogs8(m), f),
+        _ => product_over(m, roots, &logs11(m), &antilogs11(m), f),
+    }
+}
+
 // Writes the polynomial of the roots to the front of f: one coefficient more than there are roots. What stands behind
 // is not written.
 fn polynomial(m: u16, roots: &[u16], f: &mut [u16])
@@ -95,11 +107,7 @@ fn polynomial(m: u16, roots: &[u16], f: &mut [u16])
         f[1] = 1;
         return;
     }
-    match m {
-        4 => product_over(m, roots, &logs4(), &antilogs4(), f),
-        8 => product_over(m, roots, &logs8(), &antilogs8(), f),
-        _ => product_over(m, roots, &logs11(), &antilogs11(), f),
-    }
+    expand(m, roots, f);
 }
 
 // Writes the mark, m, the cutoff and n to the front of the room.

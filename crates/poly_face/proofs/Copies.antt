@@ -11,34 +11,28 @@ use Rattle.slices.specs.Lists.{copied}
 use Rattle.slices.proofs.Lists.{copied-front, length-copied}
 use Rattle.field.specs.Field.{fieldAt}
 use Rattle.field.specs.Tables.{Logs, Antilogs}
+use Rattle.poly.specs.Lent.{Lent}
 use Rattle.poly_face.specs.Tables.{Roomy, LentIn}
 
 -- what holds of a table of n entries holds of the front of the room that it is copied to
 front : (P : List ℕ → Type 0) {n : ℕ} {table exit : List ℕ} (room : List ℕ) → length table ≡ n → P table → exit ≡ copied table room → P (take n exit)
 front P {n} {table} room e h x = subst P (sym (ap (take n) x ∙ copied-front table room e)) h
 
-module _ {m n : ℕ} {ls ts logs antilogs : List ℕ} (e : m ≡ n) (L : Logs (fieldAt n) ls) (A : Antilogs (fieldAt n) ts) (r : Roomy m logs antilogs) where
-  -- the tables are those of the degree m
-  logs-m : Logs (fieldAt m) ls
-  logs-m = subst (λ (k : ℕ). Logs (fieldAt k) ls) (sym e) L
-
-  antilogs-m : Antilogs (fieldAt m) ts
-  antilogs-m = subst (λ (k : ℕ). Antilogs (fieldAt k) ts) (sym e) A
-
+module _ {m : ℕ} {ls ts logs antilogs : List ℕ} (g : Lent m ls ts × Roomy m logs antilogs) where
   -- they fit
-  pub room-for : (length ls ≤ length logs) × (length ts ≤ length antilogs)
+  room-for : (length ls ≤ length logs) × (length ts ≤ length antilogs)
   room-for = (
-    subst (λ (k : ℕ). k ≤ length logs) (sym (logs-m .entries)) (r .logs),
-    subst (λ (k : ℕ). k ≤ length antilogs) (sym (antilogs-m .entries)) (r .antilogs),
+    subst (λ (k : ℕ). k ≤ length logs) (sym (g .0 .logs .entries)) (g .1 .logs),
+    subst (λ (k : ℕ). k ≤ length antilogs) (sym (g .0 .antilogs .entries)) (g .1 .antilogs),
   )
 
   -- copied there, they stand at the front, and the rooms are as long as they were
   pub lent-in : {logs′ antilogs′ : List ℕ} → (logs′ ≡ copied ls logs) × (antilogs′ ≡ copied ts antilogs) → LentIn m logs antilogs logs′ antilogs′
   lent-in x = record {
     tables = record {
-      degree = r .degree;
-      logs = front (Logs (fieldAt m)) logs (logs-m .entries) logs-m (x .0);
-      antilogs = front (Antilogs (fieldAt m)) antilogs (antilogs-m .entries) antilogs-m (x .1);
+      degree = g .1 .degree;
+      logs = front (Logs (fieldAt m)) logs (g .0 .logs .entries) (g .0 .logs) (x .0);
+      antilogs = front (Antilogs (fieldAt m)) antilogs (g .0 .antilogs .entries) (g .0 .antilogs) (x .1);
     };
     long-logs = ap length (x .0) ∙ length-copied ls logs (room-for .0);
     long-antilogs = ap length (x .1) ∙ length-copied ts antilogs (room-for .1);

@@ -3,12 +3,10 @@
 // and antilog tables of the field of degree m.
 ghost use mathlib.Core.Path.{_≡_};
 ghost use mathlib.Core.List.{[], _∷_};
-ghost use Prim.Native.Nat.{_^_, _≤_, _<_};
-ghost use lib.ListN.{length};
+ghost use Prim.Native.Nat.{_^_, _<_};
 ghost use Rattle.algebra.specs.Polynomial.{eval, Below};
 ghost use Rattle.algebra.specs.Routines.{rem, frobeniusMod, traceMod, cofactor};
 ghost use Rattle.field.specs.Field.{G};
-ghost use Rattle.slices.specs.Lists.{copied};
 ghost use Rattle.poly.specs.Lent.{Lent, Loggable, logRow, held};
 ghost use Rattle.poly.specs.Division.{Reducible};
 ghost use Rattle.poly.specs.Monic.{TopIs, MadeMonic};
@@ -31,11 +29,10 @@ type Read<'a> = &'a [u16];
 
 type Written<'a> = &'a mut [u16];
 
-// Writes two tables, each to the front of its room.
-fn lend(ls: &[u16], ts: &[u16], logs: &mut [u16], antilogs: &mut [u16])
-    requires { ⌜ (length (now ls) ≤ length (now logs)) × (length (now ts) ≤ length (now antilogs)) ⌝ }
-    ensures { λ _. ⌜ (now (logs .exit) ≡ copied (now (ls .entry)) (now (logs .entry)))
-        × (now (antilogs .exit) ≡ copied (now (ts .entry)) (now (antilogs .entry))) ⌝ }
+// Writes the two tables of the field of degree m, which are lent, each to the front of its room.
+fn lend(m: u16, ls: &[u16], ts: &[u16], logs: &mut [u16], antilogs: &mut [u16])
+    requires { ⌜ Lent m (now ls) (now ts) × Roomy m (now logs) (now antilogs) ⌝ }
+    ensures { λ _. ⌜ LentIn m (now (logs .entry)) (now (antilogs .entry)) (now (logs .exit)) (now (antilogs .exit)) ⌝ }
 {
     slices::copy(ls, logs);
     slices::copy(ts, antilogs);
@@ -48,9 +45,9 @@ pub extern "C" fn poly_tables(m: u16, logs: Written, antilogs: Written)
     ensures { λ _. ⌜ LentIn m (now (logs .entry)) (now (antilogs .entry)) (now (logs .exit)) (now (antilogs .exit)) ⌝ }
 {
     match m {
-        4 => lend(&logs4(), &antilogs4(), logs, antilogs),
-        8 => lend(&logs8(), &antilogs8(), logs, antilogs),
-        _ => lend(&logs11(), &antilogs11(), logs, antilogs),
+        4 => lend(m, &logs4(m), &antilogs4(m), logs, antilogs),
+        8 => lend(m, &logs8(m), &antilogs8(m), logs, antilogs),
+        _ => lend(m, &logs11(m), &antilogs11(m), logs, antilogs),
     }
 }
 

@@ -3,7 +3,7 @@
 --   steady, under    tests that are computed
 --   reaches          an additive map whose values at 1, 2, 4, .. are below 2^k has all its values there
 --   chained          what passes the tests is a chain
---   chained-of       the chains of the known fields are
+--   chained-of       the chains of the known fields are;  chained-at  for every name of the field
 -- Assumes nothing.
 use mathlib.Core.Path.{_≡_, _∙_, refl, sym, ap, ap₂, subst}
 use mathlib.Core.Bool.{Bool, true, false, cond}
@@ -101,3 +101,7 @@ chained-of m d =
     (chained 4 3 (row4 .degree) chain4 (record { least = omega arith; fours = refl; within = omega arith }) tt tt)
     (chained 8 4 (row8 .degree) chain8 (record { least = omega arith; fours = refl; within = omega arith }) tt tt)
     (chained 11 5 (row11 .degree) chain11 (record { least = omega arith; fours = refl; within = omega arith }) tt tt) (listed m d)
+
+-- whatever the field is called
+pub chained-at : {m n e : ℕ} {bs : List ℕ} → m ≡ n → Chained n bs e → Chained m bs e
+chained-at {e = e} {bs} q = subst (λ (i : ℕ). Chained i bs e) (sym q)

@@ -17,15 +17,14 @@ use Rattle.algebra.specs.Trial.{All, Distinct}
 use Rattle.algebra.specs.Polynomial.{eval}
 use Rattle.algebra.proofs.StaysBelow.{eval-below}
 use Rattle.field.specs.Field.{fieldAt, G, mul, inverse}
-use Rattle.field.specs.Tables.{HalfRoot, Halves}
+use Rattle.field.specs.Tables.{HalfRoot}
 use Rattle.field.proofs.Generator.{mul-inverse, inverse-lt, zero-product}
 use Rattle.field.proofs.Ring.{mul-lt, mul-zero-r}
 use Rattle.field.proofs.Solutions.{solution}
 use Rattle.poly.specs.Lent.{Lent}
-use Rattle.poly.proofs.Lending.{halves-at}
 use Rattle.poly.proofs.Logs.{field-of, numbers-of}
 use Rattle.poly_resultants.specs.Pairs.{Evaluable}
-use Rattle.poly_resultants.specs.Levels.{most, Solves, Lifts, normBy, Put, Written, Boths, BothsLent, Aboves, Descends, Descended}
+use Rattle.poly_resultants.specs.Levels.{most, Solves, Lifts, normBy, Put, Written, BothsLent, Aboves, Descends, Descended}
 use Rattle.poly_resultants.proofs.Descending.{solves-none, solves-two, lifts-none, lifts-one, lifts-both, lifts-append, lifts-few, distinct-apart}
 
 -- ---- numbers written behind the first n
@@ -68,10 +67,6 @@ inverse-good {m} t b pb hb {v} e = (pos-of-ne-zero nonzero, subst (λ w. w < 2 ^
         sym (mul-inverse (fieldAt m) (field-of t) b pb hb) ∙ ap (mul (fieldAt m) b) (sym e ∙ z)
         ∙ mul-zero-r (fieldAt m) (field-of t .monic) b in
         omega arith
-
-pub both-lends : {m k : ℕ} → m ≡ k → {ls ts hs : List ℕ} {b y : ℕ} {out : List ℕ} {n : ℕ} → Boths m ls ts b y out n → Halves (fieldAt k) hs
-    → BothsLent m ls ts hs b y out n
-both-lends e a h = record { boths = a; halves = halves-at e h }
 
 module _ {m : ℕ} {ls ts hs : List ℕ} {b y : ℕ} {out : List ℕ} {n : ℕ} (a : BothsLent m ls ts hs b y out n) where
   product-lt : (x z : ℕ) → mul (fieldAt m) x z < 2 ^ m

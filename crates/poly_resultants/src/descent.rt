@@ -50,9 +50,9 @@ fn both(m: u16, logs: &[u16], antilogs: &[u16], b: u16, y: u16, out: &mut [u16],
     ensures { λ k. ⌜ Written (Solves m b y) n (now (out .entry)) k (now (out .exit)) ⌝ }
 {
     match m {
-        4 => both_lent(m, logs, antilogs, &halves4(), b, y, out, n),
-        8 => both_lent(m, logs, antilogs, &halves8(), b, y, out, n),
-        _ => both_lent(m, logs, antilogs, &halves11(), b, y, out, n),
+        4 => both_lent(m, logs, antilogs, &halves4(m), b, y, out, n),
+        8 => both_lent(m, logs, antilogs, &halves8(m), b, y, out, n),
+        _ => both_lent(m, logs, antilogs, &halves11(m), b, y, out, n),
     }
 }
 

@@ -1,6 +1,5 @@
 -- A table is begun: what the parts ask, and what is left.
 --   rows-room                           the room for the rows of the powers
---   begin-asks                          what the table asks
 --   split-long, split-few, written-is   the part that splits, and what is left in the table
 --   begin-room                          the table of what was let in
 -- Assumes nothing.
@@ -15,8 +14,7 @@ use lib.ListN.{length, take}
 use Rattle.refusals.specs.Order.{Passed}
 use Rattle.field.specs.Rows.{known}
 use Rattle.refusals.proofs.Order.{failed, others}
-use Rattle.field.specs.Field.{fieldAt, G, rootsAt}
-use Rattle.field.specs.Tables.{Logs, Antilogs}
+use Rattle.field.specs.Field.{G, rootsAt}
 use Rattle.algebra.proofs.Lengths.{length-monicRoots}
 use Rattle.input.specs.Limit.{limit, widest}
 use Rattle.input.specs.Polynomials.{PolynomialIn}
@@ -27,19 +25,12 @@ use Rattle.table_rules.specs.Table.{encode}
 use Rattle.table_rules.specs.Splitting.{begunTable, slotsBegun}
 use Rattle.table_rules.specs.Sizes.{slots}
 use Rattle.table_begin.specs.SplitPart.{Beginnable}
-use Rattle.poly.proofs.Lending.{lent-at}
 use Rattle.table_begin.specs.Calls.{beginTests}
 use Rattle.table_begin.proofs.SplitPart.{SplitOff}
 
 -- the rows of m powers fit where those of the widest field do
 pub rows-room : (m : ℕ) → known m ≡ true → {l : ℕ} → widest * limit ≤ l → m * limit ≤ l
 rows-room m k h = omega (arith, degree-within m k)
-
--- what beginning a table asks, in the arm of the field of degree n
-pub begin-asks : {m n : ℕ} {cs ls ts table rows : List ℕ} → PolynomialIn m cs → length table ≡ slots → widest * limit ≤ length rows → m ≡ n
-    → Logs (fieldAt n) ls → Antilogs (fieldAt n) ts → Beginnable m cs ls ts table rows
-begin-asks {m} p t r e l a =
-    record { polynomial = p; tables = lent-at e (p .field) l a; room = t; room-rows = rows-room m (p .field) r }
 
 -- the part that splits is as long as it says
 pub split-long : {m k : ℕ} {cs out : List ℕ} → SplitOff m cs k out → length (take k out) ≡ k

@@ -89,18 +89,26 @@ pub fn begin_lent(
     d
 }
 
-// Writes the table of an accepted polynomial. The field's tables are lent here.
+// The table of an accepted polynomial, with room for the powers. The field's tables are lent here.
+fn begin_with(m: u16, c: u16, coeffs: &[u16], table: &mut [u16], rows: &mut [u16])
+    requires { ⌜ PolynomialIn m (now coeffs) × (length (now table) ≡ slots) × (m * limit ≤ length (now rows)) ⌝ }
+    ensures { λ _. ⌜ now (table .exit) ≡ slotsBegun byFactor slots m c (now (coeffs .entry)) ⌝ }
+{
+    match m {
+        4 => begin_lent(m, c, coeffs, &logs4(m), &antilogs4(m), table, rows),
+        8 => begin_lent(m, c, coeffs, &logs8(m), &antilogs8(m), table, rows),
+        _ => begin_lent(m, c, coeffs, &logs11(m), &antilogs11(m), table, rows),
+    }
+    ;
+}
+
+// Writes the table of an accepted polynomial.
 fn begin_in(m: u16, c: u16, coeffs: &[u16], table: &mut [u16])
     requires { ⌜ PolynomialIn m (now coeffs) × (length (now table) ≡ slots) ⌝ }
     ensures { λ _. ⌜ now (table .exit) ≡ slotsBegun byFactor slots m c (now (coeffs .entry)) ⌝ }
 {
     let mut rows = [0u16; POWER_ROWS];
-    match m {
-        4 => begin_lent(m, c, coeffs, &logs4(), &antilogs4(), table, &mut rows),
-        8 => begin_lent(m, c, coeffs, &logs8(), &antilogs8(), table, &mut rows),
-        _ => begin_lent(m, c, coeffs, &logs11(), &antilogs11(), table, &mut rows),
-    }
-    ;
+    begin_with(m, c, coeffs, table, &mut rows);
 }
 
 // Begins a table: one factor, the product of (z + r) over all distinct roots of the polynomial, or none if it has no

@@ -2,7 +2,7 @@
 --   roots-long, merge-asks, merge-is   one factor: its roots are found and merged
 --   table-long, table-known           a sound table has its slots, and its field is known
 --   head-there                        its head
---   lent-on                           the tables of the field are lent
+--   named, listable                   the head names the field, whose tables are lent
 --   Zero                              some factor is 0 at an element
 --   Finishing                         what holds at each turn: what lies ahead, and what has been merged
 --   finish-from, finish-on, finish-end  the start, a turn, the end
@@ -26,6 +26,7 @@ use Rattle.algebra.proofs.RootList.{rootsOf-member}
 use Rattle.field.specs.Rows.{known}
 use Rattle.slices.specs.Ordered.{Merged}
 use Rattle.slices.proofs.Ordered.{merged-none, merged-append, merged-count, merged-kept}
+use Rattle.poly.specs.Lent.{Lent}
 use Rattle.poly_small.specs.Roots.{RootsOut}
 use Rattle.input.specs.Cutoff.{highestCutoff}
 use Rattle.input.specs.Limit.{limit}
@@ -38,12 +39,11 @@ use Rattle.table_rules.proofs.Layouts.{byFactor-lawful}
 use Rattle.table_rules.specs.Places.{spare}
 use Rattle.table_rules.proofs.Soundness.{Fair, Valid, sound-valid, sound-encoded, sound-rules}
 use Rattle.field.specs.Field.{fieldAt, G, rootsAt}
-use Rattle.field.specs.Tables.{Halves, Logs, Antilogs}
+use Rattle.field.specs.Tables.{Halves}
 use Rattle.table_rules.specs.Sizes.{limitBy}
 use Rattle.table_slots.specs.Slots.{widthOf, cutoffOf, countOf, degreeAt, factorAt, nextAt, StandsWhole, Heads}
 use Rattle.table_slots.specs.declared.Head.{Head}
-use Rattle.table_finish.specs.Finishing.{Mergeable, RootsIn, Lendable, Listable, ListedIn}
-use Rattle.poly.proofs.Lending.{lent-at, halves-at}
+use Rattle.table_finish.specs.Finishing.{Mergeable, RootsIn, Lendable, LendableAt, Listable, ListedIn}
 
 -- ---- one factor
 
@@ -156,10 +156,17 @@ module _ {l list : List ℕ} (g : Lendable l list) where
   pub head-there : headSlots ≤ length l
   head-there = omega (arith, table-long)
 
-  -- in the arm of the field of degree n its tables are lent
-  pub lent-on : {n : ℕ} {h : Head} {ls ts hs : List ℕ} → Heads l h → h .m ≡ n → Logs (fieldAt n) ls → Antilogs (fieldAt n) ts → Halves (fieldAt n) hs
-      → Listable ls ts hs l list
-  lent-on k e a b h = let w = sym (k .width) ∙ e in record { given = g; tables = lent-at w table-known a b; halves = halves-at w h }
+  -- the head names it
+  pub named : {h : Head} → Heads l h → LendableAt (h .m) l list
+  named k = record { given = g; width = k .width; field = ap known (k .width) ∙ table-known }
+
+-- the tables of a degree are those of the table's field
+pub listable : {m : ℕ} {ls ts hs l list : List ℕ} → LendableAt m l list × Lent m ls ts × Halves (fieldAt m) hs → Listable ls ts hs l list
+listable {ls = ls} {ts} {hs} a = record {
+  given = a .0 .given;
+  tables = subst (λ (w : ℕ). Lent w ls ts) (a .0 .width) (a .1);
+  halves = subst (λ (w : ℕ). Halves (fieldAt w) hs) (a .0 .width) (a .2);
+}
 
 module _ {ls ts hs l list : List ℕ} (g : Listable ls ts hs l list) where
   -- the table that the slots hold

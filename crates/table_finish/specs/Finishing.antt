@@ -2,6 +2,7 @@
 --   Mergeable   a factor of degree at most the highest cutoff can be solved, and its roots have room behind n others
 --   RootsIn     the roots of monic p were merged into the first n elements of a list
 --   Lendable    a sound table that is done, and a list with room for its roots
+--   LendableAt  the same, and the table's field is that of the known degree m
 --   Listable    the same with the tables of its field lent
 --   ListedIn    the list that finish makes stands in front, and k elements are in it
 -- Assumes nothing.
@@ -15,6 +16,7 @@ use Rattle.algebra.specs.Polynomial.{Below}
 use Rattle.algebra.specs.Routines.{monic}
 use Rattle.slices.specs.Lists.{copied}
 use Rattle.slices.specs.Ordered.{Merged}
+use Rattle.field.specs.Rows.{known}
 use Rattle.field.specs.Field.{fieldAt, G, rootsAt}
 use Rattle.field.specs.Tables.{Halves}
 use Rattle.poly.specs.Lent.{Lent}
@@ -45,6 +47,12 @@ pub record Lendable (table roots : List ℕ) : Type 0 where
   pub sound : isSound table ≡ true
   pub done : slotsDone byFactor table ≡ true
   pub room : limit ≤ length roots
+
+-- its field is that of degree m
+pub record LendableAt (m : ℕ) (table roots : List ℕ) : Type 0 where
+  pub given : Lendable table roots
+  pub width : m ≡ widthOf table
+  pub field : known m ≡ true
 
 -- the tables of its field
 pub record Listable (ls ts hs table roots : List ℕ) : Type 0 where

@@ -1,8 +1,11 @@
 // Finish (docs/RULES.md section 4.4): the roots of each factor of a done table, merged into the front of the list,
 // ascending and once each.
 ghost use Rattle.refusals.specs.Admitting.{Admits};
+ghost use Rattle.field.specs.Field.{fieldAt};
+ghost use Rattle.field.specs.Tables.{Halves};
+ghost use Rattle.poly.specs.Lent.{Lent};
 ghost use Rattle.table_finish.specs.Calls.{finishTests, Finishes};
-ghost use Rattle.table_finish.specs.Finishing.{Mergeable, RootsIn, Listable, ListedIn, Lendable};
+ghost use Rattle.table_finish.specs.Finishing.{Mergeable, RootsIn, Listable, ListedIn, Lendable, LendableAt};
 use field_tables::constants::antilogs4;
 use field_tables::constants::antilogs8;
 use field_tables::constants::antilogs11;
@@ -93,18 +96,41 @@ pub fn finish_lent(
     k
 }
 
-// Lists every element at which some factor is zero. The field's tables are lent here.
+// The same, with m for the degree of the table's field.
+fn finish_named(
+    m: u16,
+    logs: &[u16],
+    antilogs: &[u16],
+    halves: &[u16],
+    table: &[u16],
+    roots: &mut [u16],
+) -> usize
+    requires { ⌜ LendableAt m (now table) (now roots) × Lent m (now logs) (now antilogs)
+        × Halves (fieldAt m) (now halves) ⌝ }
+    ensures { λ k. ⌜ ListedIn (now (table .entry)) (now (roots .entry)) k (now (roots .exit)) ⌝ }
+{
+    finish_lent(logs, antilogs, halves, table, roots)
+}
+
+// The same. The field's tables are lent here.
+fn finish_at(m: u16, table: &[u16], roots: &mut [u16]) -> usize
+    requires { ⌜ LendableAt m (now table) (now roots) ⌝ }
+    ensures { λ k. ⌜ ListedIn (now (table .entry)) (now (roots .entry)) k (now (roots .exit)) ⌝ }
+{
+    match m {
+        4 => finish_named(m, &logs4(m), &antilogs4(m), &halves4(m), table, roots),
+        8 => finish_named(m, &logs8(m), &antilogs8(m), &halves8(m), table, roots),
+        _ => finish_named(m, &logs11(m), &antilogs11(m), &halves11(m), table, roots),
+    }
+}
+
+// Lists every element at which some factor is zero.
 fn finish_in(table: &[u16], roots: &mut [u16]) -> usize
     requires { ⌜ Lendable (now table) (now roots) ⌝ }
     ensures { λ k. ⌜ ListedIn (now (table .entry)) (now (roots .entry)) k (now (roots .exit)) ⌝ }
 {
     let h = head_of(table);
-    let m = h.m;
-    match m {
-        4 => finish_lent(&logs4(), &antilogs4(), &halves4(), table, roots),
-        8 => finish_lent(&logs8(), &antilogs8(), &halves8(), table, roots),
-        _ => finish_lent(&logs11(), &antilogs11(), &halves11(), table, roots),
-    }
+    finish_at(h.m, table, roots)
 }
 
 // Lists, ascending and once each, every field element at which some factor of a done table is zero, at the front of

@@ -2,7 +2,7 @@
 --   SlotsRead, slots-read                      where the factor stands;  head-there, level-there, stands  so that it
 --                                              can be read
 --   factor-is, level-is, level-below-width   it is the first above the cutoff
---   known-at, lent-here               the field that the head names
+--   named, steppable                  the head names the field, whose tables are lent
 --   split-asks, part-asks             it can be split, and by what is lent;  trace-within, trace-ready  as by the
 --                                     trace sum modulo it
 --   SlotSizes, slot-sizes, new-fits            how many slots the parts take
@@ -39,7 +39,7 @@ use Rattle.table_rules.specs.Sizes.{limitBy, twoFactors}
 use Rattle.table_slots.specs.Slots.{widthOf, countOf, takenOf, Heads, levelAt, degreeAt, factorAt, nextAt, StandsWhole, Replaceable, replacedAt}
 use Rattle.table_slots.specs.declared.Head.{Head}
 use Rattle.table_slots.specs.Verdicts.{Chosen}
-use Rattle.table_step.specs.Parting.{Splittable, Partable, Parted, StepReady}
+use Rattle.table_step.specs.Parting.{Splittable, Partable, Parted, ChosenAt, Steppable, StepReady}
 use Rattle.table_step.proofs.Commons.{traced-long, trace-small, traced-same}
 
 -- no degree is above their sum, and a list that is not done has an entry
@@ -54,6 +54,10 @@ some-factor : (c : ℕ) (l : List Factor) → done c l ≡ false → 1 ≤ lengt
 unfolding done
 some-factor c [] d = absurd (true≢false d)
 some-factor c (e ∷ l) d = omega arith
+
+-- the tables of a degree are those of the table's field
+pub steppable : {m o : ℕ} {l ls ts : List ℕ} → ChosenAt m l o × Lent m ls ts → Steppable l ls ts o
+steppable {ls = ls} {ts} a = record { chosen = a .0 .chosen; tables = subst (λ (w : ℕ). Lent w ls ts) (a .0 .width) (a .1) }
 
 -- where the factor to split stands
 pub record SlotsRead (l : List ℕ) (o : ℕ) : Type 0 where
@@ -156,12 +160,9 @@ module _ (l : List ℕ) {o : ℕ} (c : Chosen l o) where
   factor-long : length (factorAt l o) ≡ degreeAt l o
   factor-long = ap length factor-is ∙ sym degree-is
 
-  -- the field that the head names is known, and its tables are those of the slots
-  pub known-at : {h : Head} → Heads l h → known (h .m) ≡ true
-  known-at k = ap known (k .width) ∙ is-known
-
-  pub lent-here : {h : Head} {ls ts : List ℕ} → Heads l h → Lent (h .m) ls ts → Lent (widthOf l) ls ts
-  lent-here {h} {ls} {ts} k a = subst (λ (w : ℕ). Lent w ls ts) (k .width) a
+  -- the field that the head names is known
+  pub named : {h : Head} → Heads l h → ChosenAt (h .m) l o
+  named k = record { chosen = c; width = k .width; field = ap known (k .width) ∙ is-known }
 
   -- what is read by the names of its parts
   module _ {h : Head} (k : Heads l h) {i : ℕ} (e : i ≡ levelAt l o) {p : List ℕ} (q : p ≡ factorAt l o) where

@@ -3,15 +3,19 @@
 --                below level m
 --   Partable     the same with a polynomial t that has the greatest common divisor with p that Tr(a^i z) has
 --   Parted       the parts of the factor p stand at the front of w, in r slots
+--   ChosenAt     the factor at o of a table is the one that a step splits, and the table's field is that of the known
+--                degree m
 --   Steppable    the factor at o of a table is the one that a step splits, and the field's tables are lent
 --   StepReady    the same with such a polynomial t lent
 -- Assumes nothing.
 use mathlib.Core.Path.{_≡_}
+use mathlib.Core.Bool.{true}
 use mathlib.Core.List.{List}
 use Prim.Native.Nat.{ℕ, _^_, _≤_, _<_}
 use lib.ListN.{length, take}
 use Rattle.algebra.specs.Polynomial.{Below}
 use Rattle.algebra.specs.Routines.{gcd}
+use Rattle.field.specs.Rows.{known}
 use Rattle.field.specs.Field.{G}
 use Rattle.poly.specs.Lent.{Lent}
 use Rattle.input.specs.Limit.{limit}
@@ -39,6 +43,12 @@ pub record Partable (m : ℕ) (ls ts p : List ℕ) (i : ℕ) (t : List ℕ) : Ty
 pub record Parted (m i : ℕ) (p : List ℕ) (r : ℕ) (w : List ℕ) : Type 0 where
   pub slots : take r w ≡ blocks (parts (halvingAt m) (i, p))
   pub count : r ≡ length (blocks (parts (halvingAt m) (i, p)))
+
+-- the table's field is that of degree m
+pub record ChosenAt (m : ℕ) (l : List ℕ) (o : ℕ) : Type 0 where
+  pub chosen : Chosen l o
+  pub width : m ≡ widthOf l
+  pub field : known m ≡ true
 
 -- the field is that of the table
 pub record Steppable (l ls ts : List ℕ) (o : ℕ) : Type 0 where

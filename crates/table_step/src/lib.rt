@@ -7,12 +7,13 @@ ghost use lib.ListN.{length};
 ghost use Rattle.algebra.specs.Field.{power};
 ghost use Rattle.algebra.specs.Routines.{rem, traceMod};
 ghost use Rattle.field.specs.Field.{G};
+ghost use Rattle.poly.specs.Lent.{Lent};
 ghost use Rattle.table_rules.specs.Layout.{byFactor};
 ghost use Rattle.table_rules.specs.Splitting.{slotsStepped};
 ghost use Rattle.table_rules.specs.Sizes.{twoFactors};
 ghost use Rattle.table_step.specs.Calls.{Steps};
 ghost use Rattle.table_slots.specs.Verdicts.{Chosen};
-ghost use Rattle.table_step.specs.Parting.{Splittable, Partable, Parted, Steppable, StepReady};
+ghost use Rattle.table_step.specs.Parting.{Splittable, Partable, Parted, ChosenAt, Steppable, StepReady};
 use field_tables::constants::antilogs4;
 use field_tables::constants::antilogs8;
 use field_tables::constants::antilogs11;
@@ -102,18 +103,33 @@ fn step_traced(table: &mut [u16], logs: &[u16], antilogs: &[u16], o: usize)
     step_lent(table, logs, antilogs, o, &t[..d]);
 }
 
-// Replaces the factor at o by its parts, and counts the step. The field's tables are lent here.
+// The same, with m for the degree of the table's field.
+fn step_named(m: u16, table: &mut [u16], logs: &[u16], antilogs: &[u16], o: usize)
+    requires { ⌜ ChosenAt m (now table) o × Lent m (now logs) (now antilogs) ⌝ }
+    ensures { λ _. ⌜ now (table .exit) ≡ slotsStepped byFactor (now (table .entry)) ⌝ }
+{
+    step_traced(table, logs, antilogs, o);
+}
+
+// The same. The field's tables are lent here.
+fn step_at(m: u16, table: &mut [u16], o: usize)
+    requires { ⌜ ChosenAt m (now table) o ⌝ }
+    ensures { λ _. ⌜ now (table .exit) ≡ slotsStepped byFactor (now (table .entry)) ⌝ }
+{
+    match m {
+        4 => step_named(m, table, &logs4(m), &antilogs4(m), o),
+        8 => step_named(m, table, &logs8(m), &antilogs8(m), o),
+        _ => step_named(m, table, &logs11(m), &antilogs11(m), o),
+    }
+}
+
+// Replaces the factor at o by its parts, and counts the step.
 fn step_in(table: &mut [u16], o: usize)
     requires { ⌜ Chosen (now table) o ⌝ }
     ensures { λ _. ⌜ now (table .exit) ≡ slotsStepped byFactor (now (table .entry)) ⌝ }
 {
     let h = head_of(table);
-    let m = h.m;
-    match m {
-        4 => step_traced(table, &logs4(), &antilogs4(), o),
-        8 => step_traced(table, &logs8(), &antilogs8(), o),
-        _ => step_traced(table, &logs11(), &antilogs11(), o),
-    }
+    step_at(h.m, table, o);
 }
 
 // One step: the first factor above the cutoff gives way to its parts.

@@ -3,6 +3,7 @@
 use native.Mathlib.Omega.{arith}
 use Rattle.corrector.proofs.Calling.{keyed, places-fit, located-many, located-few, located-other}
 use Rattle.corrector.proofs.Outcomes.{tells-yes, tells-no}
+use Rattle.field_tables.proofs.Naming.{last11}
 use borrow.Author.Needs.{needs}
 use Rattle.corrector.proofs.locate.Statement.{statement}
 use Rattle.corrector.proofs.locate.Tie as tie
@@ -15,10 +16,10 @@ use Rattle.field_tables.proofs.constants.antilogs11.Reads as antilogs11-reads
 use Rattle.field_tables.proofs.constants.logs11.Reads as logs11-reads
 
 logs11-requires : tie.Need-logs11-requires
-logs11-requires c κs = search needs
+logs11-requires c κs = last11
 
 antilogs11-requires : tie.Need-antilogs11-requires
-antilogs11-requires c κs = search needs
+antilogs11-requires c κs = last11
 
 slice-aggregate-all-sums : tie.Need-slice-aggregate-all-sums
 slice-aggregate-all-sums c = search needs

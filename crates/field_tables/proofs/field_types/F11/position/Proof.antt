@@ -2,11 +2,12 @@
 -- Assumes nothing.
 use borrow.Author.Needs.{needs}
 use Rattle.field.specs.Rows.{polyIn}
+use Rattle.field_tables.proofs.Naming.{last11}
 use Rattle.field_tables.proofs.field_types.F11.position.Statement.{statement}
 use Rattle.field_tables.proofs.field_types.F11.position.Tie as tie
 
 logs11-requires : tie.Need-logs11-requires
-logs11-requires c κs = search needs
+logs11-requires c κs = last11
 
 slice-aggregate-position-of : tie.Need-slice-aggregate-position-of
 slice-aggregate-position-of c = search needs

@@ -3,11 +3,12 @@
 use borrow.Author.Needs.{needs}
 use Rattle.field.specs.Rows.{polyIn}
 use Rattle.field.proofs.Known.{row11}
+use Rattle.field_tables.proofs.Naming.{last11}
 use Rattle.field_tables.proofs.field_types.F11.roots.Statement.{statement}
 use Rattle.field_tables.proofs.field_types.F11.roots.Tie as tie
 
 halves11-requires : tie.Need-halves11-requires
-halves11-requires c κs = search needs
+halves11-requires c κs = last11
 
 slice-aggregate-quadratic-of : tie.Need-slice-aggregate-quadratic-of
 slice-aggregate-quadratic-of c = search needs
