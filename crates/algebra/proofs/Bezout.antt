@@ -11,7 +11,7 @@ use lib.ListN.{get_or-eq_default, length}
 use Rattle.algebra.specs.Field.{Laws, Ops}
 use Rattle.algebra.specs.Polynomial.{add, coef, mul}
 use Rattle.algebra.specs.Routines.{euclid, gcd, monic, norm, quo, rem}
-use Rattle.algebra.proofs.Series.{Series, nought, nought-plus, plus, plus-back, plus_comm, plus_times, scale, scale_back, times, times-assoc, times-nought, times-plus, times-unit}
+use Rattle.algebra.proofs.Series.{Series, nought, nought-plus, plus, plus-back, plus_comm, plus-times, scale, scale_back, times, times-assoc, times-nought, times-plus, times-unit}
 use Rattle.algebra.proofs.Coefficients.{coef-add, coef-cons, coef-mul, times-constant}
 use Rattle.algebra.proofs.Lengths.{length-rem}
 use Rattle.algebra.proofs.Division.{division, plus-rotate}
@@ -45,7 +45,7 @@ module _ {K : Type 0} {F : Ops K} (L : Laws F) where
       let z : Series K = coef F f ⊠ coef F w in
       let first : coef F s ⊠ coef F b.left ≡ z ⊞ x =
       ap (λ h. h ⊠ coef F b.left) (sym e ∙ sym (times-constant L c m)) ∙ times-assoc L m (coef F (c ∷ [])) (coef F b.left)
-      ∙ ap (λ h. m ⊠ h) (sym (coef-mul L (c ∷ []) b.left)) ∙ plus_times L (coef F f) (coef F p ⊠ coef F q) (coef F w)
+      ∙ ap (λ h. m ⊠ h) (sym (coef-mul L (c ∷ []) b.left)) ∙ plus-times L (coef F f) (coef F p ⊠ coef F q) (coef F w)
       ∙ ap (λ h. z ⊞ h) (times-assoc L (coef F p) (coef F q) (coef F w)) in
       record {
         left = add F (mul F q w) b.right;

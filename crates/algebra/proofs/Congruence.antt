@@ -10,8 +10,8 @@ use mathlib.Core.Path.{◌∙◌, ◌≡◌, ap, ap₂, subst, sym}
 use mathlib.Core.List.{List, []}
 use Prim.Native.Nat.{suc, zero, ℕ}
 use Rattle.algebra.specs.Field.{Laws, Ops}
-use Rattle.algebra.specs.Polynomial.{Divides, add, coef, frobenius, mul, tracePoly}
-use Rattle.algebra.proofs.Series.{Series, plus, plus_assoc, plus-back, plus-left-comm, plus-self, plus_times, times, times-comm, times-nought}
+use Rattle.algebra.specs.Polynomial.{Divides, add, coef, frobenius, mul, trace_poly}
+use Rattle.algebra.proofs.Series.{Series, plus, plus_assoc, plus-back, plus-left-comm, plus-self, plus-times, times, times-comm, times-nought}
 use Rattle.algebra.proofs.Coefficients.{coef-add, coef-mul}
 use Rattle.algebra.proofs.Divisibility.{divides-plus, divides-times, divides-multiple}
 use Rattle.algebra.proofs.Signs.{signs}
@@ -27,7 +27,7 @@ module _ {K : Type 0} {F : Ops K} (L : Laws F) where
 
   cross : (a b c d : Series K) → (a ⊞ b) ⊠ c ⊞ (c ⊞ d) ⊠ b ≡ a ⊠ c ⊞ b ⊠ d
   cross a b c d =
-      ap₂ ◌⊞◌ (plus_times L a b c) (plus_times L c d b ∙ ap₂ ◌⊞◌ (times-comm L c b) (times-comm L d b))
+      ap₂ ◌⊞◌ (plus-times L a b c) (plus-times L c d b ∙ ap₂ ◌⊞◌ (times-comm L c b) (times-comm L d b))
       ∙ plus_assoc L (a ⊠ c) (b ⊠ c) (b ⊠ c ⊞ b ⊠ d) ∙ ap (λ w. a ⊠ c ⊞ w) (plus-back L (b ⊠ c) (b ⊠ d))
 
   pub cong-refl : (p f : List K) → Cong F p f f
@@ -52,7 +52,7 @@ module _ {K : Type 0} {F : Ops K} (L : Laws F) where
   cong-square zero f f' h = h
   cong-square (suc j) f f' h = cong-square j (mul F f f) (mul F f' f') (cong-mul f f' f f' h h)
 
-  pub cong-trace : {p : List K} (j : ℕ) (f f' : List K) → Cong F p f f' → Cong F p (tracePoly F j f) (tracePoly F j f')
-  unfolding tracePoly
+  pub cong-trace : {p : List K} (j : ℕ) (f f' : List K) → Cong F p f f' → Cong F p (trace_poly F j f) (trace_poly F j f')
+  unfolding trace_poly
   cong-trace {p} zero f f' h = cong-refl p []
   cong-trace (suc j) f f' h = cong-add f f' _ _ h (cong-trace j (mul F f f) (mul F f' f') (cong-mul f f' f f' h h))

@@ -24,9 +24,9 @@ use native.Mathlib.Omega.{arith}
 use lib.ListN.{get_or-map, get_or, length, length-map, replicate, take}
 use Rattle.algebra.specs.Field.{Laws, OnNumbers, Ops, power, squared, trace}
 use Rattle.algebra.specs.Trial.{All, Distinct, keep, up_from}
-use Rattle.algebra.specs.Polynomial.{Below, add, coef, eval, fieldPoly, frobenius, fromRoots, linear, mul, tracePoly}
-use Rattle.algebra.specs.Routines.{cofactor, quotientDigit, euclid, frobeniusMod, gcd, monic, monicRoots, norm, quo, rem, shiftIn, square, traceMod}
-use Rattle.algebra.proofs.Trial.{ascending-distinct, length-upFrom, upFrom-all, upFrom-ascending}
+use Rattle.algebra.specs.Polynomial.{Below, add, coef, eval, field_poly, frobenius, from_roots, linear, mul, trace_poly}
+use Rattle.algebra.specs.Routines.{cofactor, quotient_digit, euclid, frobenius_mod, gcd, monic, monic_roots, norm, quo, rem, shift_in, square, trace_mod}
+use Rattle.algebra.proofs.Trial.{ascending-distinct, length-up_from, up_from-all, up_from-ascending}
 
 module _ {A B : Type 0} (φ : A → B) where
   pub map-take : (n : ℕ) (l : List A) → map φ (take n l) ≡ take n (map φ l)
@@ -97,37 +97,37 @@ module _ {G : Ops ℕ} {q : ℕ} (N : OnNumbers G q) where
   low-eval [] x = refl
   low-eval (c ∷ p) x = ap (λ v. G.add c.0 (G.mul x.0 v)) (low-eval p x)
 
-  pub low-fromRoots : (s : List (Elem q)) → low (fromRoots elems s) ≡ fromRoots G (low s)
-  unfolding fromRoots
-  low-fromRoots [] = refl
-  low-fromRoots (r ∷ s) = low-mul (linear elems r) (fromRoots elems s) ∙ ap (mul G (linear G r.0)) (low-fromRoots s)
+  pub low-from_roots : (s : List (Elem q)) → low (from_roots elems s) ≡ from_roots G (low s)
+  unfolding from_roots
+  low-from_roots [] = refl
+  low-from_roots (r ∷ s) = low-mul (linear elems r) (from_roots elems s) ∙ ap (mul G (linear G r.0)) (low-from_roots s)
 
-  pub low-monicRoots : (s : List (Elem q)) → low (monicRoots elems s) ≡ monicRoots G (low s)
-  unfolding monicRoots
-  low-monicRoots s =
-      map-take (λ u. u.0) (length s) (fromRoots elems s) ∙ ap₂ (λ n l. take n l) (sym (length-map s (λ u. u.0))) (low-fromRoots s)
+  pub low-monic_roots : (s : List (Elem q)) → low (monic_roots elems s) ≡ monic_roots G (low s)
+  unfolding monic_roots
+  low-monic_roots s =
+      map-take (λ u. u.0) (length s) (from_roots elems s) ∙ ap₂ (λ n l. take n l) (sym (length-map s (λ u. u.0))) (low-from_roots s)
 
-  pub low_digit : (p : List (Elem q)) (c : Elem q) (r : List (Elem q)) → (quotientDigit elems p c r).0 ≡ quotientDigit G (low p) c.0 (low r)
-  unfolding quotientDigit
+  pub low_digit : (p : List (Elem q)) (c : Elem q) (r : List (Elem q)) → (quotient_digit elems p c r).0 ≡ quotient_digit G (low p) c.0 (low r)
+  unfolding quotient_digit
   low_digit p c r = sym (ap (λ n. get_or (low (c ∷ r)) n G.zero) (length-map p (λ u. u.0)) ∙ get_or-map (λ u. u.0) (c ∷ r) (length p) elems.zero)
 
-  pub low-shiftIn : (p : List (Elem q)) (c : Elem q) (r : List (Elem q)) → low (shiftIn elems p c r) ≡ shiftIn G (low p) c.0 (low r)
-  unfolding shiftIn
-  low-shiftIn p c r =
-      low-add (take (length p) (c ∷ r)) (map (elems.mul (quotientDigit elems p c r)) p)
+  pub low-shift_in : (p : List (Elem q)) (c : Elem q) (r : List (Elem q)) → low (shift_in elems p c r) ≡ shift_in G (low p) c.0 (low r)
+  unfolding shift_in
+  low-shift_in p c r =
+      low-add (take (length p) (c ∷ r)) (map (elems.mul (quotient_digit elems p c r)) p)
       ∙ ap₂ (add G)
       (map-take (λ u. u.0) (length p) (c ∷ r) ∙ ap (λ n. take n (low (c ∷ r))) (sym (length-map p (λ u. u.0))))
-      (low-scale (quotientDigit elems p c r) p ∙ ap (λ t. map (G.mul t) (low p)) (low_digit p c r))
+      (low-scale (quotient_digit elems p c r) p ∙ ap (λ t. map (G.mul t) (low p)) (low_digit p c r))
 
   pub low-rem : (p f : List (Elem q)) → low (rem elems p f) ≡ rem G (low p) (low f)
   unfolding rem
   low-rem p [] = map-replicate (λ u. u.0) (length p) elems.zero ∙ ap (λ n. replicate n G.zero) (sym (length-map p (λ u. u.0)))
-  low-rem p (c ∷ f) = low-shiftIn p c (rem elems p f) ∙ ap (shiftIn G (low p) c.0) (low-rem p f)
+  low-rem p (c ∷ f) = low-shift_in p c (rem elems p f) ∙ ap (shift_in G (low p) c.0) (low-rem p f)
 
   pub low-quo : (p f : List (Elem q)) → low (quo elems p f) ≡ quo G (low p) (low f)
   unfolding quo
   low-quo p [] = refl
-  low-quo p (c ∷ f) = ap₂ (λ (t : ℕ) (l : List ℕ). t ∷ l) (low_digit p c (rem elems p f) ∙ ap (quotientDigit G (low p) c.0) (low-rem p f)) (low-quo p f)
+  low-quo p (c ∷ f) = ap₂ (λ (t : ℕ) (l : List ℕ). t ∷ l) (low_digit p c (rem elems p f) ∙ ap (quotient_digit G (low p) c.0) (low-rem p f)) (low-quo p f)
 
   pub low-monic : (p : List (Elem q)) → low (monic elems p) ≡ monic G (low p)
   low-monic p = map-append (λ u. u.0) p (elems.one ∷ [])
@@ -189,10 +189,10 @@ module _ {G : Ops ℕ} {q : ℕ} (N : OnNumbers G q) where
   low-frobenius zero f = refl
   low-frobenius (suc j) f = low-frobenius j (mul elems f f) ∙ ap (frobenius G j) (low-mul f f)
 
-  pub low-tracePoly : (j : ℕ) (f : List (Elem q)) → low (tracePoly elems j f) ≡ tracePoly G j (low f)
-  unfolding tracePoly
-  low-tracePoly zero f = refl
-  low-tracePoly (suc j) f = low-add f (tracePoly elems j (mul elems f f)) ∙ ap (add G (low f)) (low-tracePoly j (mul elems f f) ∙ ap (tracePoly G j) (low-mul f f))
+  pub low-trace_poly : (j : ℕ) (f : List (Elem q)) → low (trace_poly elems j f) ≡ trace_poly G j (low f)
+  unfolding trace_poly
+  low-trace_poly zero f = refl
+  low-trace_poly (suc j) f = low-add f (trace_poly elems j (mul elems f f)) ∙ ap (add G (low f)) (low-trace_poly j (mul elems f f) ∙ ap (trace_poly G j) (low-mul f f))
 
   pub low-squared : (j : ℕ) (x : Elem q) → (squared elems j x).0 ≡ squared G j x.0
   unfolding squared
@@ -212,20 +212,20 @@ module _ {G : Ops ℕ} {q : ℕ} (N : OnNumbers G q) where
   pub low-reduced : (p w : List (Elem q)) → low (rem elems p (square elems w)) ≡ rem G (low p) (square G (low w))
   low-reduced p w = low-rem p (square elems w) ∙ ap (rem G (low p)) (low-square w)
 
-  pub low-frobeniusMod : (p : List (Elem q)) (j : ℕ) (w : List (Elem q)) → low (frobeniusMod elems p j w) ≡ frobeniusMod G (low p) j (low w)
-  unfolding frobeniusMod
-  low-frobeniusMod p zero w = refl
-  low-frobeniusMod p (suc j) w = low-frobeniusMod p j (rem elems p (square elems w)) ∙ ap (frobeniusMod G (low p) j) (low-reduced p w)
+  pub low-frobenius_mod : (p : List (Elem q)) (j : ℕ) (w : List (Elem q)) → low (frobenius_mod elems p j w) ≡ frobenius_mod G (low p) j (low w)
+  unfolding frobenius_mod
+  low-frobenius_mod p zero w = refl
+  low-frobenius_mod p (suc j) w = low-frobenius_mod p j (rem elems p (square elems w)) ∙ ap (frobenius_mod G (low p) j) (low-reduced p w)
 
-  pub low-traceMod : (p : List (Elem q)) (j : ℕ) (w : List (Elem q)) → low (traceMod elems p j w) ≡ traceMod G (low p) j (low w)
-  unfolding traceMod
-  low-traceMod p zero w = refl
-  low-traceMod p (suc j) w =
-      low-add w (traceMod elems p j (rem elems p (square elems w)))
-      ∙ ap (add G (low w)) (low-traceMod p j (rem elems p (square elems w)) ∙ ap (traceMod G (low p) j) (low-reduced p w))
+  pub low-trace_mod : (p : List (Elem q)) (j : ℕ) (w : List (Elem q)) → low (trace_mod elems p j w) ≡ trace_mod G (low p) j (low w)
+  unfolding trace_mod
+  low-trace_mod p zero w = refl
+  low-trace_mod p (suc j) w =
+      low-add w (trace_mod elems p j (rem elems p (square elems w)))
+      ∙ ap (add G (low w)) (low-trace_mod p j (rem elems p (square elems w)) ∙ ap (trace_mod G (low p) j) (low-reduced p w))
 
-  pub low-fieldPoly : (m : ℕ) → low (fieldPoly elems m) ≡ fieldPoly G m
-  low-fieldPoly m =
+  pub low-field_poly : (m : ℕ) → low (field_poly elems m) ≡ field_poly G m
+  low-field_poly m =
       low-add (frobenius elems m (linear elems elems.zero)) (linear elems elems.zero)
       ∙ ap (λ l. add G l (linear G G.zero)) (low-frobenius m (linear elems elems.zero))
 
@@ -251,17 +251,17 @@ module _ {G : Ops ℕ} {q : ℕ} (N : OnNumbers G q) where
   -- ---- the field's elements in order
 
   pub all : List (Elem q)
-  all = lift (up_from 0 q) (upFrom-all (λ x. x < q) 0 q (λ x a b. omega arith))
+  all = lift (up_from 0 q) (up_from-all (λ x. x < q) 0 q (λ x a b. omega arith))
 
   pub low-all : low all ≡ up_from 0 q
   unfolding all
-  low-all = low-lift (up_from 0 q) (upFrom-all (λ x. x < q) 0 q (λ x a b. omega arith))
+  low-all = low-lift (up_from 0 q) (up_from-all (λ x. x < q) 0 q (λ x a b. omega arith))
 
   pub count-all : length all ≡ q
-  count-all = sym (length-map all (λ u. u.0)) ∙ ap length low-all ∙ length-upFrom 0 q
+  count-all = sym (length-map all (λ u. u.0)) ∙ ap length low-all ∙ length-up_from 0 q
 
   pub distinct-all : Distinct all
-  distinct-all = distinct-low all (rw low-all (ascending-distinct (up_from 0 q) (upFrom-ascending 0 q)))
+  distinct-all = distinct-low all (rw low-all (ascending-distinct (up_from 0 q) (up_from-ascending 0 q)))
 
   -- ---- coefficients
 

@@ -15,7 +15,7 @@ use Prim.Native.Nat.{◌+◌, suc, zero, ℕ}
 use native.Mathlib.Omega.{arith}
 use Rattle.algebra.specs.Field.{Laws, Ops}
 use Rattle.algebra.specs.Polynomial.{add, coef, mul}
-use Rattle.algebra.proofs.Series.{Series, startingWith, plus, scale, times, times-assoc, times-comm, times-plus, times-unit, unit}
+use Rattle.algebra.proofs.Series.{Series, starting_with, plus, scale, times, times-assoc, times-comm, times-plus, times-unit, unit}
 use Rattle.algebra.proofs.Coefficients.{coef-add, coef-cons, coef-mul, times-constant}
 use Rattle.algebra.proofs.Degree.{Monic, quotient-top}
 use Rattle.algebra.proofs.Signs.{signs}
@@ -69,7 +69,7 @@ module _ {K : Type 0} {F : Ops K} (L : Laws F) where
 
   -- a monic polynomial that divides another of its degree is the other
   pub divides-equal : (f : List K) {g : Series K} {n : ℕ} → Monic F (coef F f) n → Monic F g n → f ∣ g → coef F f ≡ g
-  unfolding startingWith
+  unfolding starting_with
   divides-equal f {g} {n} s t h = sym (times-unit L (coef F f)) ∙ ap (λ w. coef F f ⊠ w) (sym one) ∙ quotient-exact h
     where
       q : (j : ℕ) × (n + j ≡ n) × Monic F (coef F h.quotient) j

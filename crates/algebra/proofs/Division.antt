@@ -12,9 +12,9 @@ use lib.ListN.{get_or-eq_default, get_or, length, take}
 use lib.Seq.{ext_get_or}
 use Rattle.algebra.specs.Field.{Laws, Ops}
 use Rattle.algebra.specs.Polynomial.{add, coef}
-use Rattle.algebra.specs.Routines.{quotientDigit, monic, quo, rem, shiftIn}
+use Rattle.algebra.specs.Routines.{quotient_digit, monic, quo, rem, shift_in}
 use Rattle.algebra.proofs.Elements.{add_back, add_left_comm, add-zero, equal-of-sum, mul-zero}
-use Rattle.algebra.proofs.Series.{Series, equal-of-plus, startingWith, startingWith-plus, startingWith-times, nought, nought-plus, plus, plus_assoc, plus_comm, plus-self, scale, times, times-comm, times-nought, times-plus}
+use Rattle.algebra.proofs.Series.{Series, equal-of-plus, starting_with, starting_with-plus, starting_with-times, nought, nought-plus, plus, plus_assoc, plus_comm, plus-self, scale, times, times-comm, times-nought, times-plus}
 use Rattle.algebra.proofs.Coefficients.{coef-add, coef-cons, coef-zeros}
 use Rattle.algebra.proofs.Degree.{Top, monic-list, top-times, top?}
 use Rattle.algebra.proofs.Lengths.{length-rem}
@@ -38,8 +38,8 @@ module _ {K : Type 0} {F : Ops K} (L : Laws F) where
   step-at (a ∷ p) (x ∷ s) e (suc k) = step-at p s (omega (arith, e)) k
 
   step : (p : List K) (c : K) (r : List K) → length r ≡ length p
-      → coef F (c ∷ r) ≡ scale F (quotientDigit F p c r) (coef F (monic F p)) ⊞ coef F (shiftIn F p c r)
-  unfolding quotientDigit shiftIn plus scale
+      → coef F (c ∷ r) ≡ scale F (quotient_digit F p c r) (coef F (monic F p)) ⊞ coef F (shift_in F p c r)
+  unfolding quotient_digit shift_in plus scale
   step p c r e = fun_ext (step-at p (c ∷ r) (ap suc e))
 
   pub plus-rotate : (a b c : Series K) → (a ⊞ b) ⊞ c ≡ (a ⊞ c) ⊞ b
@@ -53,13 +53,13 @@ module _ {K : Type 0} {F : Ops K} (L : Laws F) where
       let m : Series K = coef F (monic F p) in
       let q : Series K = coef F (quo F p f) in
       let r : List K = rem F p f in
-      let t : K = quotientDigit F p c r in
+      let t : K = quotient_digit F p c r in
       coef-cons L c f
-      ∙ ap₂ (λ a w. startingWith a w) (sym (add-zero L c)) (division p f ∙ plus_comm L (m ⊠ q) (coef F r))
-      ∙ sym (startingWith-plus L c 0# (coef F r) (m ⊠ q))
-      ∙ ap₂ ◌⊞◌ (sym (coef-cons L c r) ∙ step p c r (length-rem F p f)) (ap (startingWith 0#) (times-comm L m q))
-      ∙ plus-rotate (scale F t m) (coef F (shiftIn F p c r)) (startingWith 0# (q ⊠ m))
-      ∙ ap (λ w. w ⊞ coef F (shiftIn F p c r)) (sym (startingWith-times L t q m) ∙ times-comm L (startingWith t q) m ∙ ap (λ w. m ⊠ w) (sym (coef-cons L t (quo F p f))))
+      ∙ ap₂ (λ a w. starting_with a w) (sym (add-zero L c)) (division p f ∙ plus_comm L (m ⊠ q) (coef F r))
+      ∙ sym (starting_with-plus L c 0# (coef F r) (m ⊠ q))
+      ∙ ap₂ ◌⊞◌ (sym (coef-cons L c r) ∙ step p c r (length-rem F p f)) (ap (starting_with 0#) (times-comm L m q))
+      ∙ plus-rotate (scale F t m) (coef F (shift_in F p c r)) (starting_with 0# (q ⊠ m))
+      ∙ ap (λ w. w ⊞ coef F (shift_in F p c r)) (sym (starting_with-times L t q m) ∙ times-comm L (starting_with t q) m ∙ ap (λ w. m ⊠ w) (sym (coef-cons L t (quo F p f))))
 
   -- the remainder is congruent to f
   pub rem-cong : (p f : List K) → Cong F (monic F p) f (rem F p f)

@@ -8,19 +8,19 @@
 --   eval-monic      p(x) + x^n, with n the degree
 --   eval-quadratic  x^2 + a x + b
 --   eval-frobenius  repeated squares
---   eval-tracePoly  f + f^2 + f^4 + ..
---   eval-fieldPoly  z^(2^m) + z
---   eval-traceOf    Tr(b z)
+--   eval-trace_poly  f + f^2 + f^4 + ..
+--   eval-field_poly  z^(2^m) + z
+--   eval-trace_of    Tr(b z)
 -- Assumes nothing.
 use mathlib.Core.Path.{◌∙◌, ◌≡◌, ap, ap₂, refl, sym}
 use mathlib.Core.List.{List, [], ◌++◌, ◌∷◌, map}
 use Prim.Native.Nat.{suc, zero, ℕ}
 use lib.ListN.{length}
 use Rattle.algebra.specs.Field.{Laws, Ops, power, squared, trace}
-use Rattle.algebra.specs.Polynomial.{add, coef, eval, fieldPoly, frobenius, linear, mul, traceOf, tracePoly}
+use Rattle.algebra.specs.Polynomial.{add, coef, eval, field_poly, frobenius, linear, mul, trace_of, trace_poly}
 use Rattle.algebra.specs.Routines.{monic, square}
 use Rattle.algebra.proofs.Elements.{add_left_comm, add-mul, add-zero, mul_left_comm, mul-one, mul-zero, zero-mul}
-use Rattle.algebra.proofs.Series.{Series, afterFirst, nought, times}
+use Rattle.algebra.proofs.Series.{Series, after_first, nought, times}
 use Rattle.algebra.proofs.Coefficients.{coef-mul, coef-square}
 
 module _ {K : Type 0} {F : Ops K} (L : Laws F) where
@@ -37,7 +37,7 @@ module _ {K : Type 0} {F : Ops K} (L : Laws F) where
   unfolding eval
   eval-nought [] x e = refl
   eval-nought (c ∷ p) x e =
-      ap₂ (λ a b. a ⊕ x ⊗ b) (ap (λ f. f 0) e) (eval-nought p x (ap afterFirst e)) ∙ zero-add (x ⊗ 0#) ∙ mul-zero L x
+      ap₂ (λ a b. a ⊕ x ⊗ b) (ap (λ f. f 0) e) (eval-nought p x (ap after_first e)) ∙ zero-add (x ⊗ 0#) ∙ mul-zero L x
 
   -- a value depends on the polynomial, and not on the list that holds it
   pub eval-same : (p q : List K) (x : K) → coef F p ≡ coef F q → eval F p x ≡ eval F q x
@@ -45,7 +45,7 @@ module _ {K : Type 0} {F : Ops K} (L : Laws F) where
   eval-same [] q x e = sym (eval-nought q x (sym e))
   eval-same (c ∷ p) [] x e = eval-nought (c ∷ p) x e
   eval-same (c ∷ p) (d ∷ q) x e =
-      ap₂ (λ a b. a ⊕ x ⊗ b) (ap (λ f. f 0) e) (eval-same p q x (ap afterFirst e))
+      ap₂ (λ a b. a ⊕ x ⊗ b) (ap (λ f. f 0) e) (eval-same p q x (ap after_first e))
 
   pub eval_add : (p q : List K) (x : K) → eval F (add F p q) x ≡ eval F p x ⊕ eval F q x
   unfolding eval add
@@ -96,23 +96,23 @@ module _ {K : Type 0} {F : Ops K} (L : Laws F) where
   eval-frobenius zero f x = refl
   eval-frobenius (suc j) f x = eval-frobenius j (mul F f f) x ∙ ap (squared F j) (eval_mul f f x)
 
-  pub eval-tracePoly : (j : ℕ) (f : List K) (x : K) → eval F (tracePoly F j f) x ≡ trace F j (eval F f x)
-  unfolding tracePoly trace eval
-  eval-tracePoly zero f x = refl
-  eval-tracePoly (suc j) f x =
-      eval_add f (tracePoly F j (mul F f f)) x
-      ∙ ap (λ v. eval F f x ⊕ v) (eval-tracePoly j (mul F f f) x ∙ ap (trace F j) (eval_mul f f x))
+  pub eval-trace_poly : (j : ℕ) (f : List K) (x : K) → eval F (trace_poly F j f) x ≡ trace F j (eval F f x)
+  unfolding trace_poly trace eval
+  eval-trace_poly zero f x = refl
+  eval-trace_poly (suc j) f x =
+      eval_add f (trace_poly F j (mul F f f)) x
+      ∙ ap (λ v. eval F f x ⊕ v) (eval-trace_poly j (mul F f f) x ∙ ap (trace F j) (eval_mul f f x))
 
-  pub eval-fieldPoly : (m : ℕ) (x : K) → eval F (fieldPoly F m) x ≡ squared F m x ⊕ x
-  eval-fieldPoly m x =
+  pub eval-field_poly : (m : ℕ) (x : K) → eval F (field_poly F m) x ≡ squared F m x ⊕ x
+  eval-field_poly m x =
       eval_add (frobenius F m (linear F 0#)) (linear F 0#) x
       ∙ ap₂ ◌⊕◌ (eval-frobenius m (linear F 0#) x ∙ ap (squared F m) (eval-linear 0# x ∙ zero-add x)) (eval-linear 0# x ∙ zero-add x)
 
   -- Tr(b z) is 0 at r where Tr(b r) is
-  pub eval-traceOf : (m : ℕ) (b r : K) → eval F (traceOf F m b) r ≡ trace F m (F.mul b r)
+  pub eval-trace_of : (m : ℕ) (b r : K) → eval F (trace_of F m b) r ≡ trace F m (F.mul b r)
   unfolding eval
-  eval-traceOf m b r =
-      eval-tracePoly m (0# ∷ b ∷ []) r ∙ ap (trace F m) (simp (mul-zero L, add-zero L, zero-add, mul_comm r b))
+  eval-trace_of m b r =
+      eval-trace_poly m (0# ∷ b ∷ []) r ∙ ap (trace F m) (simp (mul-zero L, add-zero L, zero-add, mul_comm r b))
 
   -- a value of a multiple
   pub eval-multiple : (d f e : List K) (r : K) → coef F d ⊠ coef F e ≡ coef F f → eval F d r ⊗ eval F e r ≡ eval F f r

@@ -13,8 +13,8 @@ use lib.Bits.{bit_xor}
 use lib.Dec.{eqb, ltb}
 use Rattle.algebra.specs.Field.{Ops}
 use Rattle.algebra.specs.Trial.{up_from}
-use Rattle.algebra.specs.Polynomial.{add, eval, fromRoots, mul, rootsOf, traceOf, tracePoly}
-use Rattle.algebra.specs.Routines.{cofactor, quotientDigit, euclid, gcd, monicRoots, norm, quo, rem, shiftIn, square, traceMod}
+use Rattle.algebra.specs.Polynomial.{add, eval, from_roots, mul, roots_of, trace_of, trace_poly}
+use Rattle.algebra.specs.Routines.{cofactor, quotient_digit, euclid, gcd, monic_roots, norm, quo, rem, shift_in, square, trace_mod}
 
 -- the product, by Horner's rule on the bits of the second factor
 double : ℕ → ℕ
@@ -38,23 +38,23 @@ unfolding product inverse
 G16 = record { zero = 0; one = 1; add = bit_xor; mul = product 4; inv = inverse; is_zero = λ x. eqb x 0 }
 
 -- (z + 1)(z + 2)(z + 3) = z^3 + 7 z + 6
-product_is : monicRoots G16 (1 ∷ 2 ∷ 3 ∷ []) ≡ 6 ∷ 7 ∷ 0 ∷ []
-unfolding G16 monicRoots fromRoots mul add
+product_is : monic_roots G16 (1 ∷ 2 ∷ 3 ∷ []) ≡ 6 ∷ 7 ∷ 0 ∷ []
+unfolding G16 monic_roots from_roots mul add
 product_is = refl
 
-roots-are : rootsOf G16 16 (6 ∷ 7 ∷ 0 ∷ 1 ∷ []) ≡ 1 ∷ 2 ∷ 3 ∷ []
-unfolding G16 rootsOf eval up_from
+roots-are : roots_of G16 16 (6 ∷ 7 ∷ 0 ∷ 1 ∷ []) ≡ 1 ∷ 2 ∷ 3 ∷ []
+unfolding G16 roots_of eval up_from
 roots-are = refl
 
 -- Tr(4 z) is 0 at 1 alone
-split-gcd : gcd G16 (6 ∷ 7 ∷ 0 ∷ []) (traceOf G16 4 4) ≡ 1 ∷ []
-unfolding G16 tracePoly mul add gcd euclid norm rem shiftIn quotientDigit
+split-gcd : gcd G16 (6 ∷ 7 ∷ 0 ∷ []) (trace_of G16 4 4) ≡ 1 ∷ []
+unfolding G16 trace_poly mul add gcd euclid norm rem shift_in quotient_digit
 split-gcd = refl
 
-split-modulo : gcd G16 (6 ∷ 7 ∷ 0 ∷ []) (traceMod G16 (6 ∷ 7 ∷ 0 ∷ []) 4 (rem G16 (6 ∷ 7 ∷ 0 ∷ []) (0 ∷ 4 ∷ []))) ≡ 1 ∷ []
-unfolding G16 traceMod square add gcd euclid norm rem shiftIn quotientDigit
+split-modulo : gcd G16 (6 ∷ 7 ∷ 0 ∷ []) (trace_mod G16 (6 ∷ 7 ∷ 0 ∷ []) 4 (rem G16 (6 ∷ 7 ∷ 0 ∷ []) (0 ∷ 4 ∷ []))) ≡ 1 ∷ []
+unfolding G16 trace_mod square add gcd euclid norm rem shift_in quotient_digit
 split-modulo = refl
 
 split-cofactor : cofactor G16 (6 ∷ 7 ∷ 0 ∷ []) (1 ∷ []) ≡ 6 ∷ 1 ∷ []
-unfolding G16 cofactor quo rem shiftIn quotientDigit add
+unfolding G16 cofactor quo rem shift_in quotient_digit add
 split-cofactor = refl

@@ -4,9 +4,9 @@
 --   length-square                    twice as long
 --   length-rem                       as long as the divisor
 --   length-quo                       as long as the dividend
---   length-fromRoots                 one more than there are roots
---   length-monicRoots                as many as there are roots
---   length-frobeniusMod, length-traceMod  as long as the modulus, where the start is
+--   length-from_roots                 one more than there are roots
+--   length-monic_roots                as many as there are roots
+--   length-frobenius_mod, length-trace_mod  as long as the modulus, where the start is
 --   norm-shorter                     what is made monic has a lower degree than the place count
 --   length-gcd                       at most as long as the first polynomial
 --   length-cofactor                  the difference
@@ -23,8 +23,8 @@ use native.Mathlib.Omega.{arith}
 use lib.ListN.{get_or, length, length-append, length-map, length-replicate, length-take, take}
 use lib.Seq.{length-take-le}
 use Rattle.algebra.specs.Field.{Ops}
-use Rattle.algebra.specs.Polynomial.{add, fromRoots, linear, mul}
-use Rattle.algebra.specs.Routines.{cofactor, quotientDigit, euclid, frobeniusMod, gcd, monic, monicRoots, norm, quo, rem, shiftIn, square, traceMod}
+use Rattle.algebra.specs.Polynomial.{add, from_roots, linear, mul}
+use Rattle.algebra.specs.Routines.{cofactor, quotient_digit, euclid, frobenius_mod, gcd, monic, monic_roots, norm, quo, rem, shift_in, square, trace_mod}
 
 module _ {K : Type 0} (F : Ops K) where
   pub length-add : (p q : List K) → length p ≤ length q → length (add F p q) ≡ length q
@@ -40,16 +40,16 @@ module _ {K : Type 0} (F : Ops K) where
   length-add-left (c ∷ p) [] e = refl
   length-add-left (c ∷ p) (d ∷ q) e = ap suc (length-add-left p q (le_of_suc-le-suc e))
 
-  pub length-shiftIn : (p : List K) (c : K) (r : List K) → length r ≡ length p → length (shiftIn F p c r) ≡ length p
-  unfolding shiftIn
-  length-shiftIn p c r e =
-      length-add (take (length p) (c ∷ r)) (map (F.mul (quotientDigit F p c r)) p) (omega (arith, length-take (length p) (c ∷ r), length-map p (F.mul (quotientDigit F p c r))))
-      ∙ length-map p (F.mul (quotientDigit F p c r))
+  pub length-shift_in : (p : List K) (c : K) (r : List K) → length r ≡ length p → length (shift_in F p c r) ≡ length p
+  unfolding shift_in
+  length-shift_in p c r e =
+      length-add (take (length p) (c ∷ r)) (map (F.mul (quotient_digit F p c r)) p) (omega (arith, length-take (length p) (c ∷ r), length-map p (F.mul (quotient_digit F p c r))))
+      ∙ length-map p (F.mul (quotient_digit F p c r))
 
   pub length-rem : (p f : List K) → length (rem F p f) ≡ length p
   unfolding rem
   length-rem p [] = length-replicate (length p) F.zero
-  length-rem p (c ∷ f) = length-shiftIn p c (rem F p f) (length-rem p f)
+  length-rem p (c ∷ f) = length-shift_in p c (rem F p f) (length-rem p f)
 
   pub length-quo : (p f : List K) → length (quo F p f) ≡ length f
   unfolding quo
@@ -64,10 +64,10 @@ module _ {K : Type 0} (F : Ops K) where
       length-add-left (map (F.mul F.one) q) (F.zero ∷ []) (omega (arith, length-map q (F.mul F.one))) ∙ length-map q (F.mul F.one) in
       length-add (map (F.mul r) q) (F.zero ∷ one) (omega (arith, e, length-map q (F.mul r))) ∙ ap suc e
 
-  pub length-fromRoots : (s : List K) → length (fromRoots F s) ≡ suc (length s)
-  unfolding fromRoots
-  length-fromRoots [] = refl
-  length-fromRoots (r ∷ s) = length-linear r (fromRoots F s) (omega (arith, length-fromRoots s)) ∙ ap suc (length-fromRoots s)
+  pub length-from_roots : (s : List K) → length (from_roots F s) ≡ suc (length s)
+  unfolding from_roots
+  length-from_roots [] = refl
+  length-from_roots (r ∷ s) = length-linear r (from_roots F s) (omega (arith, length-from_roots s)) ∙ ap suc (length-from_roots s)
 
   pub length-square : (f : List K) → length (square F f) ≡ length f + length f
   unfolding square
@@ -77,21 +77,21 @@ module _ {K : Type 0} (F : Ops K) where
   pub length-monic : (p : List K) → length (monic F p) ≡ suc (length p)
   length-monic p = length-append p _ ∙ omega arith
 
-  pub length-monicRoots : (s : List K) → length (monicRoots F s) ≡ length s
-  unfolding monicRoots
-  length-monicRoots s = length-take-le (length s) (fromRoots F s) (omega (arith, length-fromRoots s))
+  pub length-monic_roots : (s : List K) → length (monic_roots F s) ≡ length s
+  unfolding monic_roots
+  length-monic_roots s = length-take-le (length s) (from_roots F s) (omega (arith, length-from_roots s))
 
-  pub length-frobeniusMod : (p : List K) (j : ℕ) (w : List K) → length w ≡ length p → length (frobeniusMod F p j w) ≡ length p
-  unfolding frobeniusMod
-  length-frobeniusMod p zero w h = h
-  length-frobeniusMod p (suc j) w h = length-frobeniusMod p j (rem F p (square F w)) (length-rem p (square F w))
+  pub length-frobenius_mod : (p : List K) (j : ℕ) (w : List K) → length w ≡ length p → length (frobenius_mod F p j w) ≡ length p
+  unfolding frobenius_mod
+  length-frobenius_mod p zero w h = h
+  length-frobenius_mod p (suc j) w h = length-frobenius_mod p j (rem F p (square F w)) (length-rem p (square F w))
 
-  pub length-traceMod : (p : List K) (j : ℕ) (w : List K) → length w ≡ length p → length (traceMod F p (suc j) w) ≡ length p
-  unfolding traceMod
-  length-traceMod p zero w h = length-add-left w [] (omega arith) ∙ h
-  length-traceMod p (suc j) w h =
-      let e : length (traceMod F p (suc j) (rem F p (square F w))) ≡ length p = length-traceMod p j (rem F p (square F w)) (length-rem p (square F w)) in
-      length-add w (traceMod F p (suc j) (rem F p (square F w))) (omega arith) ∙ e
+  pub length-trace_mod : (p : List K) (j : ℕ) (w : List K) → length w ≡ length p → length (trace_mod F p (suc j) w) ≡ length p
+  unfolding trace_mod
+  length-trace_mod p zero w h = length-add-left w [] (omega arith) ∙ h
+  length-trace_mod p (suc j) w h =
+      let e : length (trace_mod F p (suc j) (rem F p (square F w))) ≡ length p = length-trace_mod p j (rem F p (square F w)) (length-rem p (square F w)) in
+      length-add w (trace_mod F p (suc j) (rem F p (square F w))) (omega arith) ∙ e
 
   abbrev pub Shorter : ℕ → Option (List K) → Type 0
   Shorter k none = Unit {0}

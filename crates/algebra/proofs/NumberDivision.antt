@@ -22,11 +22,11 @@ use Prim.Native.Nat.{◌<◌, ℕ}
 use lib.ListN.{length, length-map}
 use Rattle.algebra.specs.Field.{Laws, OnNumbers, Ops}
 use Rattle.algebra.specs.Trial.{All, Distinct}
-use Rattle.algebra.specs.Polynomial.{Below, CombinesBelow, Divides, DividesBelow, IsGcd, IsGcdBelow, add, coef, eval, fromRoots, linear, mul}
+use Rattle.algebra.specs.Polynomial.{Below, CombinesBelow, Divides, DividesBelow, IsGcd, IsGcdBelow, add, coef, eval, from_roots, linear, mul}
 use Rattle.algebra.specs.Routines.{cofactor, gcd, monic, quo, rem}
 use Rattle.algebra.proofs.Series.{plus, times}
 use Rattle.algebra.proofs.Coefficients.{coef-add, coef-mul}
-use Rattle.algebra.proofs.Crossing.{Elem, below-low, by-elements, by_two, coef-down, coef-up, distinct-low, elems, laws, lift, low, low-add, low-cofactor, low-fromRoots, low-gcd, low-lift, low-monic, low-mul, low-quo, low-rem, root-down, root-up}
+use Rattle.algebra.proofs.Crossing.{Elem, below-low, by-elements, by_two, coef-down, coef-up, distinct-low, elems, laws, lift, low, low-add, low-cofactor, low-from_roots, low-gcd, low-lift, low-monic, low-mul, low-quo, low-rem, root-down, root-up}
 use Rattle.algebra.proofs.NumberElements.{zero-mul}
 use Rattle.algebra.proofs.NumberEvaluation.{eval_add, eval_mul, eval-same}
 use Rattle.algebra.proofs.StaysBelow.{add-below, eval-below, monic-below, mul-below, quo-below, rem_below}
@@ -84,9 +84,9 @@ module _ {G : Ops ℕ} {q : ℕ} (N : OnNumbers G q) where
   )) f h
 
   -- distinct roots of f together divide f
-  pub roots-divide : (s f : List ℕ) → Below q s → Below q f → Distinct s → All (λ r. eval G f r ≡ G.zero) s → DividesBelow G q (fromRoots G s) f
-  roots-divide = by_two N (λ s f. Distinct s → All (λ r. eval G f r ≡ G.zero) s → DividesBelow G q (fromRoots G s) f) λ u v d h.
-      subst (λ p. DividesBelow G q p (low N v)) (low-fromRoots N u) (divides-down (fromRoots K u) v (I.roots-divide L u v (distinct-low N u d) (up v u h)))
+  pub roots-divide : (s f : List ℕ) → Below q s → Below q f → Distinct s → All (λ r. eval G f r ≡ G.zero) s → DividesBelow G q (from_roots G s) f
+  roots-divide = by_two N (λ s f. Distinct s → All (λ r. eval G f r ≡ G.zero) s → DividesBelow G q (from_roots G s) f) λ u v d h.
+      subst (λ p. DividesBelow G q p (low N v)) (low-from_roots N u) (divides-down (from_roots K u) v (I.roots-divide L u v (distinct-low N u d) (up v u h)))
     where
       up : (v u : List (Elem q)) → All (λ r. eval G (low N v) r ≡ G.zero) (low N u) → All (λ r. eval K v r ≡ K.zero) u
       up v [] h = tt

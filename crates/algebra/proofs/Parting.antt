@@ -1,6 +1,6 @@
 -- A product over two distinct roots or more parts at some level below m. So a factor of degree 3 comes down to degrees
--- 1 and 2 with no element tried: take its part that splits (`rootsOf-begin`), then the first level whose gcd is
--- neither 1 nor all of it; the roots are those of the two parts (`rootsOf-parts`).
+-- 1 and 2 with no element tried: take its part that splits (`roots_of-begin`), then the first level whose gcd is
+-- neither 1 nor all of it; the roots are those of the two parts (`roots_of-parts`).
 --   keep_some      a test that some element passes keeps something
 --   keep-fewer     a test that some element fails does not keep all
 --   parting-level  THE LEVEL: some i below m at which gcd with Tr(2^i z) is neither 1 nor all
@@ -20,12 +20,12 @@ use lib.Dec.{T}
 use lib.ListN.{length}
 use Rattle.algebra.specs.Field.{OnNumbers, Ops, squared, trace}
 use Rattle.algebra.specs.Trial.{Distinct, keep}
-use Rattle.algebra.specs.Polynomial.{Below, fieldPoly, rootsOf, traceOf}
-use Rattle.algebra.specs.Routines.{gcd, monic, monicRoots}
+use Rattle.algebra.specs.Polynomial.{Below, field_poly, roots_of, trace_of}
+use Rattle.algebra.specs.Routines.{gcd, monic, monic_roots}
 use Rattle.algebra.proofs.Trial.{kept-member, length-keep}
-use Rattle.algebra.proofs.Lengths.{length-monicRoots}
-use Rattle.algebra.proofs.StaysBelow.{rootsOf-below}
-use Rattle.algebra.proofs.RootList.{rootsOf-distinct}
+use Rattle.algebra.proofs.Lengths.{length-monic_roots}
+use Rattle.algebra.proofs.StaysBelow.{roots_of-below}
+use Rattle.algebra.proofs.RootList.{roots_of-distinct}
 use Rattle.algebra.proofs.NumberSteps as S
 use Rattle.algebra.proofs.NumberTrace as R
 
@@ -82,13 +82,13 @@ module _ {G : Ops ℕ} {q : ℕ} (N : OnNumbers G q) (m : ℕ) (size : q ≡ 2 ^
   test i r = G.is_zero (trace G m (G.mul (2 ^ i) r))
 
   abbrev pub Parts : List ℕ → ℕ → Type 0
-  Parts p i = (0 < length (gcd G p (traceOf G m (2 ^ i)))) × (length (gcd G p (traceOf G m (2 ^ i))) < length p)
+  Parts p i = (0 < length (gcd G p (trace_of G m (2 ^ i)))) × (length (gcd G p (trace_of G m (2 ^ i))) < length p)
 
   level-of : (x y : ℕ) → x < q → y < q → x ≢ y → (i : ℕ) × (i < m) × (test i x ≡ not (test i y))
   level-of x y hx hy n = ⊎_elim (λ h. absurd (n (R.tests-apart N m size zero_is add_is positive fermat x y hx hy h))) (λ w. w) (differ? (λ i. test i x) (λ i. test i y) m)
 
   -- THE LEVEL: some i below m at which gcd with Tr(2^i z) is neither 1 nor all
-  pub parting-level : (s : List ℕ) → Below q s → Distinct s → 2 ≤ length s → (i : ℕ) × (i < m) × Parts (monicRoots G s) i
+  pub parting-level : (s : List ℕ) → Below q s → Distinct s → 2 ≤ length s → (i : ℕ) × (i < m) × Parts (monic_roots G s) i
   parting-level [] h d l = absurd (omega arith)
   parting-level (x ∷ []) h d l = absurd (omega arith)
   parting-level (x ∷ y ∷ r) h d l = go (level-of x y h.0 h.1.0 d.0.0)
@@ -96,13 +96,13 @@ module _ {G : Ops ℕ} {q : ℕ} (N : OnNumbers G q) (m : ℕ) (size : q ≡ 2 ^
       s : List ℕ
       s = x ∷ y ∷ r
 
-      go : (i : ℕ) × (i < m) × (test i x ≡ not (test i y)) → (i : ℕ) × (i < m) × Parts (monicRoots G s) i
+      go : (i : ℕ) × (i < m) × (test i x ≡ not (test i y)) → (i : ℕ) × (i < m) × Parts (monic_roots G s) i
       go w =
           let i : ℕ = w.0 in
-          let e : length (gcd G (monicRoots G s) (traceOf G m (2 ^ i))) ≡ length (keep (test i) s) =
-          ap length (S.step-gcd N m (2 ^ i) (rw size (pow-lt w.1)) s h d) ∙ length-monicRoots G (keep (test i) s) in
+          let e : length (gcd G (monic_roots G s) (trace_of G m (2 ^ i))) ≡ length (keep (test i) s) =
+          ap length (S.step-gcd N m (2 ^ i) (rw size (pow-lt w.1)) s h d) ∙ length-monic_roots G (keep (test i) s) in
           let k = both (test i x) (test i y) refl refl w.2 in
-          (i, w.1, (omega (arith, e, k.0), omega (arith, e, k.1, length-monicRoots G s)))
+          (i, w.1, (omega (arith, e, k.0), omega (arith, e, k.1, length-monic_roots G s)))
         where
           both : (a b : Bool) → test w.0 x ≡ a → test w.0 y ≡ b → a ≡ not b → (0 < length (keep (test w.0) s)) × (length (keep (test w.0) s) < length s)
           both true b ex ey n = (
@@ -115,9 +115,9 @@ module _ {G : Ops ℕ} {q : ℕ} (N : OnNumbers G q) (m : ℕ) (size : q ≡ 2 ^
           )
 
   -- the part of monic p that splits, as long as there are roots
-  pub parting-roots : (p : List ℕ) → Below q p → 1 < q → 2 ≤ length (gcd G p (fieldPoly G m)) → (i : ℕ) × (i < m) × Parts (gcd G p (fieldPoly G m)) i
+  pub parting-roots : (p : List ℕ) → Below q p → 1 < q → 2 ≤ length (gcd G p (field_poly G m)) → (i : ℕ) × (i < m) × Parts (gcd G p (field_poly G m)) i
   parting-roots p h wide l =
-      let s : List ℕ = rootsOf G q (monic G p) in
-      let e : gcd G p (fieldPoly G m) ≡ monicRoots G s = S.begin-gcd N m size wide fermat p h in
-      let n : 2 ≤ length s = omega (arith, ap length e, length-monicRoots G s) in
-      subst (λ g. (i : ℕ) × (i < m) × Parts g i) (sym e) (parting-level s (rootsOf-below G q (monic G p)) (rootsOf-distinct G q (monic G p)) n)
+      let s : List ℕ = roots_of G q (monic G p) in
+      let e : gcd G p (field_poly G m) ≡ monic_roots G s = S.begin-gcd N m size wide fermat p h in
+      let n : 2 ≤ length s = omega (arith, ap length e, length-monic_roots G s) in
+      subst (λ g. (i : ℕ) × (i < m) × Parts g i) (sym e) (parting-level s (roots_of-below G q (monic G p)) (roots_of-distinct G q (monic G p)) n)

@@ -2,15 +2,15 @@
 -- the equality is antt's own: `rw`, `simp` and `cc` work on it. A polynomial is a sequence that a list holds
 -- (`Coefficients.antt`).
 --   Series           a sequence, constant first
---   afterFirst           what stands behind its first place
---   startingWith            c + z f
+--   after_first           what stands behind its first place
+--   starting_with            c + z f
 --   plus, times      sum and product
 --   scale            a multiple by an element
 --   nought, unit     0 and 1
 --   plus_comm, plus_assoc, nought-plus, plus-self            the sums are a group in which each is its own inverse
 --   times-comm, times-assoc, times-unit, times-plus          the ring
 --   equal-of-plus    sequences whose sum is 0 are equal
---   startingWith-square     (c + z f)^2 = c^2 + z^2 f^2
+--   starting_with-square     (c + z f)^2 = c^2 + z^2 f^2
 -- Assumes nothing.
 use mathlib.Core.Path.{◌∙◌, ◌≡◌, ap, ap₂, fun_ext, refl, sym}
 use mathlib.Core.Logic.{◌≢◌}
@@ -22,12 +22,12 @@ use Rattle.algebra.proofs.Elements.{add_back, add_left_comm, add-mul, add-zero, 
 abbrev pub Series : Type 0 → Type 0
 Series K = ℕ → K
 
-abbrev pub afterFirst : {K : Type 0} → Series K → Series K
-afterFirst f k = f (suc k)
+abbrev pub after_first : {K : Type 0} → Series K → Series K
+after_first f k = f (suc k)
 
-unfoldable pub startingWith : {K : Type 0} → K → Series K → Series K
-startingWith c f zero = c
-startingWith c f (suc k) = f k
+unfoldable pub starting_with : {K : Type 0} → K → Series K → Series K
+starting_with c f zero = c
+starting_with c f (suc k) = f k
 
 module _ {K : Type 0} (F : Ops K) where
   unfoldable pub plus : Series K → Series K → Series K
@@ -38,13 +38,13 @@ module _ {K : Type 0} (F : Ops K) where
 
   unfoldable pub times : Series K → Series K → Series K
   times f g zero = F.mul (f 0) (g 0)
-  times f g (suc k) = F.add (F.mul (f 0) (g (suc k))) (times (afterFirst f) g k)
+  times f g (suc k) = F.add (F.mul (f 0) (g (suc k))) (times (after_first f) g k)
 
   abbrev pub nought : Series K
   nought k = F.zero
 
   abbrev pub unit : Series K
-  unit = startingWith F.one nought
+  unit = starting_with F.one nought
 
 module _ {K : Type 0} {F : Ops K} (L : Laws F) where
   infixl 60 ◌⊕◌
@@ -98,27 +98,27 @@ module _ {K : Type 0} {F : Ops K} (L : Laws F) where
   unfolding times plus
   add_at f g h zero = add-mul L (f 0) (g 0) (h 0)
   add_at f g h (suc k) =
-      ap₂ ◌⊕◌ (add-mul L (f 0) (g 0) (h (suc k))) (add_at (afterFirst f) (afterFirst g) h k)
+      ap₂ ◌⊕◌ (add-mul L (f 0) (g 0) (h (suc k))) (add_at (after_first f) (after_first g) h k)
       ∙ simp (add_assoc, add_left_comm L)
 
   scale_at : (c : K) (f g : Series K) (k : ℕ) → (scale F c f ⊠ g) k ≡ c ⊗ (f ⊠ g) k
   unfolding times scale
   scale_at c f g zero = mul_assoc c (f 0) (g 0)
   scale_at c f g (suc k) =
-      ap₂ ◌⊕◌ (mul_assoc c (f 0) (g (suc k))) (scale_at c (afterFirst f) g k) ∙ sym (mul-add c (f 0 ⊗ g (suc k)) ((afterFirst f ⊠ g) k))
+      ap₂ ◌⊕◌ (mul_assoc c (f 0) (g (suc k))) (scale_at c (after_first f) g k) ∙ sym (mul-add c (f 0 ⊗ g (suc k)) ((after_first f ⊠ g) k))
 
   -- the product by its last place, where `times` goes by the first
-  other-end : (f g : Series K) (k : ℕ) → (f ⊠ g) (suc k) ≡ f (suc k) ⊗ g 0 ⊕ (f ⊠ afterFirst g) k
+  other-end : (f g : Series K) (k : ℕ) → (f ⊠ g) (suc k) ≡ f (suc k) ⊗ g 0 ⊕ (f ⊠ after_first g) k
   unfolding times
   other-end f g zero = add_comm (f 0 ⊗ g 1) (f 1 ⊗ g 0)
   other-end f g (suc k) =
-      ap (λ w. f 0 ⊗ g (suc (suc k)) ⊕ w) (other-end (afterFirst f) g k)
-      ∙ add_left_comm L (f 0 ⊗ g (suc (suc k))) (f (suc (suc k)) ⊗ g 0) ((afterFirst f ⊠ afterFirst g) k)
+      ap (λ w. f 0 ⊗ g (suc (suc k)) ⊕ w) (other-end (after_first f) g k)
+      ∙ add_left_comm L (f 0 ⊗ g (suc (suc k))) (f (suc (suc k)) ⊗ g 0) ((after_first f ⊠ after_first g) k)
 
   comm-at : (f g : Series K) (k : ℕ) → (f ⊠ g) k ≡ (g ⊠ f) k
   unfolding times
   comm-at f g zero = mul_comm (f 0) (g 0)
-  comm-at f g (suc k) = ap₂ ◌⊕◌ (mul_comm (f 0) (g (suc k))) (comm-at (afterFirst f) g k) ∙ sym (other-end g f k)
+  comm-at f g (suc k) = ap₂ ◌⊕◌ (mul_comm (f 0) (g (suc k))) (comm-at (after_first f) g k) ∙ sym (other-end g f k)
 
   regroup : (x y z v w : K) → x ⊗ y ⊗ z ⊕ (x ⊗ v ⊕ w) ≡ x ⊗ (y ⊗ z ⊕ v) ⊕ w
   regroup x y z v w = simp (mul-add, mul_assoc, add_assoc)
@@ -128,11 +128,11 @@ module _ {K : Type 0} {F : Ops K} (L : Laws F) where
   assoc-at f g h zero = mul_assoc (f 0) (g 0) (h 0)
   assoc-at f g h (suc k) =
       ap (λ w. f 0 ⊗ g 0 ⊗ h (suc k) ⊕ w)
-      (add_at (scale F (f 0) (afterFirst g)) (afterFirst f ⊠ g) h k ∙ ap₂ ◌⊕◌ (scale_at (f 0) (afterFirst g) h k) (assoc-at (afterFirst f) g h k))
-      ∙ regroup (f 0) (g 0) (h (suc k)) ((afterFirst g ⊠ h) k) ((afterFirst f ⊠ (g ⊠ h)) k)
+      (add_at (scale F (f 0) (after_first g)) (after_first f ⊠ g) h k ∙ ap₂ ◌⊕◌ (scale_at (f 0) (after_first g) h k) (assoc-at (after_first f) g h k))
+      ∙ regroup (f 0) (g 0) (h (suc k)) ((after_first g ⊠ h) k) ((after_first f ⊠ (g ⊠ h)) k)
 
   unit-at : (f : Series K) (k : ℕ) → (unit F ⊠ f) k ≡ f k
-  unfolding times startingWith
+  unfolding times starting_with
   unit-at f zero = one-mul (f 0)
   unit-at f (suc k) = ap₂ ◌⊕◌ (one-mul (f (suc k))) (nought-at f k) ∙ add-zero L (f (suc k))
 
@@ -150,9 +150,9 @@ module _ {K : Type 0} {F : Ops K} (L : Laws F) where
   times-plus f g h =
       times-comm f (g ⊞ h) ∙ fun_ext (add_at g h f) ∙ ap₂ ◌⊞◌ (times-comm g f) (times-comm h f)
 
-  pub plus_times : (f g h : Series K) → (f ⊞ g) ⊠ h ≡ f ⊠ h ⊞ g ⊠ h
+  pub plus-times : (f g h : Series K) → (f ⊞ g) ⊠ h ≡ f ⊠ h ⊞ g ⊠ h
   unfolding plus
-  plus_times f g h = fun_ext (add_at f g h)
+  plus-times f g h = fun_ext (add_at f g h)
 
   pub times-nought : (f : Series K) → f ⊠ nought F ≡ nought F
   times-nought f = times-comm f (nought F) ∙ fun_ext (nought-at f)
@@ -177,22 +177,22 @@ module _ {K : Type 0} {F : Ops K} (L : Laws F) where
 
   -- ---- c + z f
 
-  pub startingWith-plus : (c d : K) (f g : Series K) → startingWith c f ⊞ startingWith d g ≡ startingWith (c ⊕ d) (f ⊞ g)
-  unfolding startingWith plus
-  startingWith-plus c d f g = fun_ext λ k. elim k [ zero ↦ refl | suc k ↦ refl ]
+  pub starting_with-plus : (c d : K) (f g : Series K) → starting_with c f ⊞ starting_with d g ≡ starting_with (c ⊕ d) (f ⊞ g)
+  unfolding starting_with plus
+  starting_with-plus c d f g = fun_ext λ k. elim k [ zero ↦ refl | suc k ↦ refl ]
 
-  pub startingWith-times : (c : K) (f g : Series K) → startingWith c f ⊠ g ≡ scale F c g ⊞ startingWith 0# (f ⊠ g)
-  unfolding startingWith plus times scale
-  startingWith-times c f g = fun_ext λ k. elim k [ zero ↦ sym (add-zero L (c ⊗ g 0)) | suc k ↦ refl ]
+  pub starting_with-times : (c : K) (f g : Series K) → starting_with c f ⊠ g ≡ scale F c g ⊞ starting_with 0# (f ⊠ g)
+  unfolding starting_with plus times scale
+  starting_with-times c f g = fun_ext λ k. elim k [ zero ↦ sym (add-zero L (c ⊗ g 0)) | suc k ↦ refl ]
 
-  pub startingWith-scale : (c d : K) (f : Series K) → scale F c (startingWith d f) ≡ startingWith (c ⊗ d) (scale F c f)
-  unfolding startingWith scale
-  startingWith-scale c d f = fun_ext λ k. elim k [ zero ↦ refl | suc k ↦ refl ]
+  pub starting_with-scale : (c d : K) (f : Series K) → scale F c (starting_with d f) ≡ starting_with (c ⊗ d) (scale F c f)
+  unfolding starting_with scale
+  starting_with-scale c d f = fun_ext λ k. elim k [ zero ↦ refl | suc k ↦ refl ]
 
   -- (c + z f)^2 = c^2 + z^2 f^2: the middle terms cancel
-  pub startingWith-square : (c : K) (f : Series K) → startingWith c f ⊠ startingWith c f ≡ startingWith (c ⊗ c) (startingWith 0# (f ⊠ f))
-  startingWith-square c f =
-      startingWith-times c f (startingWith c f)
-      ∙ ap₂ ◌⊞◌ (startingWith-scale c c f) (ap (startingWith 0#) (times-comm f (startingWith c f) ∙ startingWith-times c f f))
-      ∙ startingWith-plus (c ⊗ c) 0# (scale F c f) (scale F c f ⊞ startingWith 0# (f ⊠ f))
-      ∙ ap₂ (λ d g. startingWith d g) (add-zero L (c ⊗ c)) (plus-back (scale F c f) (startingWith 0# (f ⊠ f)))
+  pub starting_with-square : (c : K) (f : Series K) → starting_with c f ⊠ starting_with c f ≡ starting_with (c ⊗ c) (starting_with 0# (f ⊠ f))
+  starting_with-square c f =
+      starting_with-times c f (starting_with c f)
+      ∙ ap₂ ◌⊞◌ (starting_with-scale c c f) (ap (starting_with 0#) (times-comm f (starting_with c f) ∙ starting_with-times c f f))
+      ∙ starting_with-plus (c ⊗ c) 0# (scale F c f) (scale F c f ⊞ starting_with 0# (f ⊠ f))
+      ∙ ap₂ (λ d g. starting_with d g) (add-zero L (c ⊗ c)) (plus-back (scale F c f) (starting_with 0# (f ⊠ f)))

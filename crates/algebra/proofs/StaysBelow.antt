@@ -15,10 +15,10 @@ use native.Mathlib.Omega.{arith}
 use lib.ListN.{length, get_or, take, drop, replicate}
 use Rattle.algebra.specs.Field.{Ops, OnNumbers, power}
 use Rattle.algebra.specs.Trial.{up_from, keep}
-use Rattle.algebra.specs.Polynomial.{eval, isRoot, add, mul, linear, frobenius, tracePoly, fieldPoly, traceOf, Below, rootsOf}
-use Rattle.algebra.specs.Routines.{monic, rem, quo, square, frobeniusMod, traceMod, norm, cofactor, monicRoots, gcd}
-use Rattle.algebra.proofs.Trial.{all_keep, upFrom-all}
-use Rattle.algebra.proofs.Crossing.{Elem, elems, low, low?, below-low, by-elements, by_two, low-add, low-mul, low-scale, low-eval, low-monicRoots, low-rem, low-quo, low-norm, low-gcd, low-cofactor, low-frobenius, low-tracePoly, low-power, low-square, low-frobeniusMod, low-traceMod}
+use Rattle.algebra.specs.Polynomial.{eval, is_root, add, mul, linear, frobenius, trace_poly, field_poly, trace_of, Below, roots_of}
+use Rattle.algebra.specs.Routines.{monic, rem, quo, square, frobenius_mod, trace_mod, norm, cofactor, monic_roots, gcd}
+use Rattle.algebra.proofs.Trial.{all_keep, up_from-all}
+use Rattle.algebra.proofs.Crossing.{Elem, elems, low, low?, below-low, by-elements, by_two, low-add, low-mul, low-scale, low-eval, low-monic_roots, low-rem, low-quo, low-norm, low-gcd, low-cofactor, low-frobenius, low-trace_poly, low-power, low-square, low-frobenius_mod, low-trace_mod}
 
 -- parts and joins of lists below q
 module _ (q : ℕ) where
@@ -53,12 +53,12 @@ module _ (q : ℕ) where
   below-from [] h = tt
   below-from (c ∷ p) h = (h 0 (omega arith), below-from p (λ i l. h (suc i) (omega arith)))
 
-pub upFrom-below : (q : ℕ) → Below q (up_from 0 q)
-upFrom-below q = upFrom-all (λ x. x < q) 0 q (λ x a b. omega arith)
+pub up_from-below : (q : ℕ) → Below q (up_from 0 q)
+up_from-below q = up_from-all (λ x. x < q) 0 q (λ x a b. omega arith)
 
-pub rootsOf-below : (G : Ops ℕ) (q : ℕ) (f : List ℕ) → Below q (rootsOf G q f)
-unfolding rootsOf
-rootsOf-below G q f = keep-below q (isRoot G f) (up_from 0 q) (upFrom-below q)
+pub roots_of-below : (G : Ops ℕ) (q : ℕ) (f : List ℕ) → Below q (roots_of G q f)
+unfolding roots_of
+roots_of-below G q f = keep-below q (is_root G f) (up_from 0 q) (up_from-below q)
 
 module _ {G : Ops ℕ} {q : ℕ} (N : OnNumbers G q) where
   -- what crosses from elements is below q: of one list, and of two
@@ -94,19 +94,19 @@ module _ {G : Ops ℕ} {q : ℕ} (N : OnNumbers G q) where
   pub frobenius-below : (j : ℕ) (f : List ℕ) → Below q f → Below q (frobenius G j f)
   frobenius-below j = crossed (frobenius G j) (frobenius (elems N) j) (low-frobenius N j)
 
-  pub tracePoly-below : (j : ℕ) (f : List ℕ) → Below q f → Below q (tracePoly G j f)
-  tracePoly-below j = crossed (tracePoly G j) (tracePoly (elems N) j) (low-tracePoly N j)
+  pub trace_poly-below : (j : ℕ) (f : List ℕ) → Below q f → Below q (trace_poly G j f)
+  trace_poly-below j = crossed (trace_poly G j) (trace_poly (elems N) j) (low-trace_poly N j)
 
-  pub monicRoots-below : (s : List ℕ) → Below q s → Below q (monicRoots G s)
-  monicRoots-below = crossed (monicRoots G) (monicRoots (elems N)) (low-monicRoots N)
+  pub monic_roots-below : (s : List ℕ) → Below q s → Below q (monic_roots G s)
+  monic_roots-below = crossed (monic_roots G) (monic_roots (elems N)) (low-monic_roots N)
 
-  pub fieldPoly-below : (m : ℕ) → Below q (fieldPoly G m)
-  fieldPoly-below m =
+  pub field_poly-below : (m : ℕ) → Below q (field_poly G m)
+  field_poly-below m =
       let z : Below q (linear G G.zero) = linear-below G.zero N.zero-below in
       add-below (frobenius G m (linear G G.zero)) (linear G G.zero) (frobenius-below m (linear G G.zero) z) z
 
-  pub traceOf-below : (m b : ℕ) → b < q → Below q (traceOf G m b)
-  traceOf-below m b h = tracePoly-below m (G.zero ∷ b ∷ []) (N.zero-below, (h, tt))
+  pub trace_of-below : (m b : ℕ) → b < q → Below q (trace_of G m b)
+  trace_of-below m b h = trace_poly-below m (G.zero ∷ b ∷ []) (N.zero-below, (h, tt))
 
   -- ---- routines
 
@@ -128,11 +128,11 @@ module _ {G : Ops ℕ} {q : ℕ} (N : OnNumbers G q) where
   pub cofactor-below : (p g : List ℕ) → Below q p → Below q g → Below q (cofactor G p g)
   cofactor-below = crossed-two (cofactor G) (cofactor (elems N)) (low-cofactor N)
 
-  pub frobeniusMod-below : (p : List ℕ) (j : ℕ) (w : List ℕ) → Below q p → Below q w → Below q (frobeniusMod G p j w)
-  frobeniusMod-below p j = crossed-two (λ f w. frobeniusMod G f j w) (λ u v. frobeniusMod (elems N) u j v) (λ u v. low-frobeniusMod N u j v) p
+  pub frobenius_mod-below : (p : List ℕ) (j : ℕ) (w : List ℕ) → Below q p → Below q w → Below q (frobenius_mod G p j w)
+  frobenius_mod-below p j = crossed-two (λ f w. frobenius_mod G f j w) (λ u v. frobenius_mod (elems N) u j v) (λ u v. low-frobenius_mod N u j v) p
 
-  pub traceMod-below : (p : List ℕ) (j : ℕ) (w : List ℕ) → Below q p → Below q w → Below q (traceMod G p j w)
-  traceMod-below p j = crossed-two (λ f w. traceMod G f j w) (λ u v. traceMod (elems N) u j v) (λ u v. low-traceMod N u j v) p
+  pub trace_mod-below : (p : List ℕ) (j : ℕ) (w : List ℕ) → Below q p → Below q w → Below q (trace_mod G p j w)
+  trace_mod-below p j = crossed-two (λ f w. trace_mod G f j w) (λ u v. trace_mod (elems N) u j v) (λ u v. low-trace_mod N u j v) p
 
   pub norm-below : (k : ℕ) (r : List ℕ) {s : List ℕ} → Below q r → norm G k r ≡ some s → Below q s
   norm-below k r {s} = by-elements N (λ r. norm G k r ≡ some s → Below q s) (λ u e. go (norm (elems N) k u) (low-norm N k u ∙ e)) r

@@ -15,11 +15,11 @@ use lib.Pow.{pow_pos}
 use lib.ListN.{length}
 use Rattle.algebra.specs.Field.{Laws, Ops, squared, trace}
 use Rattle.algebra.specs.Trial.{All, Distinct}
-use Rattle.algebra.specs.Polynomial.{coef, eval, linear, mul, tracePoly}
+use Rattle.algebra.specs.Polynomial.{coef, eval, linear, mul, trace_poly}
 use Rattle.algebra.proofs.Elements.{add-mul, equal-of-sum, squared-add, squared-zero, zero-mul, zero?}
 use Rattle.algebra.proofs.Series.{nought, nought-plus, plus_comm}
 use Rattle.algebra.proofs.Coefficients.{coef-add, coef-mul}
-use Rattle.algebra.proofs.Evaluation.{eval-linear, eval-tracePoly}
+use Rattle.algebra.proofs.Evaluation.{eval-linear, eval-trace_poly}
 use Rattle.algebra.proofs.Degree.{Monic, monic-list, monic-times, plus-top}
 use Rattle.algebra.proofs.Factors.{roots-at-most}
 use Rattle.algebra.proofs.Trace.{trace-add, trace-zero}
@@ -38,14 +38,14 @@ module _ {K : Type 0} {F : Ops K} (L : Laws F) where
   higher : (n j : ℕ) → 0 < n → n < n * 2 ^ suc j
   higher n j h = rw pow-suc (omega (arith, mul-le-mul_left n (pow_pos j)))
 
-  trace-monic : (j : ℕ) (f : List K) {n : ℕ} → 0 < n → Monic F (coef F f) n → Monic F (coef F (tracePoly F (suc j) f)) (n * 2 ^ j)
-  unfolding tracePoly
+  trace-monic : (j : ℕ) (f : List K) {n : ℕ} → 0 < n → Monic F (coef F f) n → Monic F (coef F (trace_poly F (suc j) f)) (n * 2 ^ j)
+  unfolding trace_poly
   trace-monic zero f {n} h t = rw (coef-add L f [], plus_comm L (coef F f) (nought F), nought-plus L, mul-one-nat) t
   trace-monic (suc j) f {n} h t =
       let e : (n + n) * 2 ^ j ≡ n * 2 ^ suc j = rw pow-suc (omega arith) in
-      let rest : Monic F (coef F (tracePoly F (suc j) (mul F f f))) (n * 2 ^ suc j) =
+      let rest : Monic F (coef F (trace_poly F (suc j) (mul F f f))) (n * 2 ^ suc j) =
       rw e at (trace-monic j (mul F f f) {n = n + n} (omega arith) (rw (coef-mul L f f) (monic-times L t t))) in
-      rw (coef-add L f (tracePoly F (suc j) (mul F f f)), plus_comm L (coef F f) (coef F (tracePoly F (suc j) (mul F f f))))
+      rw (coef-add L f (trace_poly F (suc j) (mul F f f)), plus_comm L (coef F f) (coef F (trace_poly F (suc j) (mul F f f))))
       (plus-top L rest t (higher n j h))
 
   module _ (n : ℕ) (basis : (i : ℕ) → i < n → K) (spans : SpansField F n basis) where
@@ -62,10 +62,10 @@ module _ {K : Type 0} {F : Ops K} (L : Laws F) where
         every = spans (λ y. trace F (suc m) (y ⊗ x) ≡ 0#) (ap (trace F (suc m)) (zero-mul L x) ∙ trace-zero L (suc m))
             (λ y z a b. ap (trace F (suc m)) (add-mul L y z x) ∙ trace-add L (suc m) (y ⊗ x) (z ⊗ x) ∙ ap₂ ◌⊕◌ a b ∙ zero-add 0#) h
 
-        roots : x ≢ 0# → (l : List K) → All (λ r. eval F (tracePoly F (suc m) (linear F 0#)) r ≡ 0#) l
+        roots : x ≢ 0# → (l : List K) → All (λ r. eval F (trace_poly F (suc m) (linear F 0#)) r ≡ 0#) l
         roots e [] = tt
         roots e (r ∷ l) = (
-          eval-tracePoly L (suc m) (linear F 0#) r ∙ ap (trace F (suc m)) (eval-linear L 0# r ∙ zero-add r
+          eval-trace_poly L (suc m) (linear F 0#) r ∙ ap (trace F (suc m)) (eval-linear L 0# r ∙ zero-add r
               ∙ sym (mul_assoc r (F.inv x) x ∙ ap (λ w. r ⊗ w) (mul_comm (F.inv x) x ∙ mul-inv x e) ∙ mul_comm r 1# ∙ one-mul r)) ∙ every (r ⊗ F.inv x),
           roots e l,
         )
@@ -73,8 +73,8 @@ module _ {K : Type 0} {F : Ops K} (L : Laws F) where
         go : (x ≡ 0#) ⊎ (x ≢ 0#) → x ≡ 0#
         go (inl z) = z
         go (inr e) =
-            let t : Monic F (coef F (tracePoly F (suc m) (linear F 0#))) (1 * 2 ^ m) = trace-monic m (linear F 0#) (omega arith) (monic-list L (0# ∷ [])) in
-            let few : length all ≤ 1 * 2 ^ m = roots-at-most L all (tracePoly F (suc m) (linear F 0#)) d (roots e all) t one≢zero in
+            let t : Monic F (coef F (trace_poly F (suc m) (linear F 0#))) (1 * 2 ^ m) = trace-monic m (linear F 0#) (omega arith) (monic-list L (0# ∷ [])) in
+            let few : length all ≤ 1 * 2 ^ m = roots-at-most L all (trace_poly F (suc m) (linear F 0#)) d (roots e all) t one≢zero in
             absurd (omega (arith, few, q, pow_pos m))
 
     -- so no two elements have the same trace bits

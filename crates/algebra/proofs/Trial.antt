@@ -9,7 +9,7 @@
 --   kept-only       no other ascending list has these members
 --   all-at, all_map, all_keep        of what holds of all elements
 --   keep-passed, kept-member         what is kept passes, and was there
---   upFrom-all, upFrom-member, upFrom-ascending, length-upFrom   of numbers in a row
+--   up_from-all, up_from-member, up_from-ascending, length-up_from   of numbers in a row
 --   ascending-keep, ascending-distinct, ascending-same           of lists that ascend
 --   ascending-fewer, ascending-whole    of two lists that ascend, where one has the members of the other
 --   distinct-keep, keep_same, length-keep                        of what a test keeps of any list
@@ -25,7 +25,7 @@ use native.Mathlib.Decide.{dec_lt}
 use native.Mathlib.Omega.{arith}
 use lib.Dec.{T}
 use lib.ListN.{length}
-use Rattle.algebra.specs.Trial.{All, Ascending, Distinct, firstFrom, keep, up_from}
+use Rattle.algebra.specs.Trial.{All, Ascending, Distinct, first_from, keep, up_from}
 
 -- ---- the first
 
@@ -38,24 +38,24 @@ cond_no : {A : Type 0} (b : Bool) (u v : A) → (T b → ⊥) → cond b u v ≡
 cond_no true u v h = absurd (h tt)
 cond_no false u v h = refl
 
-from_is : (t : ℕ → Bool) (k n x : ℕ) → k ≤ x → x < k + n → T (t x) → ((y : ℕ) → k ≤ y → y < x → T (t y) → ⊥) → firstFrom t k n ≡ x
-unfolding firstFrom
+from_is : (t : ℕ → Bool) (k n x : ℕ) → k ≤ x → x < k + n → T (t x) → ((y : ℕ) → k ≤ y → y < x → T (t y) → ⊥) → first_from t k n ≡ x
+unfolding first_from
 from_is t k zero x a b h none = absurd (omega arith)
 from_is t k (suc n) x a b h none =
     ⊎_elim at (λ l. ahead l (from_is t (suc k) n x l (omega arith) h (λ y c d. none y (omega arith) d))) (eq-or-lt_of_le a)
   where
-    at : k ≡ x → cond (t k) k (firstFrom t (suc k) n) ≡ x
-    at e = rw (cond_yes (t k) k (firstFrom t (suc k) n) (subst (λ y. T (t y)) (sym e) h)) e
+    at : k ≡ x → cond (t k) k (first_from t (suc k) n) ≡ x
+    at e = rw (cond_yes (t k) k (first_from t (suc k) n) (subst (λ y. T (t y)) (sym e) h)) e
 
-    ahead : k < x → firstFrom t (suc k) n ≡ x → cond (t k) k (firstFrom t (suc k) n) ≡ x
-    ahead l e = rw (cond_no (t k) k (firstFrom t (suc k) n) (none k (omega arith) l)) e
+    ahead : k < x → first_from t (suc k) n ≡ x → cond (t k) k (first_from t (suc k) n) ≡ x
+    ahead l e = rw (cond_no (t k) k (first_from t (suc k) n) (none k (omega arith) l)) e
 
 -- the first number that passes is x, where x passes and none below it does
-pub first-is : (t : ℕ → Bool) (n x : ℕ) → x < n → T (t x) → ((y : ℕ) → y < x → T (t y) → ⊥) → firstFrom t 0 n ≡ x
+pub first-is : (t : ℕ → Bool) (n x : ℕ) → x < n → T (t x) → ((y : ℕ) → y < x → T (t y) → ⊥) → first_from t 0 n ≡ x
 first-is t n x l h none = from_is t 0 n x (omega arith) (omega arith) h (λ y a b. none y b)
 
 -- the same, where x alone passes
-pub first-only : (t : ℕ → Bool) (n x : ℕ) → x < n → T (t x) → ((y : ℕ) → y < n → T (t y) → y ≡ x) → firstFrom t 0 n ≡ x
+pub first-only : (t : ℕ → Bool) (n x : ℕ) → x < n → T (t x) → ((y : ℕ) → y < n → T (t y) → y ≡ x) → first_from t 0 n ≡ x
 first-only t n x l h one = first-is t n x l h (λ y b p. omega (arith, one y (omega arith) p))
 
 -- what is known of the first of n numbers from k: it is one that passes or the number behind, and none before it
@@ -66,12 +66,12 @@ record First (t : ℕ → Bool) (k n f : ℕ) : Type 0 where
   passes : f < k + n → T (t f)
   least : (y : ℕ) → k ≤ y → y < f → T (t y) → ⊥
 
-first-from : (t : ℕ → Bool) (k n : ℕ) → First t k n (firstFrom t k n)
-unfolding firstFrom
+first-from : (t : ℕ → Bool) (k n : ℕ) → First t k n (first_from t k n)
+unfolding first_from
 first-from t k zero = record { reach = omega arith; past = omega arith; passes = λ h. absurd (omega arith); least = λ y a b p. omega arith }
 first-from t k (suc n) = go (t k) (λ h. h) (λ h. h) (first-from t (suc k) n)
   where
-    go : (b : Bool) → (T b → T (t k)) → (T (t k) → T b) → First t (suc k) n (firstFrom t (suc k) n) → First t k (suc n) (cond b k (firstFrom t (suc k) n))
+    go : (b : Bool) → (T b → T (t k)) → (T (t k) → T b) → First t (suc k) n (first_from t (suc k) n) → First t k (suc n) (cond b k (first_from t (suc k) n))
     go true i o r = record { reach = omega arith; past = omega arith; passes = λ h. i tt; least = λ y a b p. omega arith }
     go false i o r = record {
       reach = omega (arith, r.reach);
@@ -81,23 +81,23 @@ first-from t k (suc n) = go (t k) (λ h. h) (λ h. h) (first-from t (suc k) n)
     }
 
 -- where some number passes, the first is one that does
-pub first_found : (t : ℕ → Bool) (n x : ℕ) → x < n → T (t x) → (firstFrom t 0 n < n) × T (t (firstFrom t 0 n))
-first_found t n x l h = go (first-from t 0 n) (dec_lt x (firstFrom t 0 n))
+pub first_found : (t : ℕ → Bool) (n x : ℕ) → x < n → T (t x) → (first_from t 0 n < n) × T (t (first_from t 0 n))
+first_found t n x l h = go (first-from t 0 n) (dec_lt x (first_from t 0 n))
   where
-    go : First t 0 n (firstFrom t 0 n) → Dec (x < firstFrom t 0 n) → (firstFrom t 0 n < n) × T (t (firstFrom t 0 n))
+    go : First t 0 n (first_from t 0 n) → Dec (x < first_from t 0 n) → (first_from t 0 n < n) × T (t (first_from t 0 n))
     go r (yes g) = absurd (r.least x (omega arith) g h)
     go r (no g) = (omega arith, r.passes (omega arith))
 
 -- no number below the first passes
-pub first-least : (t : ℕ → Bool) (n y : ℕ) → y < firstFrom t 0 n → T (t y) → ⊥
+pub first-least : (t : ℕ → Bool) (n y : ℕ) → y < first_from t 0 n → T (t y) → ⊥
 first-least t n y l = (first-from t 0 n).least y (omega arith) l
 
 -- where none passes, it is the number behind them
-pub first-none : (t : ℕ → Bool) (n : ℕ) → ((y : ℕ) → y < n → T (t y) → ⊥) → firstFrom t 0 n ≡ n
-first-none t n none = go (first-from t 0 n) (dec_lt (firstFrom t 0 n) n)
+pub first-none : (t : ℕ → Bool) (n : ℕ) → ((y : ℕ) → y < n → T (t y) → ⊥) → first_from t 0 n ≡ n
+first-none t n none = go (first-from t 0 n) (dec_lt (first_from t 0 n) n)
   where
-    go : First t 0 n (firstFrom t 0 n) → Dec (firstFrom t 0 n < n) → firstFrom t 0 n ≡ n
-    go r (yes g) = absurd (none (firstFrom t 0 n) g (r.passes (omega arith)))
+    go : First t 0 n (first_from t 0 n) → Dec (first_from t 0 n < n) → first_from t 0 n ≡ n
+    go r (yes g) = absurd (none (first_from t 0 n) g (r.passes (omega arith)))
     go r (no g) = omega (arith, r.reach)
 
 -- ---- what holds of all elements
@@ -141,25 +141,25 @@ kept-member {A} t (r ∷ s) {x} = go (t r) (λ e h. subst (λ y. T (t y)) e h) (
 
 -- ---- numbers in a row
 
-pub upFrom-all : (P : ℕ → Type 0) (k n : ℕ) → ((x : ℕ) → k ≤ x → x < k + n → P x) → All P (up_from k n)
+pub up_from-all : (P : ℕ → Type 0) (k n : ℕ) → ((x : ℕ) → k ≤ x → x < k + n → P x) → All P (up_from k n)
 unfolding up_from
-upFrom-all P k zero h = tt
-upFrom-all P k (suc n) h = (h k (omega arith) (omega arith), upFrom-all P (suc k) n (λ x a b. h x (omega arith) (omega arith)))
+up_from-all P k zero h = tt
+up_from-all P k (suc n) h = (h k (omega arith) (omega arith), up_from-all P (suc k) n (λ x a b. h x (omega arith) (omega arith)))
 
-pub upFrom-ascending : (k n : ℕ) → Ascending (up_from k n)
+pub up_from-ascending : (k n : ℕ) → Ascending (up_from k n)
 unfolding up_from
-upFrom-ascending k zero = tt
-upFrom-ascending k (suc n) = (upFrom-all (λ y. k < y) (suc k) n (λ x a b. a), upFrom-ascending (suc k) n)
+up_from-ascending k zero = tt
+up_from-ascending k (suc n) = (up_from-all (λ y. k < y) (suc k) n (λ x a b. a), up_from-ascending (suc k) n)
 
-pub length-upFrom : (k n : ℕ) → length (up_from k n) ≡ n
+pub length-up_from : (k n : ℕ) → length (up_from k n) ≡ n
 unfolding up_from
-length-upFrom k zero = refl
-length-upFrom k (suc n) = ap suc (length-upFrom (suc k) n)
+length-up_from k zero = refl
+length-up_from k (suc n) = ap suc (length-up_from (suc k) n)
 
-pub upFrom-member : (k n x : ℕ) → k ≤ x → x < k + n → Memᴰ x (up_from k n)
+pub up_from-member : (k n x : ℕ) → k ≤ x → x < k + n → Memᴰ x (up_from k n)
 unfolding up_from
-upFrom-member k zero x a b = absurd (omega arith)
-upFrom-member k (suc n) x a b = ⊎_elim (λ e. Memᴰ.head (sym e)) (λ l. Memᴰ.tail (upFrom-member (suc k) n x l (omega arith))) (eq-or-lt_of_le a)
+up_from-member k zero x a b = absurd (omega arith)
+up_from-member k (suc n) x a b = ⊎_elim (λ e. Memᴰ.head (sym e)) (λ l. Memᴰ.tail (up_from-member (suc k) n x l (omega arith))) (eq-or-lt_of_le a)
 
 -- ---- lists that ascend
 
@@ -232,13 +232,13 @@ ascending-whole (x ∷ s) (y ∷ l) a b h n =
 
 -- the numbers kept ascend
 pub kept-ascending : (t : ℕ → Bool) (n : ℕ) → Ascending (keep t (up_from 0 n))
-kept-ascending t n = ascending-keep t (up_from 0 n) (upFrom-ascending 0 n)
+kept-ascending t n = ascending-keep t (up_from 0 n) (up_from-ascending 0 n)
 
 -- they are the numbers below n that pass
 pub kept-exactly : (t : ℕ → Bool) (n x : ℕ) → Memᴰ x (keep t (up_from 0 n)) ↔ ((x < n) × T (t x))
 kept-exactly t n x = (
-  λ m. let h = (kept-member t (up_from 0 n)).0 m in (all-at (λ y. y < n) (up_from 0 n) (upFrom-all (λ y. y < n) 0 n (λ y a b. omega arith)) h.0, h.1),
-  λ h. (kept-member t (up_from 0 n)).1 (upFrom-member 0 n x (omega arith) (let l : x < n = h.0 in omega arith), h.1),
+  λ m. let h = (kept-member t (up_from 0 n)).0 m in (all-at (λ y. y < n) (up_from 0 n) (up_from-all (λ y. y < n) 0 n (λ y a b. omega arith)) h.0, h.1),
+  λ h. (kept-member t (up_from 0 n)).1 (up_from-member 0 n x (omega arith) (let l : x < n = h.0 in omega arith), h.1),
 )
 
 -- no other ascending list has these members

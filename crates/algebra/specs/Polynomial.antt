@@ -3,19 +3,19 @@
 -- the field's operations, for numbers and for elements alike.
 --   coef           the coefficient at each place: 0 past the end
 --   eval           the value at x
---   isRoot         is f 0 at x?
+--   is_root         is f 0 at x?
 --   add            the sum
 --   mul            the product: (c + z p) r = c r + z (p r)
 --   linear         z + r
---   fromRoots      the product of z + r over a list of roots r
+--   from_roots      the product of z + r over a list of roots r
 --   frobenius      f ^ (2 ^ j), by j squarings
---   tracePoly      f + f^2 + f^4 + .. , j terms
---   fieldPoly      z^(2^m) + z
---   traceOf        Tr(b z) where the field has 2^m elements
+--   trace_poly      f + f^2 + f^4 + .. , j terms
+--   field_poly      z^(2^m) + z
+--   trace_of        Tr(b z) where the field has 2^m elements
 --   Divides        d divides the polynomial with the coefficients f
 --   IsGcd          g is a greatest common divisor of p and t: what divides g is what divides both
 --   Below          all numbers of a list are below q
---   rootsOf        the numbers below q at which f is 0, ascending
+--   roots_of        the numbers below q at which f is 0, ascending
 --   DividesBelow   d divides f, and the quotient is a list of numbers below q
 --   IsGcdBelow     g is a greatest common divisor of p and t among lists of numbers below q
 --   CombinesBelow  p u + t w = f for lists u and w of numbers below q
@@ -32,8 +32,8 @@ module _ {K : Type 0} (F : Ops K) where
   eval [] x = F.zero
   eval (c ∷ p) x = F.add c (F.mul x (eval p x))
 
-  abbrev pub isRoot : List K → K → Bool
-  isRoot f x = F.is_zero (eval f x)
+  abbrev pub is_root : List K → K → Bool
+  is_root f x = F.is_zero (eval f x)
 
   unfoldable pub add : List K → List K → List K
   add [] r = r
@@ -47,23 +47,23 @@ module _ {K : Type 0} (F : Ops K) where
   abbrev pub linear : K → List K
   linear r = r ∷ F.one ∷ []
 
-  unfoldable pub fromRoots : List K → List K
-  fromRoots [] = F.one ∷ []
-  fromRoots (r ∷ s) = mul (linear r) (fromRoots s)
+  unfoldable pub from_roots : List K → List K
+  from_roots [] = F.one ∷ []
+  from_roots (r ∷ s) = mul (linear r) (from_roots s)
 
   unfoldable pub frobenius : ℕ → List K → List K
   frobenius zero f = f
   frobenius (suc j) f = frobenius j (mul f f)
 
-  unfoldable pub tracePoly : ℕ → List K → List K
-  tracePoly zero f = []
-  tracePoly (suc j) f = add f (tracePoly j (mul f f))
+  unfoldable pub trace_poly : ℕ → List K → List K
+  trace_poly zero f = []
+  trace_poly (suc j) f = add f (trace_poly j (mul f f))
 
-  abbrev pub fieldPoly : ℕ → List K
-  fieldPoly m = add (frobenius m (linear F.zero)) (linear F.zero)
+  abbrev pub field_poly : ℕ → List K
+  field_poly m = add (frobenius m (linear F.zero)) (linear F.zero)
 
-  abbrev pub traceOf : ℕ → K → List K
-  traceOf m b = tracePoly m (F.zero ∷ b ∷ [])
+  abbrev pub trace_of : ℕ → K → List K
+  trace_of m b = trace_poly m (F.zero ∷ b ∷ [])
 
 pub record Divides {K : Type 0} (F : Ops K) (d : List K) (f : ℕ → K) : Type 0 where
   pub quotient : List K
@@ -77,8 +77,8 @@ IsGcd {K} F p t g = (d : List K) → Divides F d g ↔ (Divides F d p × Divides
 abbrev pub Below : ℕ → List ℕ → Type 0
 Below q p = All (λ c. c < q) p
 
-unfoldable pub rootsOf : Ops ℕ → ℕ → List ℕ → List ℕ
-rootsOf G q f = keep (isRoot G f) (up_from 0 q)
+unfoldable pub roots_of : Ops ℕ → ℕ → List ℕ → List ℕ
+roots_of G q f = keep (is_root G f) (up_from 0 q)
 
 pub record DividesBelow (G : Ops ℕ) (q : ℕ) (d f : List ℕ) : Type 0 where
   pub quotient : List ℕ

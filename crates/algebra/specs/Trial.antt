@@ -1,7 +1,7 @@
 -- Plain trial of numbers, one after the other.
 --   up_from     n numbers in a row, from k
 --   keep       what passes a test, in order
---   firstFrom  the first of n numbers from k on that passes a test; the number behind them where none does
+--   first_from  the first of n numbers from k on that passes a test; the number behind them where none does
 --   All        what holds of each element of a list
 --   Ascending  each number is below all behind it
 --   Distinct   no element stands twice
@@ -16,9 +16,9 @@ abbrev pub keep : {K : Type 0} → (K → Bool) → List K → List K
 keep t [] = []
 keep t (r ∷ s) = cond (t r) (r ∷ keep t s) (keep t s)
 
-unfoldable pub firstFrom : (ℕ → Bool) → ℕ → ℕ → ℕ
-firstFrom t k zero = k
-firstFrom t k (suc n) = cond (t k) k (firstFrom t (suc k) n)
+unfoldable pub first_from : (ℕ → Bool) → ℕ → ℕ → ℕ
+first_from t k zero = k
+first_from t k (suc n) = cond (t k) k (first_from t (suc k) n)
 
 abbrev pub All : {A : Type 0} → (A → Type 0) → List A → Type 0
 All P [] = Unit {0}

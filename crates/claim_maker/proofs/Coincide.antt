@@ -14,27 +14,27 @@ use Rattle.refusals.proofs.Told.{way_back}
 use Rattle.claim_rules.specs.Claims.{Claim}
 use Rattle.claim_rules.proofs.OneClaim.{one-claim}
 use Rattle.claims.proofs.Coincide.{exclusive}
-use Rattle.claim_maker.specs.Calls.{Makes, Proves, over, proveTests, toldProved}
+use Rattle.claim_maker.specs.Calls.{Makes, Proves, over, prove_tests, told_proved}
 use Rattle.claim_maker.specs.declared.Proved.{Proved}
 use Rattle.claim_maker.specs.declared.Proved.TheVariants.{Proven, NotProven}
 
 -- the answer that a number and its values stand for
-provedOf : ℕ × List ℕ → Proved
-provedOf (k, []) = by_number NotProven (Proven 0) k
-provedOf (k, n ∷ more) = Proven n
+proved_of : ℕ × List ℕ → Proved
+proved_of (k, []) = by_number NotProven (Proven 0) k
+proved_of (k, n ∷ more) = Proven n
 
 -- it takes number and value back
-proved-back : (r : Proved) → provedOf (toldProved r) ≡ r
-unfolding provedOf
+proved-back : (r : Proved) → proved_of (told_proved r) ≡ r
+unfolding proved_of
 proved-back (Proven n) = refl
 proved-back (NotProven k) = refused-back NotProven (Proven 0) k
 
-pub proved-told : (r s : Proved) → toldProved r ≡ toldProved s → r ≡ s
-proved-told = way_back toldProved provedOf proved-back
+pub proved-told : (r s : Proved) → told_proved r ≡ told_proved s → r ≡ s
+proved-told = way_back told_proved proved_of proved-back
 
 module _ (m : ℕ) (f : List ℕ) (b : Claim) where
   -- an answer tells the outcome that the tests decide, with its own value
-  pub prove-outcome : (r : Proved) (x : Claim) → Proves m f b r x → toldProved r ≡ outcome (proveTests m f b) (toldProved r).1
+  pub prove-outcome : (r : Proved) (x : Claim) → Proves m f b r x → told_proved r ≡ outcome (prove_tests m f b) (told_proved r).1
   prove-outcome (Proven n) x h = sym (accepted (n ∷ []) h.0)
   prove-outcome (NotProven k) x h = sym (refused [] h.0)
 

@@ -7,7 +7,7 @@ use mathlib.Core.Path.{◌≡◌, refl, sym, ap, ap₂, subst, ◌∙◌}
 use mathlib.Core.List.{List}
 use Prim.Native.Nat.{ℕ, suc}
 use lib.ListN.{length, take}
-use Rattle.field.specs.Field.{multiplicitiesAt, rootsAt}
+use Rattle.field.specs.Field.{multiplicities_at, roots_at}
 use Rattle.slices.specs.Lists.{copied}
 use Rattle.slices.proofs.Lists.{copied-front}
 use Rattle.input.specs.Limit.{limit}
@@ -18,34 +18,34 @@ use Rattle.claims.specs.declared.Checked.{Checked}
 use Rattle.claims.specs.declared.Checked.TheVariants.{Accepted}
 use Rattle.claims.proofs.Coincide.{check-coincide}
 use Rattle.claims.proofs.Contract.{claim-passes}
-use Rattle.claim_maker.specs.Calls.{Makes, Proves, sentClaim}
+use Rattle.claim_maker.specs.Calls.{Makes, Proves, sent_claim}
 use Rattle.claim_maker.specs.declared.Proved.TheVariants.{Proven}
 
 module _ {m : ℕ} {f : List ℕ} {n : ℕ} {b x : Claim} (k : Makes m f n b x) where
   -- what is sent is the claim that was made
-  sent_is : sentClaim n x ≡ k.claim
+  sent_is : sent_claim n x ≡ k.claim
   sent_is =
       let c : Claim = k.claim in
-      ap (sentClaim n) k.filled
+      ap (sent_claim n) k.filled
       ∙ ap₂ (λ i j. claim_of i j (take (suc limit) (copied c.cofactor b.cofactor)) (take (suc limit) (copied c.first b.first)) (take (suc limit) (copied c.second b.second)))
       (copied-front c.roots b.roots (sym k.count)) (copied-front c.times b.times (sym k.acceptable.paired ∙ sym k.count))
       ∙ ap₂ (λ i j. claim_of c.roots c.times i j (take (suc limit) (copied c.second b.second)))
       (copied-front c.cofactor b.cofactor k.full.cofactor) (copied-front c.first b.first k.full.first)
       ∙ ap (claim_of c.roots c.times c.cofactor c.first) (copied-front c.second b.second k.full.second)
 
-  accepted : Checks m f (sentClaim n x) Accepted
+  accepted : Checks m f (sent_claim n x) Accepted
   accepted = subst (λ c. Checks m f c Accepted) (sym sent_is) (claim-passes m f k.claim k.let-in, k.acceptable)
 
 -- PROVE-ACCEPTED: the check accepts what was made, and gives no other answer
 pub prove-accepted : (m : ℕ) (f : List ℕ) (n : ℕ) (b x : Claim) → Proves m f b (Proven n) x
-    → Checks m f (sentClaim n x) Accepted × ((r : Checked) → Checks m f (sentClaim n x) r → r ≡ Accepted)
+    → Checks m f (sent_claim n x) Accepted × ((r : Checked) → Checks m f (sent_claim n x) r → r ≡ Accepted)
 prove-accepted m f n b x h =
-    let a : Checks m f (sentClaim n x) Accepted = accepted h.1 in
-    (a, λ r k. check-coincide m f (sentClaim n x) r Accepted k a)
+    let a : Checks m f (sent_claim n x) Accepted = accepted h.1 in
+    (a, λ r k. check-coincide m f (sent_claim n x) r Accepted k a)
 
 -- PROVE-ROOTS: the roots and multiplicities of the polynomial
 pub prove-roots : (m : ℕ) (f : List ℕ) (n : ℕ) (b x : Claim) → Proves m f b (Proven n) x
-    → (n ≡ length (rootsAt m f)) × (x.roots ≡ copied (rootsAt m f) b.roots) × (x.times ≡ copied (multiplicitiesAt m f) b.times)
+    → (n ≡ length (roots_at m f)) × (x.roots ≡ copied (roots_at m f) b.roots) × (x.times ≡ copied (multiplicities_at m f) b.times)
 prove-roots m f n b x h =
     let k : Makes m f n b x = h.1 in
     let e = claim-complete k.let-in k.acceptable in

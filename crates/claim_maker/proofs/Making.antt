@@ -13,34 +13,34 @@ use lib.Dec.{ltb}
 use lib.ListN.{drop, length, length-append, length-map, length-replicate, replicate, take}
 use lib.Seq.{length-take-le, take_at}
 use Rattle.refusals.specs.Order.{Passed}
-use Rattle.refusals.specs.Admitting.{Admits, withTest}
+use Rattle.refusals.specs.Admitting.{Admits, with_test}
 use Rattle.refusals.specs.declared.Refusal.TheVariants.{Room}
 use Rattle.refusals.specs.declared.Admission.{Admission}
 use Rattle.refusals.proofs.Admitting.{admits-also}
 use Rattle.refusals.proofs.Order.{failed, others}
 use Rattle.algebra.specs.Multiplicity.{multiplicity}
-use Rattle.algebra.specs.Polynomial.{Below, fromRoots}
+use Rattle.algebra.specs.Polynomial.{Below, from_roots}
 use Rattle.algebra.proofs.NumberMonic.{norm-made}
-use Rattle.algebra.proofs.RootList.{rootsOf-ascending}
-use Rattle.algebra.proofs.StaysBelow.{rootsOf-below}
-use Rattle.field.specs.Field.{G, multiplicitiesAt, rootsAt}
+use Rattle.algebra.proofs.RootList.{roots_of-ascending}
+use Rattle.algebra.proofs.StaysBelow.{roots_of-below}
+use Rattle.field.specs.Field.{G, multiplicities_at, roots_at}
 use Rattle.slices.specs.Lists.{copied}
 use Rattle.slices.proofs.Lists.{copied-front, length-copied}
 use Rattle.poly.specs.Lent.{Lent}
 use Rattle.poly.proofs.Logs.{numbers_of}
 use Rattle.poly.proofs.RootProducts.{product-below}
-use Rattle.input.specs.Cutoff.{houseDefault}
+use Rattle.input.specs.Cutoff.{house_default}
 use Rattle.input.specs.Limit.{limit, widest}
-use Rattle.input.specs.Polynomials.{PolynomialIn, polynomialTests}
+use Rattle.input.specs.Polynomials.{PolynomialIn, polynomial_tests}
 use Rattle.input.proofs.Polynomials.{passed-rest, polynomial-told, roots_few}
 use Rattle.find_multiplicities.specs.Counting.{CountableLent}
 use Rattle.find_multiplicities.proofs.Asking.{countable}
 use Rattle.find_solve.specs.Solving.{Solvable}
-use Rattle.claim_rules.specs.Claims.{Claim, claim_of, spreadOut}
+use Rattle.claim_rules.specs.Claims.{Claim, claim_of, spread_out}
 use Rattle.claim_rules.specs.Admitting.{Sent}
 use Rattle.claim_rules.proofs.Claimable.{least-times}
 use Rattle.claim_rules.proofs.OneClaim.{spread-below}
-use Rattle.claim_maker.specs.Calls.{Makes, bufferSizes, proveTests}
+use Rattle.claim_maker.specs.Calls.{Makes, buffer_sizes, prove_tests}
 use Rattle.claim_maker.specs.Making.{AsField, IsPower, Makeable, MakeableLent, Pairable, Paired, Powerable, Rooted, SplitOff, Splittable}
 use Rattle.claim_maker.proofs.Powering.{reduced}
 
@@ -63,7 +63,7 @@ module _ {m : ℕ} {f ls ts hs roots mults h u v : List ℕ} (g : MakeableLent m
   make-second = length-take-le (suc limit) v g.makeable.second
 
   -- what finding the roots asks
-  pub make-solves : Solvable m houseDefault f ls ts hs roots × (widest * limit ≤ length (replicate {A = ℕ} (widest * limit) 0))
+  pub make-solves : Solvable m house_default f ls ts hs roots × (widest * limit ≤ length (replicate {A = ℕ} (widest * limit) 0))
   unfolding t
   make-solves = (
     record { polynomial = t; least = omega arith; most = omega arith; tables = lent; halves = g.halves; room = g.makeable.roots },
@@ -77,37 +77,37 @@ module _ {m : ℕ} {f ls ts hs roots mults h u v : List ℕ} (g : MakeableLent m
     make-within =
         let few = roots_few t in
         let room = g.makeable.roots in
-        omega (arith, o.count, ap length o.slots-are, length-copied (rootsAt m f) roots (omega arith))
+        omega (arith, o.count, ap length o.slots-are, length-copied (roots_at m f) roots (omega arith))
 
     -- which is as long as it was
     pub make-kept : length roots' ≡ length roots
     unfolding t
-    make-kept = let few = roots_few t in let room = g.makeable.roots in ap length o.slots-are ∙ length-copied (rootsAt m f) roots (omega arith)
+    make-kept = let few = roots_few t in let room = g.makeable.roots in ap length o.slots-are ∙ length-copied (roots_at m f) roots (omega arith)
 
     -- what z^(2^m) + z asks
     pub make-powers : Powerable m ls ts f rows (replicate (suc limit) 0)
     unfolding t
     make-powers = record { tables = lent; polynomial = t; degree = o.degree; powers = o.powers; room = o.room; zeros = refl }
 
-    front : take n roots' ≡ rootsAt m f
-    front = ap (take n) o.slots-are ∙ copied-front (rootsAt m f) roots (sym o.count)
+    front : take n roots' ≡ roots_at m f
+    front = ap (take n) o.slots-are ∙ copied-front (roots_at m f) roots (sym o.count)
 
     -- and can be counted
     pub make-counts : CountableLent m f (take n roots') ls ts mults
     unfolding t
     make-counts = record { countable = countable roots t o.count o.slots-are g.makeable.times; tables = lent }
 
-    module _ {mults' : List ℕ} (x : mults' ≡ copied (multiplicitiesAt m f) mults) where
+    module _ {mults' : List ℕ} (x : mults' ≡ copied (multiplicities_at m f) mults) where
       -- as many multiplicities
-      count : length (multiplicitiesAt m f) ≡ n
-      count = length-map (rootsAt m f) (multiplicity (G m) f) ∙ sym o.count
+      count : length (multiplicities_at m f) ≡ n
+      count = length-map (roots_at m f) (multiplicity (G m) f) ∙ sym o.count
 
       pub make-beside : n ≤ length mults'
       unfolding t
       make-beside =
           let few = roots_few t in
           let room = g.makeable.times in
-          omega (arith, count, o.count, ap length x, length-copied (multiplicitiesAt m f) mults (omega (arith, count, o.count)))
+          omega (arith, count, o.count, ap length x, length-copied (multiplicities_at m f) mults (omega (arith, count, o.count)))
 
       -- what the cofactor asks
       pub make-splits : Splittable m ls ts f (take n roots') (take n mults') (take (suc limit) h)
@@ -116,7 +116,7 @@ module _ {m : ℕ} {f ls ts hs roots mults h u v : List ℕ} (g : MakeableLent m
         tables = lent;
         polynomial = t;
         all = front;
-        beside = ap (take n) x ∙ copied-front (multiplicitiesAt m f) mults count;
+        beside = ap (take n) x ∙ copied-front (multiplicities_at m f) mults count;
         room = make-cofactor;
       }
 
@@ -140,9 +140,9 @@ module _ {m : ℕ} {f ls ts hs roots mults h u v : List ℕ} (g : MakeableLent m
             let numbers = numbers_of lent in
             let d = norm-made numbers y s.small e in
             let q = norm-made numbers f t.small p.made in
-            let roots-below : Below (2 ^ m) (spreadOut (rootsAt m f) (multiplicitiesAt m f)) = spread-below (2 ^ m) (rootsAt m f) (multiplicitiesAt m f) (rootsOf-below (G m) (2 ^ m) f) in
-            reduced numbers m x p.low y f (fromRoots (G m) (spreadOut (rootsAt m f) (multiplicitiesAt m f))) b d.lead q.lead d.small q.small s.small t.small
-            (product-below m lent.degree (spreadOut (rootsAt m f) (multiplicitiesAt m f)) roots-below) p.small d.lead-below q.lead-below q.nonzero
+            let roots-below : Below (2 ^ m) (spread_out (roots_at m f) (multiplicities_at m f)) = spread-below (2 ^ m) (roots_at m f) (multiplicities_at m f) (roots_of-below (G m) (2 ^ m) f) in
+            reduced numbers m x p.low y f (from_roots (G m) (spread_out (roots_at m f) (multiplicities_at m f))) b d.lead q.lead d.small q.small s.small t.small
+            (product-below m lent.degree (spread_out (roots_at m f) (multiplicities_at m f)) roots-below) p.small d.lead-below q.lead-below q.nonzero
             d.exact s.product q.exact p.power
 
         -- what u and v ask
@@ -175,19 +175,19 @@ module _ {m : ℕ} {f ls ts hs roots mults h u v : List ℕ} (g : MakeableLent m
             let la : length a ≡ suc limit = i ∙ make-first in
             let lb : length b ≡ suc limit = j ∙ make-second in
             record {
-              claim = claim_of (rootsAt m f) (multiplicitiesAt m f) y a b;
+              claim = claim_of (roots_at m f) (multiplicities_at m f) y a b;
               let-in = record {
                 field = t.field;
                 given = record { some = t.some; few = t.few; small = t.small };
                 cofactor = sent y s.small long-y;
                 first = sent a d.small-u la;
                 second = sent b d.small-v lb;
-                elements = rootsOf-below (G m) (2 ^ m) f;
+                elements = roots_of-below (G m) (2 ^ m) f;
                 nonzero = t.nonzero;
               };
               acceptable = record {
-                paired = sym (length-map (rootsAt m f) (multiplicity (G m) f));
-                ascending = rootsOf-ascending (G m) (2 ^ m) f;
+                paired = sym (length-map (roots_at m f) (multiplicity (G m) f));
+                ascending = roots_of-ascending (G m) (2 ^ m) f;
                 least = least-times m f t;
                 product = s.product;
                 coprime = d.coprime;
@@ -205,20 +205,20 @@ module _ {m : ℕ} {f ls ts hs roots mults h u v : List ℕ} (g : MakeableLent m
 
 -- of the five buffers, one behind the other
 pub admit-all : (m : ℕ) (f : List ℕ) (a b c d e : ℕ) (r₁ r₂ r₃ r₄ : Admission) {r₅ : Admission}
-    → Admits (polynomialTests m f ((7, ltb a limit) ∷ [])) r₁ → r₂ ≡ withTest r₁ (ltb b limit) Room → r₃ ≡ withTest r₂ (ltb c (suc limit)) Room
-    → r₄ ≡ withTest r₃ (ltb d (suc limit)) Room → r₅ ≡ withTest r₄ (ltb e (suc limit)) Room → Admits (polynomialTests m f (bufferSizes a b c d e)) r₅
+    → Admits (polynomial_tests m f ((7, ltb a limit) ∷ [])) r₁ → r₂ ≡ with_test r₁ (ltb b limit) Room → r₃ ≡ with_test r₂ (ltb c (suc limit)) Room
+    → r₄ ≡ with_test r₃ (ltb d (suc limit)) Room → r₅ ≡ with_test r₄ (ltb e (suc limit)) Room → Admits (polynomial_tests m f (buffer_sizes a b c d e)) r₅
 admit-all m f a b c d e r₁ r₂ r₃ r₄ h x y z w =
     let one : List (ℕ × Bool) = (7, ltb a limit) ∷ [] in
     let two : List (ℕ × Bool) = (7, ltb a limit) ∷ (7, ltb b limit) ∷ [] in
     let three : List (ℕ × Bool) = (7, ltb a limit) ∷ (7, ltb b limit) ∷ (7, ltb c (suc limit)) ∷ [] in
     let four : List (ℕ × Bool) = (7, ltb a limit) ∷ (7, ltb b limit) ∷ (7, ltb c (suc limit)) ∷ (7, ltb d (suc limit)) ∷ [] in
-    admits-also (polynomialTests m f four) r₄ (ltb e (suc limit)) Room w
-    (admits-also (polynomialTests m f three) r₃ (ltb d (suc limit)) Room z
-    (admits-also (polynomialTests m f two) r₂ (ltb c (suc limit)) Room y
-    (admits-also (polynomialTests m f one) r₁ (ltb b limit) Room x h)))
+    admits-also (polynomial_tests m f four) r₄ (ltb e (suc limit)) Room w
+    (admits-also (polynomial_tests m f three) r₃ (ltb d (suc limit)) Room z
+    (admits-also (polynomial_tests m f two) r₂ (ltb c (suc limit)) Room y
+    (admits-also (polynomial_tests m f one) r₁ (ltb b limit) Room x h)))
 
 -- what is known of what was let in
-pub prove-told : (m : ℕ) (f : List ℕ) (b : Claim) → Passed (proveTests m f b) → Makeable m f b
+pub prove-told : (m : ℕ) (f : List ℕ) (b : Claim) → Passed (prove_tests m f b) → Makeable m f b
 prove-told m f b p =
     let q = passed-rest m f p in
     let q₁ = others q in

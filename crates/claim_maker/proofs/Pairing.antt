@@ -9,7 +9,7 @@ use native.Mathlib.Omega.{arith}
 use lib.ListN.{get_or, length, length-replicate, replicate, take}
 use lib.Seq.{length-take-le}
 use Rattle.algebra.specs.Field.{OnNumbers}
-use Rattle.algebra.specs.Polynomial.{Below, add, coef, eval, fieldPoly, mul}
+use Rattle.algebra.specs.Polynomial.{Below, add, coef, eval, field_poly, mul}
 use Rattle.algebra.specs.Routines.{gcd, norm, rem}
 use Rattle.algebra.proofs.NumberEvaluation.{eval-same}
 use Rattle.algebra.proofs.NumberMonic.{Made, made-degree, norm-made, norm-none}
@@ -73,7 +73,7 @@ module _ {m : ℕ} {ls ts h b u v : List ℕ} (g : Pairable m ls ts h b u v) whe
     small-w : Below (2 ^ m) (take d w)
     small-w = subst (Below (2 ^ m)) (sym r.front) (remainder-below m g.tables.degree h g.small)
 
-    w-is : take d w ≡ rem (G m) (take d low) (fieldPoly (G m) m)
+    w-is : take d w ≡ rem (G m) (take d low) (field_poly (G m) m)
     w-is = r.front ∙ remainder_of m h r.made
 
     -- no common factor

@@ -17,35 +17,35 @@ use lib.Bits.{bit_xor, xor_zero_r}
 use lib.ListN.{drop, get_or, length, length-append, length-map, length-replicate, length-set, replicate, set, take}
 use lib.Seq.{drop-append-add, drop_at, length-take-le, take-add, take_at}
 use Rattle.algebra.specs.Field.{Laws, OnNumbers, Ops}
-use Rattle.algebra.specs.Polynomial.{Below, Divides, add, coef, fieldPoly, frobenius, linear, mul}
-use Rattle.algebra.specs.Routines.{frobeniusMod, monic, norm, rem, square}
+use Rattle.algebra.specs.Polynomial.{Below, Divides, add, coef, field_poly, frobenius, linear, mul}
+use Rattle.algebra.specs.Routines.{frobenius_mod, monic, norm, rem, square}
 use Rattle.algebra.proofs.Coefficients.{coef-mul, coef-scale}
 use Rattle.algebra.proofs.Congruence.{Cong, cong-add, cong-refl, cong-trans}
-use Rattle.algebra.proofs.Crossing.{Elem, coef-up, elems, laws, low, low-add, low-fieldPoly, low-frobeniusMod, low-monic, low-mul, low-rem, low-scale}
+use Rattle.algebra.proofs.Crossing.{Elem, coef-up, elems, laws, low, low-add, low-field_poly, low-frobenius_mod, low-monic, low-mul, low-rem, low-scale}
 use Rattle.algebra.proofs.Divisibility.{divides-multiple, divides-scale, divides-trans, quotient-exact}
 use Rattle.algebra.proofs.Division.{division-unique, rem-cong}
-use Rattle.algebra.proofs.Lengths.{length-add, length-frobeniusMod, length-rem}
+use Rattle.algebra.proofs.Lengths.{length-add, length-frobenius_mod, length-rem}
 use Rattle.algebra.proofs.Modular.{frobenius-mod}
 use Rattle.algebra.proofs.NumberEvaluation.{top-coef}
 use Rattle.algebra.proofs.Series.{Series, plus, plus-back, plus_comm, scale, scale_back, times, times-comm, times-scale}
 use Rattle.algebra.proofs.Signs.{signs}
-use Rattle.algebra.proofs.StaysBelow.{add-below, append-below, frobeniusMod-below, norm-below, rem_below, replicate-below}
+use Rattle.algebra.proofs.StaysBelow.{add-below, append-below, frobenius_mod-below, norm-below, rem_below, replicate-below}
 use Rattle.field.specs.Field.{G, field_at}
-use Rattle.field.specs.Tables.{logOf}
+use Rattle.field.specs.Tables.{log_of}
 use Rattle.slices.specs.Lists.{copied}
 use Rattle.slices.proofs.Lists.{drop-zeros, take-zeros}
 use Rattle.poly.specs.Division.{Reducible}
-use Rattle.poly.specs.Lent.{Addable, Lent, LogRow, Loggable, held, logRow}
+use Rattle.poly.specs.Lent.{Addable, Lent, LogRow, Loggable, held, log_row}
 use Rattle.poly.specs.Monic.{MadeMonic}
 use Rattle.poly.proofs.Logs.{held-row, numbers_of, row-is-row}
 use Rattle.poly.proofs.Sums.{add-nil}
-use Rattle.poly_powers.specs.Powers.{Squarable, powerRows}
-use Rattle.input.specs.Cutoff.{houseDefault}
+use Rattle.poly_powers.specs.Powers.{Squarable, power_rows}
+use Rattle.input.specs.Cutoff.{house_default}
 use Rattle.input.specs.Limit.{limit, widest}
 use Rattle.input.proofs.Polynomials.{nonzero-place}
-use Rattle.table_rules.specs.Layout.{byFactor}
+use Rattle.table_rules.specs.Layout.{by_factor}
 use Rattle.table_rules.specs.Sizes.{slots}
-use Rattle.table_rules.specs.Splitting.{slotsBegun, slotsRoots}
+use Rattle.table_rules.specs.Splitting.{slots_begun, slots_roots}
 use Rattle.table_begin.specs.SplitPart.{Powered}
 use Rattle.find_solve.specs.Solving.{RunOut, Running, Solvable}
 use Rattle.table_finish.specs.Finishing.{Listable}
@@ -67,20 +67,20 @@ suc-mul : (k n : ℕ) → suc k * n ≡ n + k * n
 suc-mul k n = suc-times k n ∙ add_comm (k * n) n
 
 -- of suc k rows
-last_row : (m : ℕ) (p : List ℕ) (k : ℕ) (w : List ℕ) → length w ≡ length p → drop (k * length p) (powerRows m p (suc k) w) ≡ logRow m (frobeniusMod (G m) p k w)
-unfolding powerRows frobeniusMod
-last_row m p zero w e = let z : 0 * length p ≡ 0 = omega arith in ap (λ i. drop i (logRow m w ++ [])) z ∙ append-nil (logRow m w)
+last_row : (m : ℕ) (p : List ℕ) (k : ℕ) (w : List ℕ) → length w ≡ length p → drop (k * length p) (power_rows m p (suc k) w) ≡ log_row m (frobenius_mod (G m) p k w)
+unfolding power_rows frobenius_mod
+last_row m p zero w e = let z : 0 * length p ≡ 0 = omega arith in ap (λ i. drop i (log_row m w ++ [])) z ∙ append-nil (log_row m w)
 last_row m p (suc k) w e =
     let n : ℕ = length p in
     let next : List ℕ = rem (G m) p (square (G m) w) in
-    let long : length (logRow m w) ≡ n = length-map w (logOf (field_at m)) ∙ e in
-    let split : suc k * n ≡ length (logRow m w) + k * n = suc-mul k n ∙ ap (λ i. i + k * n) (sym long) in
-    ap (λ i. drop i (logRow m w ++ powerRows m p (suc k) next)) split ∙ drop-append-add (logRow m w) (powerRows m p (suc k) next) (k * n)
+    let long : length (log_row m w) ≡ n = length-map w (log_of (field_at m)) ∙ e in
+    let split : suc k * n ≡ length (log_row m w) + k * n = suc-mul k n ∙ ap (λ i. i + k * n) (sym long) in
+    ap (λ i. drop i (log_row m w ++ power_rows m p (suc k) next)) split ∙ drop-append-add (log_row m w) (power_rows m p (suc k) next) (k * n)
     ∙ last_row m p k next (length-rem (G m) p (square (G m) w))
 
 -- its square is the next power
-last-square : (m : ℕ) (p : List ℕ) (k : ℕ) (w : List ℕ) → rem (G m) p (square (G m) (frobeniusMod (G m) p k w)) ≡ frobeniusMod (G m) p (suc k) w
-unfolding frobeniusMod
+last-square : (m : ℕ) (p : List ℕ) (k : ℕ) (w : List ℕ) → rem (G m) p (square (G m) (frobenius_mod (G m) p k w)) ≡ frobenius_mod (G m) p (suc k) w
+unfolding frobenius_mod
 last-square m p zero w = refl
 last-square m p (suc k) w = last-square m p k (rem (G m) p (square (G m) w))
 
@@ -107,15 +107,15 @@ module _ {K : Type 0} {F : Ops K} (L : Laws F) where
       (division-unique L x f c.quotient r n
       (sym (plus-back L R Q) ∙ plus_comm L R (plus F R Q) ∙ ap (λ w. plus F w R) (plus_comm L R Q ∙ sym (quotient-exact L c)))).1
 
-  reduced-up : (m : ℕ) (x p b : List K) → monic F x ∣ coef F (monic F p) → coef F b ≡ coef F (add F (frobeniusMod F p m (rem F p (linear F 0#))) (linear F 0#))
-      → rem F x b ≡ rem F x (fieldPoly F m)
+  reduced-up : (m : ℕ) (x p b : List K) → monic F x ∣ coef F (monic F p) → coef F b ≡ coef F (add F (frobenius_mod F p m (rem F p (linear F 0#))) (linear F 0#))
+      → rem F x b ≡ rem F x (field_poly F m)
   reduced-up m x p b d e =
       let z : List K = linear F 0# in
-      let a : List K = frobeniusMod F p m (rem F p z) in
-      let one : Cong F (monic F p) (fieldPoly F m) (add F a z) =
+      let a : List K = frobenius_mod F p m (rem F p z) in
+      let one : Cong F (monic F p) (field_poly F m) (add F a z) =
       cong-add L (frobenius F m z) a z z (frobenius-mod L p m z (rem F p z) (rem-cong L p z)) (cong-refl L (monic F p) z) in
-      let two : Cong F (monic F x) (fieldPoly F m) b = divides-trans L (monic F p) d (subst (λ w. Divides F (monic F p) (coef F (fieldPoly F m) ⊞ w)) (sym e) one) in
-      rem-only x (fieldPoly F m) (rem F x b) (length-rem F x b) (cong-trans L (fieldPoly F m) b (rem F x b) two (rem-cong L x b))
+      let two : Cong F (monic F x) (field_poly F m) b = divides-trans L (monic F p) d (subst (λ w. Divides F (monic F p) (coef F (field_poly F m) ⊞ w)) (sym e) one) in
+      rem-only x (field_poly F m) (rem F x b) (length-rem F x b) (cong-trans L (field_poly F m) b (rem F x b) two (rem-cong L x b))
 
 module _ {H : Ops ℕ} {q : ℕ} (N : OnNumbers H q) where
   abbrev K : Ops (Elem q)
@@ -127,10 +127,10 @@ module _ {H : Ops ℕ} {q : ℕ} (N : OnNumbers H q) where
   -- what is z^(2^m) + z modulo f is so modulo h
   pub reduced : (m : ℕ) (x p h f s b : List ℕ) (c d : ℕ) → Below q x → Below q p → Below q h → Below q f → Below q s → Below q b → c < q → d < q → d ≢ H.zero
       → coef H h ≡ coef H (map (H.mul c) (monic H x)) → coef H (mul H s h) ≡ coef H f → coef H f ≡ coef H (map (H.mul d) (monic H p))
-      → coef H b ≡ coef H (add H (frobeniusMod H p m (rem H p (linear H H.zero))) (linear H H.zero)) → rem H x b ≡ rem H x (fieldPoly H m)
+      → coef H b ≡ coef H (add H (frobenius_mod H p m (rem H p (linear H H.zero))) (linear H H.zero)) → rem H x b ≡ rem H x (field_poly H m)
   reduced m x p h f s b c d hx hp hh hf hs hb hc hd z =
       by-six N (λ x p h f s b. coef H h ≡ coef H (map (H.mul c) (monic H x)) → coef H (mul H s h) ≡ coef H f → coef H f ≡ coef H (map (H.mul d) (monic H p))
-      → coef H b ≡ coef H (add H (frobeniusMod H p m (rem H p (linear H H.zero))) (linear H H.zero)) → rem H x b ≡ rem H x (fieldPoly H m))
+      → coef H b ≡ coef H (add H (frobenius_mod H p m (rem H p (linear H H.zero))) (linear H H.zero)) → rem H x b ≡ rem H x (field_poly H m))
       (λ x p h f s b e g i j.
       let y : Elem q = (c, hc) in
       let t : Elem q = (d, hd) in
@@ -140,30 +140,30 @@ module _ {H : Ops ℕ} {q : ℕ} (N : OnNumbers H q) where
       let second : times K (coef K s) (coef K h) ≡ coef K f = sym (coef-mul L s h) ∙ coef-up N (mul K s h) f (ap (coef H) (low-mul N s h) ∙ g) in
       let third : coef K f ≡ scale K t (coef K (monic K p)) =
       coef-up N f (map (K.mul t) (monic K p)) (i ∙ ap (coef H) (sym (low-scale N t (monic K p) ∙ ap (map (H.mul d)) (low-monic N p)))) ∙ coef-scale L t (monic K p) in
-      let fourth : coef K b ≡ coef K (add K (frobeniusMod K p m (rem K p l)) l) =
-      coef-up N b (add K (frobeniusMod K p m (rem K p l)) l)
-      (j ∙ ap (coef H) (sym (low-add N (frobeniusMod K p m (rem K p l)) l ∙ ap (λ u. add H u (linear H H.zero)) (low-frobeniusMod N p m (rem K p l) ∙ ap (frobeniusMod H (low N p) m) (low-rem N p l))))) in
-      sym (low-rem N x b) ∙ ap (low N) (reduced-up L m x p b (divides-through L x p h f s y t (λ w. z (ap (λ w. w.0) w)) first second third) fourth) ∙ low-rem N x (fieldPoly K m)
-      ∙ ap (rem H (low N x)) (low-fieldPoly N m))
+      let fourth : coef K b ≡ coef K (add K (frobenius_mod K p m (rem K p l)) l) =
+      coef-up N b (add K (frobenius_mod K p m (rem K p l)) l)
+      (j ∙ ap (coef H) (sym (low-add N (frobenius_mod K p m (rem K p l)) l ∙ ap (λ u. add H u (linear H H.zero)) (low-frobenius_mod N p m (rem K p l) ∙ ap (frobenius_mod H (low N p) m) (low-rem N p l))))) in
+      sym (low-rem N x b) ∙ ap (low N) (reduced-up L m x p b (divides-through L x p h f s y t (λ w. z (ap (λ w. w.0) w)) first second third) fourth) ∙ low-rem N x (field_poly K m)
+      ∙ ap (rem H (low N x)) (low-field_poly N m))
       x p h f s b hx hp hh hf hs hb
 
 -- ---- finding the roots
 
-module _ {m : ℕ} {f ls ts hs roots : List ℕ} (g : Solvable m houseDefault f ls ts hs roots) {n : ℕ} {table rows : List ℕ}
-    (b : table ≡ slotsBegun byFactor slots m houseDefault f) (q : Powered m f n rows) where
+module _ {m : ℕ} {f ls ts hs roots : List ℕ} (g : Solvable m house_default f ls ts hs roots) {n : ℕ} {table rows : List ℕ}
+    (b : table ≡ slots_begun by_factor slots m house_default f) (q : Powered m f n rows) where
   -- the rows fit
   pub find-fits : m * n ≤ widest * limit
   find-fits = powered-fit g q
 
-  pub find_runs : {traces : List ℕ} → traces ≡ replicate (widest * limit) 0 → Running m houseDefault f ls ts n rows traces table
+  pub find_runs : {traces : List ℕ} → traces ≡ replicate (widest * limit) 0 → Running m house_default f ls ts n rows traces table
   find_runs e = record { tables = g.tables; polynomial = g.polynomial; powers = q; zeros = e; stepping = begun-stepping g b }
 
-  module _ {table' : List ℕ} (r : RunOut m houseDefault f table') where
+  module _ {table' : List ℕ} (r : RunOut m house_default f table') where
     pub find-lists : Listable ls ts hs table' roots
     find-lists = out-asks g (begun-stepping g b) r
 
-    pub find-is : (all : List ℕ) {k : ℕ} {roots' : List ℕ} → rows ≡ take (m * n) all → m * n ≤ length all → k ≡ length (slotsRoots byFactor table')
-        → roots' ≡ copied (slotsRoots byFactor table') roots → Rooted m f roots k all roots'
+    pub find-is : (all : List ℕ) {k : ℕ} {roots' : List ℕ} → rows ≡ take (m * n) all → m * n ≤ length all → k ≡ length (slots_roots by_factor table')
+        → roots' ≡ copied (slots_roots by_factor table') roots → Rooted m f roots k all roots'
     find-is all i l x y =
         let e = out-roots (begun-stepping g b) r in
         record { count = x ∙ ap length e; slots-are = y ∙ ap (λ u. copied u roots) e; degree = n; powers = subst (Powered m f n) i q; room = l }
@@ -268,7 +268,7 @@ module _ {m : ℕ} {ls ts f rows b : List ℕ} (g : Powerable m ls ts f rows b) 
       unfolding z numbers
       small-z = rem_below numbers x (0 ∷ 1 ∷ []) small-x (numbers.zero-below, (numbers.one_below, tt))
 
-      last : take (e - (m - 1) * (j - 1)) (drop ((m - 1) * (j - 1)) rows) ≡ logRow m (frobeniusMod (G m) x (m - 1) z)
+      last : take (e - (m - 1) * (j - 1)) (drop ((m - 1) * (j - 1)) rows) ≡ log_row m (frobenius_mod (G m) x (m - 1) z)
       unfolding z
       last =
           let n : ℕ = j - 1 in
@@ -276,21 +276,21 @@ module _ {m : ℕ} {ls ts f rows b : List ℕ} (g : Powerable m ls ts f rows b) 
           let p = power-degree in
           let one : suc (m - 1) ≡ m = omega arith in
           let k : e - at ≡ n = omega arith in
-          let whole : take (at + n) rows ≡ powerRows m x (suc (m - 1)) (rem (G m) x (0 ∷ 1 ∷ [])) =
-          ap (λ i. take i rows) at-is ∙ g.powers.rows_are ∙ ap (λ l. powerRows m l m (rem (G m) l (0 ∷ 1 ∷ []))) low-is
-          ∙ ap (λ i. powerRows m x i (rem (G m) x (0 ∷ 1 ∷ []))) (sym one) in
+          let whole : take (at + n) rows ≡ power_rows m x (suc (m - 1)) (rem (G m) x (0 ∷ 1 ∷ [])) =
+          ap (λ i. take i rows) at-is ∙ g.powers.rows_are ∙ ap (λ l. power_rows m l m (rem (G m) l (0 ∷ 1 ∷ []))) low-is
+          ∙ ap (λ i. power_rows m x i (rem (G m) x (0 ∷ 1 ∷ []))) (sym one) in
           ap (λ i. take i (drop at rows)) k
           ∙ sym (ap (drop at) (take-add at n rows) ∙ drop_at (take at rows) (take n (drop at rows)) at (length-take-le at rows (let w = power-within in omega arith)))
-          ∙ ap (drop at) whole ∙ ap (λ i. drop ((m - 1) * i) (powerRows m x (suc (m - 1)) (rem (G m) x (0 ∷ 1 ∷ [])))) (sym long-x)
+          ∙ ap (drop at) whole ∙ ap (λ i. drop ((m - 1) * i) (power_rows m x (suc (m - 1)) (rem (G m) x (0 ∷ 1 ∷ [])))) (sym long-x)
           ∙ last_row m x (m - 1) (rem (G m) x (0 ∷ 1 ∷ [])) (length-rem (G m) x (0 ∷ 1 ∷ []))
 
-      small-last : Below (2 ^ m) (frobeniusMod (G m) x (m - 1) z)
+      small-last : Below (2 ^ m) (frobenius_mod (G m) x (m - 1) z)
       unfolding numbers
-      small-last = frobeniusMod-below numbers x (m - 1) z small-x small-z
+      small-last = frobenius_mod-below numbers x (m - 1) z small-x small-z
 
-      long-last : length (frobeniusMod (G m) x (m - 1) z) ≡ j - 1
+      long-last : length (frobenius_mod (G m) x (m - 1) z) ≡ j - 1
       unfolding z
-      long-last = length-frobeniusMod (G m) x (m - 1) z (length-rem (G m) x (0 ∷ 1 ∷ [])) ∙ long-x
+      long-last = length-frobenius_mod (G m) x (m - 1) z (length-rem (G m) x (0 ∷ 1 ∷ [])) ∙ long-x
 
       -- what adding it asks
       pub power-adds : Addable m ls ts 1 (take (e - (m - 1) * (j - 1)) (drop ((m - 1) * (j - 1)) rows)) (take (j - 1) b)
@@ -298,18 +298,18 @@ module _ {m : ℕ} {ls ts f rows b : List ℕ} (g : Powerable m ls ts f rows b) 
       power-adds = record {
         tables = g.tables;
         element = numbers.one_below;
-        logs = subst (LogRow m) (sym last) (row-is-row g.tables (frobeniusMod (G m) x (m - 1) z) small-last);
-        room = omega (arith, ap length last, length-map (frobeniusMod (G m) x (m - 1) z) (logOf (field_at m)), long-last, front_long);
+        logs = subst (LogRow m) (sym last) (row-is-row g.tables (frobenius_mod (G m) x (m - 1) z) small-last);
+        room = omega (arith, ap length last, length-map (frobenius_mod (G m) x (m - 1) z) (log_of (field_at m)), long-last, front_long);
       }
         where
           front_long : length (take (j - 1) b) ≡ j - 1
           front_long = length-take-le (j - 1) b (omega (arith, ap length g.zeros, length-replicate {A = ℕ} (suc limit) 0, power-few))
 
       module _ {a : List ℕ} (h : a ≡ add (G m) (take (j - 1) b) (map ((G m).mul 1) (held m (take (e - (m - 1) * (j - 1)) (drop ((m - 1) * (j - 1)) rows))))) where
-        a-is : a ≡ frobeniusMod (G m) x (m - 1) z
+        a-is : a ≡ frobenius_mod (G m) x (m - 1) z
         unfolding numbers
         a-is =
-            let t : List ℕ = frobeniusMod (G m) x (m - 1) z in
+            let t : List ℕ = frobenius_mod (G m) x (m - 1) z in
             h ∙ ap₂ (λ u v. add (G m) u (map ((G m).mul 1) v)) (ap (take (j - 1)) g.zeros ∙ take-zeros (j - 1) (suc limit) (omega (arith, power-few)))
             (ap (held m) last ∙ held-row g.tables t small-last) ∙ ap (add (G m) (replicate (j - 1) 0)) (ones t small-last) ∙ add-comm-zeros t (j - 1) long-last
           where
@@ -330,15 +330,15 @@ module _ {m : ℕ} {ls ts f rows b : List ℕ} (g : Powerable m ls ts f rows b) 
         pub power-front : j - 1 ≤ length (a ++ drop (j - 1) b)
         power-front = omega (arith, length-append a (drop (j - 1) b), long-a)
 
-        module _ {r : List ℕ} (k : r ≡ logRow m (take (j - 1) (y ++ drop (length f) out))) (rest : List ℕ) where
+        module _ {r : List ℕ} (k : r ≡ log_row m (take (j - 1) (y ++ drop (length f) out))) (rest : List ℕ) where
           long-r : length r ≡ j - 1
           unfolding x
-          long-r = ap length k ∙ length-map x (logOf (field_at m)) ∙ long-x
+          long-r = ap length k ∙ length-map x (log_of (field_at m)) ∙ long-x
 
           pub power-row : j - 1 ≤ length (r ++ rest)
           power-row = omega (arith, length-append r rest, long-r)
 
-          row_is : take (j - 1) (r ++ rest) ≡ logRow m x
+          row_is : take (j - 1) (r ++ rest) ≡ log_row m x
           unfolding x
           row_is = take_at r rest (j - 1) long-r ∙ k
 
@@ -355,21 +355,21 @@ module _ {m : ℕ} {ls ts f rows b : List ℕ} (g : Powerable m ls ts f rows b) 
             long = length-take-le (j - 1) (a ++ drop (j - 1) b) power-front ∙ sym (length-take-le (j - 1) (r ++ rest) power-row);
           }
 
-          module _ {a₂ : List ℕ} (i : a₂ ≡ frobeniusMod (G m) (held m (take (j - 1) (r ++ rest))) 1 (take (j - 1) (a ++ drop (j - 1) b))) where
+          module _ {a₂ : List ℕ} (i : a₂ ≡ frobenius_mod (G m) (held m (take (j - 1) (r ++ rest))) 1 (take (j - 1) (a ++ drop (j - 1) b))) where
             -- the power, and zeros above it
             power : List ℕ
-            power = frobeniusMod (G m) x m z
+            power = frobenius_mod (G m) x m z
 
             a₂-is : a₂ ≡ power
-            unfolding power frobeniusMod
+            unfolding power frobenius_mod
             a₂-is =
                 let p = power-degree in
                 let one : suc (m - 1) ≡ m = omega arith in
-                i ∙ ap₂ (λ u v. rem (G m) u (square (G m) v)) held-is (front-a ∙ a-is) ∙ last-square m x (m - 1) z ∙ ap (λ n. frobeniusMod (G m) x n z) one
+                i ∙ ap₂ (λ u v. rem (G m) u (square (G m) v)) held-is (front-a ∙ a-is) ∙ last-square m x (m - 1) z ∙ ap (λ n. frobenius_mod (G m) x n z) one
 
             long-power : length power ≡ j - 1
             unfolding power z
-            long-power = length-frobeniusMod (G m) x m z (length-rem (G m) x (0 ∷ 1 ∷ [])) ∙ long-x
+            long-power = length-frobenius_mod (G m) x m z (length-rem (G m) x (0 ∷ 1 ∷ [])) ∙ long-x
 
             zeros-behind : drop (j - 1) (a ++ drop (j - 1) b) ≡ replicate (suc limit - (j - 1)) 0
             zeros-behind = drop_at a (drop (j - 1) b) (j - 1) long-a ∙ ap (drop (j - 1)) g.zeros ∙ drop-zeros (j - 1) (suc limit)
@@ -395,7 +395,7 @@ module _ {m : ℕ} {ls ts f rows b : List ℕ} (g : Powerable m ls ts f rows b) 
             power-is =
                 let whole : set all 1 (bit_xor (get_or all 1 0) 1) ≡ add (G m) all (0 ∷ 1 ∷ []) = set-one m all power-two in
                 let small_all : Below (2 ^ m) all =
-                subst (Below (2 ^ m)) (sym all-is) (append-below (2 ^ m) power (replicate (suc limit - (j - 1)) 0) (frobeniusMod-below numbers x m z small-x small-z)
+                subst (Below (2 ^ m)) (sym all-is) (append-below (2 ^ m) power (replicate (suc limit - (j - 1)) 0) (frobenius_mod-below numbers x m z small-x small-z)
                 (replicate-below (2 ^ m) (suc limit - (j - 1)) 0 numbers.zero-below)) in
                 record {
                   small = subst (Below (2 ^ m)) (sym whole) (add-below numbers all (0 ∷ 1 ∷ []) small_all (numbers.zero-below, (numbers.one_below, tt)));
@@ -450,15 +450,15 @@ module _ {m : ℕ} {ls ts h b low w : List ℕ} (g : Residable m ls ts h b low w
       unfolding p
       residue-logs e = record { tables = g.tables; small = small-p; room = long-p ∙ e }
 
-      module _ {r : List ℕ} (k : r ≡ logRow m (take (j - 1) (y ++ drop (length h) out))) (rest : List ℕ) where
+      module _ {r : List ℕ} (k : r ≡ log_row m (take (j - 1) (y ++ drop (length h) out))) (rest : List ℕ) where
         long-row : length r ≡ j - 1
         unfolding p
-        long-row = ap length k ∙ length-map p (logOf (field_at m)) ∙ long-p
+        long-row = ap length k ∙ length-map p (log_of (field_at m)) ∙ long-p
 
         pub residue-row : j - 1 ≤ length (r ++ rest)
         residue-row = omega (arith, length-append r rest, long-row)
 
-        row-front : take (j - 1) (r ++ rest) ≡ logRow m p
+        row-front : take (j - 1) (r ++ rest) ≡ log_row m p
         unfolding p
         row-front = take_at r rest (j - 1) long-row ∙ k
 
@@ -474,8 +474,8 @@ module _ {m : ℕ} {ls ts h b low w : List ℕ} (g : Residable m ls ts h b low w
         pub residue-is : {v : List ℕ} → v ≡ rem (G m) (held m (take (j - 1) (r ++ rest))) b → (more : List ℕ) → Residue m h (j - 1) (y ++ drop (length h) out) (v ++ more)
         unfolding p
         residue-is {v} e more =
-            let whole : v ≡ rem (G m) p (fieldPoly (G m) m) = e ∙ ap (λ u. rem (G m) u b) (ap (held m) row-front ∙ held-row g.tables p small-p) ∙ g.same p made-p in
-            let n : length v ≡ j - 1 = ap length whole ∙ length-rem (G m) p (fieldPoly (G m) m) ∙ long-p in
+            let whole : v ≡ rem (G m) p (field_poly (G m) m) = e ∙ ap (λ u. rem (G m) u b) (ap (held m) row-front ∙ held-row g.tables p small-p) ∙ g.same p made-p in
+            let n : length v ≡ j - 1 = ap length whole ∙ length-rem (G m) p (field_poly (G m) m) ∙ long-p in
             record {
               count = residue-few;
               inside = residue-room;

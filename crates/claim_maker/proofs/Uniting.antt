@@ -21,9 +21,9 @@ use Rattle.algebra.proofs.NumberElements.{add-zero, mul-zero}
 use Rattle.algebra.proofs.NumberEvaluation.{top-coef}
 use Rattle.algebra.proofs.StaysBelow.{add-below, append-below, below_at, drop-below, monic-below, mul-below, quo-below, rem_below, replicate-below, scale-below, take_below}
 use Rattle.field.specs.Field.{G, field_at, inverse}
-use Rattle.field.specs.Tables.{logOf}
+use Rattle.field.specs.Tables.{log_of}
 use Rattle.slices.proofs.Filling.{Filling, fill_end, fill-from, fill_on, map_at}
-use Rattle.poly.specs.Lent.{Lent, LogRow, held, logRow}
+use Rattle.poly.specs.Lent.{Lent, LogRow, held, log_row}
 use Rattle.poly.specs.Division.{Divisible, divided}
 use Rattle.poly.specs.Monic.{Scalable, TopIs}
 use Rattle.poly.proofs.Divisions.{divided-behind, divided-front, length-divided}
@@ -47,17 +47,17 @@ positive x z = elim (dec_lt 0 x) [ yes p ↦ p | no p ↦ absurd (z (omega arith
 pub record Multiplying (m : ℕ) (ls ts : List ℕ) (c : ℕ) (p r₀ r : List ℕ) (i : ℕ) : Type 0 where
   pub given : Scalable m ls ts c p
   pub room : length p ≡ length r₀
-  pub filling : Filling (logRow m (map ((G m).mul c) p)) r₀ r i
+  pub filling : Filling (log_row m (map ((G m).mul c) p)) r₀ r i
 
 pub multiply-from : {m : ℕ} {ls ts : List ℕ} {c : ℕ} {p r : List ℕ} → Scalable m ls ts c p → length p ≡ length r → Multiplying m ls ts c p r r 0
 multiply-from {m} {ls} {ts} {c} {p} {r} g e = record {
   given = g;
   room = e;
-  filling = fill-from (logRow m (map ((G m).mul c) p)) r (length-map (map ((G m).mul c) p) (logOf (field_at m)) ∙ length-map p ((G m).mul c) ∙ e);
+  filling = fill-from (log_row m (map ((G m).mul c) p)) r (length-map (map ((G m).mul c) p) (log_of (field_at m)) ∙ length-map p ((G m).mul c) ∙ e);
 }
 
 module _ {m : ℕ} {ls ts : List ℕ} {c : ℕ} {p r₀ r : List ℕ} {i : ℕ} (w : Multiplying m ls ts c p r₀ r i) where
-  pub multiply-end : length p ≤ i → r ≡ logRow m (map ((G m).mul c) p)
+  pub multiply-end : length p ≤ i → r ≡ log_row m (map ((G m).mul c) p)
   multiply-end h = fill_end w.filling (omega (arith, w.room))
 
   module _ (h : i < length p) where
@@ -86,8 +86,8 @@ module _ {m : ℕ} {ls ts : List ℕ} {c : ℕ} {p r₀ r : List ℕ} {i : ℕ} 
       given = w.given;
       room = w.room;
       filling = fill_on w.filling (omega (arith, w.room))
-          (log-at w.given.tables small_product ∙ ap (logOf (field_at m)) (product ∙ sym (map_at ((G m).mul c) p i h))
-          ∙ sym (map_at (logOf (field_at m)) (map ((G m).mul c) p) i (omega (arith, length-map p ((G m).mul c)))));
+          (log-at w.given.tables small_product ∙ ap (log_of (field_at m)) (product ∙ sym (map_at ((G m).mul c) p i h))
+          ∙ sym (map_at (log_of (field_at m)) (map ((G m).mul c) p) i (omega (arith, length-map p ((G m).mul c)))));
     }
 
 -- ---- a division
@@ -148,15 +148,15 @@ module _ {m : ℕ} {ls ts b a : List ℕ} (g : Reducible m ls ts b a) where
         ap (λ x. map ((G m).mul c) (take (length b - 1) b) ++ x ∷ []) (sym unit-of) ∙ sym (map-append ((G m).mul c) (take (length b - 1) b) (get_or b (length b - 1) 0 ∷ []))
         ∙ ap (map ((G m).mul c)) (sym (take-suc b (length b - 1) 0 reduce-inside) ∙ take_all (suc (length b - 1)) b (let i = reduce-inside in omega arith))
 
-    module _ {y : List ℕ} (r : y ≡ logRow m (map ((G m).mul c) (take (length b - 1) b))) (rest : List ℕ) where
+    module _ {y : List ℕ} (r : y ≡ log_row m (map ((G m).mul c) (take (length b - 1) b))) (rest : List ℕ) where
       long-y : length y ≡ length b - 1
       unfolding p
-      long-y = ap length r ∙ length-map (map ((G m).mul c) (take (length b - 1) b)) (logOf (field_at m)) ∙ long-p
+      long-y = ap length r ∙ length-map (map ((G m).mul c) (take (length b - 1) b)) (log_of (field_at m)) ∙ long-p
 
       pub reduce-row : length b - 1 ≤ length (y ++ rest)
       reduce-row = omega (arith, length-append y rest, long-y)
 
-      front : take (length b - 1) (y ++ rest) ≡ logRow m p
+      front : take (length b - 1) (y ++ rest) ≡ log_row m p
       unfolding p
       front = take_at y rest (length b - 1) long-y ∙ r
 

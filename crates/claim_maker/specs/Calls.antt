@@ -1,40 +1,40 @@
 -- What the making of a claim answers, for every input (docs/RULES.md section 14.4). The five lent buffers, of roots,
 -- multiplicities, h, u and v, are told as a claim: what they hold.
---   bufferSizes  the tests of the room in the buffers, in their order;  bufferTests  the same of the buffers
---   proveTests   all tests in their order, each behind its number
---   toldProved   the number and the value of each answer
+--   buffer_sizes  the tests of the room in the buffers, in their order;  buffer_tests  the same of the buffers
+--   prove_tests   all tests in their order, each behind its number
+--   told_proved   the number and the value of each answer
 --   over         a claim written over the fronts of five buffers
 --   Makes        n roots of f, and all that a claim has, stand in the buffers
 --   Proves       THE CONTRACT: the answers, and what the buffers hold afterwards
---   sentClaim    the claim that is sent of what they hold
+--   sent_claim    the claim that is sent of what they hold
 -- Assumes nothing.
 use Rattle.std.specs.Prelude.{◌≡◌, Bool, List, [], ◌∷◌, ℕ, suc, ltb, length, take}
 use Rattle.refusals.specs.Order.{Given, Passed}
 use Rattle.refusals.specs.Numbers.{number_of}
 use Rattle.slices.specs.Lists.{copied}
 use Rattle.input.specs.Limit.{limit}
-use Rattle.input.specs.Polynomials.{polynomialTests}
+use Rattle.input.specs.Polynomials.{polynomial_tests}
 use Rattle.claim_rules.specs.Claims.{Acceptable, Claim, claim_of}
 use Rattle.claim_rules.specs.Admitting.{ClaimIn, Full}
 use Rattle.claim_maker.specs.declared.Proved.{Proved}
 use Rattle.claim_maker.specs.declared.Proved.TheVariants.{Proven, NotProven}
 
 -- the limit of roots, and as many slots as a polynomial may have coefficients
-abbrev pub bufferSizes : ℕ → ℕ → ℕ → ℕ → ℕ → List (ℕ × Bool)
-bufferSizes roots mults h u v =
+abbrev pub buffer_sizes : ℕ → ℕ → ℕ → ℕ → ℕ → List (ℕ × Bool)
+buffer_sizes roots mults h u v =
     (7, ltb roots limit) ∷ (7, ltb mults limit) ∷ (7, ltb h (suc limit)) ∷ (7, ltb u (suc limit)) ∷ (7, ltb v (suc limit))
     ∷ []
 
-abbrev pub bufferTests : Claim → List (ℕ × Bool)
-bufferTests b =
-    bufferSizes (length b.roots) (length b.times) (length b.cofactor) (length b.first) (length b.second)
+abbrev pub buffer_tests : Claim → List (ℕ × Bool)
+buffer_tests b =
+    buffer_sizes (length b.roots) (length b.times) (length b.cofactor) (length b.first) (length b.second)
 
-abbrev pub proveTests : ℕ → List ℕ → Claim → List (ℕ × Bool)
-proveTests m f b = polynomialTests m f (bufferTests b)
+abbrev pub prove_tests : ℕ → List ℕ → Claim → List (ℕ × Bool)
+prove_tests m f b = polynomial_tests m f (buffer_tests b)
 
-abbrev pub toldProved : Proved → ℕ × List ℕ
-toldProved (Proven n) = (0, n ∷ [])
-toldProved (NotProven k) = (number_of k, [])
+abbrev pub told_proved : Proved → ℕ × List ℕ
+told_proved (Proven n) = (0, n ∷ [])
+told_proved (NotProven k) = (number_of k, [])
 
 -- what lies behind stays
 abbrev pub over : Claim → Claim → Claim
@@ -53,11 +53,11 @@ pub record Makes (m : ℕ) (f : List ℕ) (n : ℕ) (before after : Claim) : Typ
 
 -- a refusal writes nothing
 abbrev pub Proves : ℕ → List ℕ → Claim → Proved → Claim → Type 0
-Proves m f before (Proven n) after = Passed (proveTests m f before) × Makes m f n before after
-Proves m f before (NotProven k) after = Given (number_of k) (proveTests m f before) × (after ≡ before)
+Proves m f before (Proven n) after = Passed (prove_tests m f before) × Makes m f n before after
+Proves m f before (NotProven k) after = Given (number_of k) (prove_tests m f before) × (after ≡ before)
 
 -- what is sent of buffers with n roots: the two lists cut to n, and the polynomials
-abbrev pub sentClaim : ℕ → Claim → Claim
-sentClaim n b =
+abbrev pub sent_claim : ℕ → Claim → Claim
+sent_claim n b =
     claim_of (take n b.roots) (take n b.times) (take (suc limit) b.cofactor) (take (suc limit) b.first)
     (take (suc limit) b.second)

@@ -15,23 +15,23 @@
 use Rattle.std.specs.Prelude.{◌≡◌, ◌≢◌, List, [], ◌∷◌, ℕ, suc, ◌+◌, ◌-◌, ◌*◌, ◌^◌, ◌≤◌, ◌<◌, drop, get_or, length, replicate, take}
 use Rattle.std.proofs.Math.Option.{some}
 use Rattle.algebra.specs.Multiplicity.{total}
-use Rattle.algebra.specs.Polynomial.{Below, add, coef, eval, fieldPoly, fromRoots, mul}
-use Rattle.algebra.specs.Routines.{frobeniusMod, monicRoots, norm, rem}
-use Rattle.field.specs.Field.{G, field_at, multiplicitiesAt, rootsAt}
+use Rattle.algebra.specs.Polynomial.{Below, add, coef, eval, field_poly, from_roots, mul}
+use Rattle.algebra.specs.Routines.{frobenius_mod, monic_roots, norm, rem}
+use Rattle.field.specs.Field.{G, field_at, multiplicities_at, roots_at}
 use Rattle.field.specs.Tables.{Antilogs, Halves, Logs}
-use Rattle.poly.specs.Lent.{Lent, LogRow, logRow}
+use Rattle.poly.specs.Lent.{Lent, LogRow, log_row}
 use Rattle.slices.specs.Lists.{copied}
 use Rattle.table_begin.specs.SplitPart.{Powered}
 use Rattle.input.specs.Limit.{limit}
 use Rattle.input.specs.Polynomials.{PolynomialIn}
-use Rattle.claim_rules.specs.Claims.{Claim, Lower, claim_of, combined, spreadOut}
+use Rattle.claim_rules.specs.Claims.{Claim, Lower, claim_of, combined, spread_out}
 use Rattle.claim_rules.specs.Admitting.{Sent}
 
 -- ---- the roots, and the powers of z on the way
 
 pub record Rooted (m : ℕ) (f roots : List ℕ) (n : ℕ) (rows roots' : List ℕ) : Type 0 where
-  pub count : n ≡ length (rootsAt m f)
-  pub slots-are : roots' ≡ copied (rootsAt m f) roots
+  pub count : n ≡ length (roots_at m f)
+  pub slots-are : roots' ≡ copied (roots_at m f) roots
   pub degree : ℕ
   pub powers : Powered m f degree (take (m * degree) rows)
   pub room : m * degree ≤ length rows
@@ -52,11 +52,11 @@ pub record IsPower (m : ℕ) (f b : List ℕ) : Type 0 where
   pub low : List ℕ
   pub made : norm (G m) (length f) f ≡ some low
   pub power : coef (G m) b
-      ≡ coef (G m) (add (G m) (frobeniusMod (G m) low m (rem (G m) low (0 ∷ 1 ∷ []))) (0 ∷ 1 ∷ []))
+      ≡ coef (G m) (add (G m) (frobenius_mod (G m) low m (rem (G m) low (0 ∷ 1 ∷ []))) (0 ∷ 1 ∷ []))
 
 -- b has the same remainder
 abbrev pub AsField : ℕ → List ℕ → List ℕ → Type 0
-AsField m h b = (x : List ℕ) → norm (G m) (length h) h ≡ some x → rem (G m) x b ≡ rem (G m) x (fieldPoly (G m) m)
+AsField m h b = (x : List ℕ) → norm (G m) (length h) h ≡ some x → rem (G m) x b ≡ rem (G m) x (field_poly (G m) m)
 
 pub record Residable (m : ℕ) (ls ts h b low w : List ℕ) : Type 0 where
   pub tables : Lent m ls ts
@@ -80,7 +80,7 @@ pub record Rowable (m : ℕ) (ls ts roots es row : List ℕ) : Type 0 where
 pub record RootsRow (m : ℕ) (roots es : List ℕ) (n : ℕ) (row : List ℕ) : Type 0 where
   pub count : n ≡ total es
   pub within : n ≤ length row
-  pub front : take n row ≡ logRow m (monicRoots (G m) (spreadOut roots es))
+  pub front : take n row ≡ log_row m (monic_roots (G m) (spread_out roots es))
 
 -- the quotient's first coefficients, as many as q has
 pub record Quotable (m : ℕ) (ls ts row work q : List ℕ) : Type 0 where
@@ -92,13 +92,13 @@ pub record Quotable (m : ℕ) (ls ts row work q : List ℕ) : Type 0 where
 pub record Splittable (m : ℕ) (ls ts f roots es h : List ℕ) : Type 0 where
   pub tables : Lent m ls ts
   pub polynomial : PolynomialIn m f
-  pub all : roots ≡ rootsAt m f
-  pub beside : es ≡ multiplicitiesAt m f
+  pub all : roots ≡ roots_at m f
+  pub beside : es ≡ multiplicities_at m f
   pub room : length h ≡ suc limit
 
 pub record SplitOff (m : ℕ) (f h : List ℕ) : Type 0 where
   pub small : Below (2 ^ m) h
-  pub product : coef (G m) (mul (G m) (fromRoots (G m) (spreadOut (rootsAt m f) (multiplicitiesAt m f))) h)
+  pub product : coef (G m) (mul (G m) (from_roots (G m) (spread_out (roots_at m f) (multiplicities_at m f))) h)
       ≡ coef (G m) f
   pub bare : (x : ℕ) → x < 2 ^ m → eval (G m) h x ≢ 0
 

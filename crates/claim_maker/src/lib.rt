@@ -10,15 +10,15 @@ ghost use Rattle.algebra.specs.Multiplicity.{total};
 ghost use Rattle.algebra.specs.Routines.{quo};
 ghost use Rattle.refusals.specs.Admitting.{Admits};
 ghost use Rattle.field.specs.Field.{G};
-ghost use Rattle.poly.specs.Lent.{held, logRow};
+ghost use Rattle.poly.specs.Lent.{held, log_row};
 ghost use Rattle.poly.specs.Monic.{Scalable};
-ghost use Rattle.input.specs.Cutoff.{houseDefault};
+ghost use Rattle.input.specs.Cutoff.{house_default};
 ghost use Rattle.input.specs.Limit.{limit, widest};
-ghost use Rattle.input.specs.Polynomials.{polynomialTests};
+ghost use Rattle.input.specs.Polynomials.{polynomial_tests};
 ghost use Rattle.claim_rules.specs.Claims.{claim_of};
 ghost use Rattle.claims.specs.Checking.{Residue};
 ghost use Rattle.find_solve.specs.Solving.{Solvable};
-ghost use Rattle.claim_maker.specs.Calls.{Makes, Proves, bufferSizes};
+ghost use Rattle.claim_maker.specs.Calls.{Makes, Proves, buffer_sizes};
 ghost use Rattle.claim_maker.specs.Making.{Rowable, RootsRow, Quotable, Splittable, SplitOff};
 ghost use Rattle.claim_maker.specs.Making.{Reducible, Reduced, Unitable, United, Pairable, Paired};
 ghost use Rattle.claim_maker.specs.Making.{Rooted, Powerable, IsPower, Residable, Makeable, MakeableLent};
@@ -61,7 +61,7 @@ fn find_roots(
     rows: &mut [u16],
     roots: &mut [u16],
 ) -> u16
-    requires { Solvable m houseDefault f.now logs.now antilogs.now halves.now roots.old
+    requires { Solvable m house_default f.now logs.now antilogs.now halves.now roots.old
         × (widest * limit ≤ length rows.old) }
     ensures { Rooted m f.now roots.old result rows.new roots.new }
 {
@@ -203,7 +203,7 @@ fn split_off(
 // Writes the row of p times c.
 fn scaled_row(m: u16, logs: &[u16], antilogs: &[u16], c: u16, p: &[u16], row: &mut [u16])
     requires { Scalable m logs.now antilogs.now c p.now × (length p.now ≡ length row.old) }
-    ensures { row.new ≡ logRow m (map ((G m).mul c) p.now) }
+    ensures { row.new ≡ log_row m (map ((G m).mul c) p.now) }
 {
     let s = logs[c as usize] as usize;
     let mut i = 0;
@@ -380,7 +380,7 @@ fn make(
 
 // Refusals 1 to 5, and 7 of each of the five buffers.
 fn admit(m: u16, f: &[u16], roots: usize, mults: usize, h: usize, u: usize, v: usize) -> Admission
-    ensures { Admits (polynomialTests m f.now (bufferSizes roots mults h u v)) result }
+    ensures { Admits (polynomial_tests m f.now (buffer_sizes roots mults h u v)) result }
 {
     let first = also(
         admit_room(m, f, roots < LIMIT),

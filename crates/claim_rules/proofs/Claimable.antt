@@ -16,28 +16,28 @@ use native.Mathlib.Omega.{arith}
 use lib.ListN.{get_or-eq_default, get_or, length, length-map, replicate}
 use Rattle.algebra.specs.Field.{Laws, OnNumbers, Ops, squared}
 use Rattle.algebra.specs.Trial.{All}
-use Rattle.algebra.specs.Polynomial.{Below, DividesBelow, coef, eval, fieldPoly, fromRoots, mul}
-use Rattle.algebra.specs.Routines.{gcd, monicRoots, norm, rem}
-use Rattle.algebra.specs.Multiplicity.{multiplicitiesOf, multiplicity, spread, total}
+use Rattle.algebra.specs.Polynomial.{Below, DividesBelow, coef, eval, field_poly, from_roots, mul}
+use Rattle.algebra.specs.Routines.{gcd, monic_roots, norm, rem}
+use Rattle.algebra.specs.Multiplicity.{multiplicities_of, multiplicity, spread, total}
 use Rattle.algebra.proofs.Series.{nought, times}
 use Rattle.algebra.proofs.Coefficients.{coef-mul}
-use Rattle.algebra.proofs.Crossing.{Elem, below-low, coef-down, coef-up, elems, laws, lift, low, low-fromRoots, low-lift, low-mul}
+use Rattle.algebra.proofs.Crossing.{Elem, below-low, coef-down, coef-up, elems, laws, lift, low, low-from_roots, low-lift, low-mul}
 use Rattle.algebra.proofs.Degree.{Monic, Top, top-times, top?}
-use Rattle.algebra.proofs.Factors.{fromRoots-monic}
+use Rattle.algebra.proofs.Factors.{from_roots-monic}
 use Rattle.algebra.proofs.Lengths.{length-rem}
 use Rattle.algebra.proofs.NumberDivision.{gcd-rem}
 use Rattle.algebra.proofs.NumberEvaluation.{eval-same}
 use Rattle.algebra.proofs.NumberMonic.{Made, made-degree, norm-made, norm-none, norm-some}
 use Rattle.algebra.proofs.NumberMultiplicity.{factored, multiplicity-root, total_at_most}
 use Rattle.algebra.proofs.NumberSteps.{begin-gcd}
-use Rattle.algebra.proofs.RootList.{rootsOf-ascending, rootsOf-distinct, rootsOf-empty, rootsOf-exactly, rootsOf-norm}
-use Rattle.algebra.proofs.StaysBelow.{append-below, fieldPoly-below, rem_below, replicate-below, rootsOf-below}
-use Rattle.field.specs.Field.{G, multiplicitiesAt, rootsAt}
+use Rattle.algebra.proofs.RootList.{roots_of-ascending, roots_of-distinct, roots_of-empty, roots_of-exactly, roots_of-norm}
+use Rattle.algebra.proofs.StaysBelow.{append-below, field_poly-below, rem_below, replicate-below, roots_of-below}
+use Rattle.field.specs.Field.{G, multiplicities_at, roots_at}
 use Rattle.input.specs.Limit.{limit}
 use Rattle.input.specs.Polynomials.{PolynomialIn}
 use Rattle.input.proofs.Fields.{known-field}
 use Rattle.input.proofs.Polynomials.{nonzero-place}
-use Rattle.claim_rules.specs.Claims.{Acceptable, Claim, claim_of, fieldRemainder, spreadOut}
+use Rattle.claim_rules.specs.Claims.{Acceptable, Claim, claim_of, field_remainder, spread_out}
 use Rattle.claim_rules.specs.Admitting.{ClaimIn, Sent}
 use Rattle.claim_rules.proofs.ShortBezout.{Pair, fit, fit_length, fit_same, pair_of}
 use Rattle.claim_rules.proofs.Remainders.{remainder_of}
@@ -56,8 +56,8 @@ module _ {K : Type 0} {F : Ops K} (L : Laws F) where
       ]
 
 -- the roots spread by their multiplicities
-pub spread_same : (e : ℕ → ℕ) (s : List ℕ) → spreadOut s (map e s) ≡ spread e s
-unfolding spreadOut spread
+pub spread_same : (e : ℕ → ℕ) (s : List ℕ) → spread_out s (map e s) ≡ spread e s
+unfolding spread_out spread
 spread_same e [] = refl
 spread_same e (r ∷ s) = ap (λ (l : List ℕ). replicate (e r) r ++ l) (spread_same e s)
 
@@ -95,14 +95,14 @@ module _ {H : Ops ℕ} {q : ℕ} (N : OnNumbers H q) where
   L = laws N
 
   -- of elements
-  fitted-low : (a b c : List (Elem q)) (n : ℕ) → length b ≤ n → coef H (mul H (fromRoots H (low N a)) (low N c)) ≡ coef H (low N b)
-      → Fitted H q n (fromRoots H (low N a)) (low N b) (low N c)
+  fitted-low : (a b c : List (Elem q)) (n : ℕ) → length b ≤ n → coef H (mul H (from_roots H (low N a)) (low N c)) ≡ coef H (low N b)
+      → Fitted H q n (from_roots H (low N a)) (low N b) (low N c)
   fitted-low a b c n l e =
-      let p : List (Elem q) = fromRoots K a in
-      let lows : (g : List (Elem q)) → low N (mul K p g) ≡ mul H (fromRoots H (low N a)) (low N g) = λ g. low-mul N p g ∙ ap (λ u. mul H u (low N g)) (low-fromRoots N a) in
+      let p : List (Elem q) = from_roots K a in
+      let lows : (g : List (Elem q)) → low N (mul K p g) ≡ mul H (from_roots H (low N a)) (low N g) = λ g. low-mul N p g ∙ ap (λ u. mul H u (low N g)) (low-from_roots N a) in
       let whole : times K (coef K p) (coef K c) ≡ coef K b = sym (coef-mul L p c) ∙ coef-up N (mul K p c) b (ap (coef H) (lows c) ∙ e) in
       let g : List (Elem q) = fit K n c in
-      let same : coef K g ≡ coef K c = fit_same L n c (λ k i. quotient-ends L p c b (fromRoots-monic L a) whole k (omega arith)) in
+      let same : coef K g ≡ coef K c = fit_same L n c (λ k i. quotient-ends L p c b (from_roots-monic L a) whole k (omega arith)) in
       record {
         list = low N g;
         small = below-low N g;
@@ -112,24 +112,24 @@ module _ {H : Ops ℕ} {q : ℕ} (N : OnNumbers H q) where
       }
 
   -- of numbers below q
-  fitted : (s f : List ℕ) (n : ℕ) → Below q s → Below q f → length f ≤ n → (d : DividesBelow H q (fromRoots H s) f) → Fitted H q n (fromRoots H s) f d.quotient
+  fitted : (s f : List ℕ) (n : ℕ) → Below q s → Below q f → length f ≤ n → (d : DividesBelow H q (from_roots H s) f) → Fitted H q n (from_roots H s) f d.quotient
   fitted s f n hs hf l d = go (lift N s hs) (lift N f hf) (lift N d.quotient d.small) s f d.quotient (low-lift N s hs) (low-lift N f hf) (low-lift N d.quotient d.small) l d.exact
     where
-      go : (a b c : List (Elem q)) (s f h : List ℕ) → low N a ≡ s → low N b ≡ f → low N c ≡ h → length f ≤ n → coef H (mul H (fromRoots H s) h) ≡ coef H f
-          → Fitted H q n (fromRoots H s) f h
+      go : (a b c : List (Elem q)) (s f h : List ℕ) → low N a ≡ s → low N b ≡ f → low N c ≡ h → length f ≤ n → coef H (mul H (from_roots H s) h) ≡ coef H f
+          → Fitted H q n (from_roots H s) f h
       go a b c s f h x y z l e =
-          subst (λ s. Fitted H q n (fromRoots H s) f h) x (subst (λ f. Fitted H q n (fromRoots H (low N a)) f h) y (subst (λ h. Fitted H q n (fromRoots H (low N a)) (low N b) h) z
+          subst (λ s. Fitted H q n (from_roots H s) f h) x (subst (λ f. Fitted H q n (from_roots H (low N a)) f h) y (subst (λ h. Fitted H q n (from_roots H (low N a)) (low N b) h) z
           (fitted-low a b c n (omega (arith, length-map b (λ x. x.0), ap length y))
-          (ap₂ (λ s h. coef H (mul H (fromRoots H s) h)) x z ∙ e ∙ ap (coef H) (sym y)))))
+          (ap₂ (λ s h. coef H (mul H (from_roots H s) h)) x z ∙ e ∙ ap (coef H) (sym y)))))
 
   -- a polynomial without roots and z^(2^m) + z have no common factor
   pub rootless-coprime : (m : ℕ) → q ≡ 2 ^ m → 1 < q → ((x : ℕ) → x < q → squared H m x ≡ x) → (g p : List ℕ) → Below q g → norm H (length g) g ≡ some p
-      → ((x : ℕ) → x < q → eval H g x ≢ H.zero) → gcd H p (rem H p (fieldPoly H m)) ≡ []
-  unfolding monicRoots
+      → ((x : ℕ) → x < q → eval H g x ≢ H.zero) → gcd H p (rem H p (field_poly H m)) ≡ []
+  unfolding monic_roots
   rootless-coprime m size wide fermat g p hg e bare =
       let d : Made H q g p = norm-made N g hg e in
-      sym (gcd-rem N p (fieldPoly H m) d.small (fieldPoly-below N m)) ∙ begin-gcd N m size wide fermat p d.small
-      ∙ ap (monicRoots H) (rootsOf-norm N g hg e ∙ rootsOf-empty N g hg bare)
+      sym (gcd-rem N p (field_poly H m) d.small (field_poly-below N m)) ∙ begin-gcd N m size wide fermat p d.small
+      ∙ ap (monic_roots H) (roots_of-norm N g hg e ∙ roots_of-empty N g hg bare)
 
 -- ---- of a polynomial within the limit
 
@@ -149,28 +149,28 @@ module _ (m : ℕ) (f : List ℕ) (t : PolynomialIn m f) where
   place = nonzero-place t
 
   -- each multiplicity of a root is at least 1
-  pub least-times : All (λ e. 1 ≤ e) (multiplicitiesAt m f)
-  least-times = go (rootsAt m f) (λ x i. (rootsOf-exactly N f t.small x).0 i)
+  pub least-times : All (λ e. 1 ≤ e) (multiplicities_at m f)
+  least-times = go (roots_at m f) (λ x i. (roots_of-exactly N f t.small x).0 i)
     where
-      go : (s : List ℕ) → ((x : ℕ) → Memᴰ x s → (x < 2 ^ m) × (eval (G m) f x ≡ 0)) → All (λ e. 1 ≤ e) (multiplicitiesOf (G m) f s)
+      go : (s : List ℕ) → ((x : ℕ) → Memᴰ x s → (x < 2 ^ m) × (eval (G m) f x ≡ 0)) → All (λ e. 1 ≤ e) (multiplicities_of (G m) f s)
       go [] h = tt
       go (r ∷ s) h =
           let a = h r (Memᴰ.head refl) in
           ((multiplicity-root N f t.small place.0 place.1 r a.0).1 a.1, go s (λ x i. h x (Memᴰ.tail i)))
 
   -- they add up to at most the limit
-  pub total-within : total (multiplicitiesAt m f) ≤ limit
+  pub total-within : total (multiplicities_at m f) ≤ limit
   total-within =
       let s = norm-some N f t.small place.0 place.1 in
       let d : Made (G m) (2 ^ m) f s.0 = norm-made N f t.small s.1 in
       let k = made-degree N d in
-      let b : total (multiplicitiesAt m f) ≤ length s.0 =
-      total_at_most N (rootsAt m f) f (rootsOf-below (G m) (2 ^ m) f) t.small (length s.0) (λ z. d.nonzero (sym k.0 ∙ z)) k.1 (rootsOf-distinct (G m) (2 ^ m) f) in
+      let b : total (multiplicities_at m f) ≤ length s.0 =
+      total_at_most N (roots_at m f) f (roots_of-below (G m) (2 ^ m) f) t.small (length s.0) (λ z. d.nonzero (sym k.0 ∙ z)) k.1 (roots_of-distinct (G m) (2 ^ m) f) in
       omega (arith, d.shorter, t.few)
 
   -- and so each is
-  most-times : All (λ e. e ≤ limit) (multiplicitiesAt m f)
-  most-times = each-total (multiplicitiesAt m f) total-within
+  most-times : All (λ e. e ≤ limit) (multiplicities_at m f)
+  most-times = each-total (multiplicities_at m f) total-within
 
   -- a list of limit + 1 elements
   sent : (p : List ℕ) → Below (2 ^ m) p → length p ≡ suc limit → Sent m p
@@ -178,7 +178,7 @@ module _ (m : ℕ) (f : List ℕ) (t : PolynomialIn m f) where
 
   -- the claim with a given cofactor
   module _ (g : List ℕ) (hg : Below (2 ^ m) g) (long : length g ≡ suc limit)
-      (product : coef (G m) (mul (G m) (fromRoots (G m) (spreadOut (rootsAt m f) (multiplicitiesAt m f))) g) ≡ coef (G m) f)
+      (product : coef (G m) (mul (G m) (from_roots (G m) (spread_out (roots_at m f) (multiplicities_at m f))) g) ≡ coef (G m) f)
       (bare : (x : ℕ) → x < 2 ^ m → eval (G m) g x ≢ 0) where
     -- it is not 0
     made_of : (p : List ℕ) × (norm (G m) (length g) g ≡ some p)
@@ -191,20 +191,20 @@ module _ (m : ℕ) (f : List ℕ) (t : PolynomialIn m f) where
         go (some p) e = (p, e)
 
     -- Bezout's factors
-    pair : Pair (G m) (2 ^ m) (suc limit) g (fieldRemainder m g)
+    pair : Pair (G m) (2 ^ m) (suc limit) g (field_remainder m g)
     pair =
         let p : List ℕ = made_of.0 in
         let d : Made (G m) (2 ^ m) g p = norm-made N g hg made_of.1 in
-        let w : List ℕ = rem (G m) p (fieldPoly (G m) m) in
+        let w : List ℕ = rem (G m) p (field_poly (G m) m) in
         subst (Pair (G m) (2 ^ m) (suc limit) g) (sym (remainder_of m g made_of.1))
-        (pair_of N g p w d.lead (suc limit) hg d.small (rem_below N p (fieldPoly (G m) m) d.small (fieldPoly-below N m)) d.lead-below d.nonzero d.exact
-        (omega (arith, length-rem (G m) p (fieldPoly (G m) m))) (rootless-coprime N m refl N.one_below (known-field m t.field).fermat g p hg made_of.1 bare)
+        (pair_of N g p w d.lead (suc limit) hg d.small (rem_below N p (field_poly (G m) m) d.small (field_poly-below N m)) d.lead-below d.nonzero d.exact
+        (omega (arith, length-rem (G m) p (field_poly (G m) m))) (rootless-coprime N m refl N.one_below (known-field m t.field).fermat g p hg made_of.1 bare)
         (omega (arith, d.shorter, long)))
 
     claim-with : (c : Claim) × Claimable m f c
     claim-with =
-        let b : Pair (G m) (2 ^ m) (suc limit) g (fieldRemainder m g) = pair in (
-          claim_of (rootsAt m f) (multiplicitiesAt m f) g b.first b.second,
+        let b : Pair (G m) (2 ^ m) (suc limit) g (field_remainder m g) = pair in (
+          claim_of (roots_at m f) (multiplicities_at m f) g b.first b.second,
           record {
             let-in = record {
               field = t.field;
@@ -212,12 +212,12 @@ module _ (m : ℕ) (f : List ℕ) (t : PolynomialIn m f) where
               cofactor = sent g hg long;
               first = sent b.first b.first_small b.first-long;
               second = sent b.second b.second-small b.second-long;
-              elements = rootsOf-below (G m) (2 ^ m) f;
+              elements = roots_of-below (G m) (2 ^ m) f;
               nonzero = t.nonzero;
             };
             acceptable = record {
-              paired = sym (length-map (rootsAt m f) (multiplicity (G m) f));
-              ascending = rootsOf-ascending (G m) (2 ^ m) f;
+              paired = sym (length-map (roots_at m f) (multiplicity (G m) f));
+              ascending = roots_of-ascending (G m) (2 ^ m) f;
               least = least-times;
               product = product;
               coprime = b.one;
@@ -229,10 +229,10 @@ module _ (m : ℕ) (f : List ℕ) (t : PolynomialIn m f) where
   -- CLAIM-EXISTS: the roots, their multiplicities, what is left of f, and Bezout's factors
   pub claim-exists : (c : Claim) × Claimable m f c
   claim-exists =
-      let s : List ℕ = rootsAt m f in
+      let s : List ℕ = roots_at m f in
       let e : ℕ → ℕ = multiplicity (G m) f in
       let k = factored N f t.small place.0 place.1 in
-      let hs : Below (2 ^ m) (spread e s) = spread-below (2 ^ m) e s (rootsOf-below (G m) (2 ^ m) f) in
+      let hs : Below (2 ^ m) (spread e s) = spread-below (2 ^ m) e s (roots_of-below (G m) (2 ^ m) f) in
       let g = fitted N (spread e s) f (suc limit) hs t.small t.few k.0 in
-      claim-with g.list g.small g.long (ap (λ l. coef (G m) (mul (G m) (fromRoots (G m) l) g.list)) (spread_same e s) ∙ g.product)
+      claim-with g.list g.small g.long (ap (λ l. coef (G m) (mul (G m) (from_roots (G m) l) g.list)) (spread_same e s) ∙ g.product)
       (λ x l z. k.1 x l (sym (eval-same N g.list k.0.quotient g.small k.0.small g.same x l) ∙ z))

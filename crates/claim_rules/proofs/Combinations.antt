@@ -25,7 +25,7 @@ use Rattle.algebra.proofs.Degree.{Top, monic-list, top-times, top?}
 use Rattle.algebra.proofs.Divisibility.{divides-multiple}
 use Rattle.algebra.proofs.Division.{division}
 use Rattle.algebra.proofs.Lengths.{length-rem}
-use Rattle.algebra.proofs.Series.{Series, nought, nought-plus, plus, plus_assoc, plus-back, plus_comm, plus-self, plus_times, scale, times, times-assoc, times-comm, times-left-comm, times-plus, times-scale}
+use Rattle.algebra.proofs.Series.{Series, nought, nought-plus, plus, plus_assoc, plus-back, plus_comm, plus-self, plus-times, scale, times, times-assoc, times-comm, times-left-comm, times-plus, times-scale}
 use Rattle.algebra.proofs.Signs.{signs}
 use Rattle.algebra.proofs.StaysBelow.{add-below, mul-below}
 use Rattle.claim_rules.proofs.TheRemainder.{add_same, mul-same, small-multiple}
@@ -64,7 +64,7 @@ module _ {K : Type 0} {F : Ops K} (L : Laws F) where
   exchange X Y A B D R e =
       ap (λ g. X ⊠ g ⊞ Y ⊠ B) e ∙ ap (λ g. g ⊞ Y ⊠ B) (times-plus L X (D ⊠ B) R) ∙ plus_comm L (X ⊠ (D ⊠ B) ⊞ X ⊠ R) (Y ⊠ B)
       ∙ sym (plus_assoc L (Y ⊠ B) (X ⊠ (D ⊠ B)) (X ⊠ R))
-      ∙ ap (λ g. g ⊞ X ⊠ R) (ap (λ g. Y ⊠ B ⊞ g) (times-left-comm L X D B ∙ sym (times-assoc L D X B)) ∙ sym (plus_times L Y (D ⊠ X) B))
+      ∙ ap (λ g. g ⊞ X ⊠ R) (ap (λ g. Y ⊠ B ⊞ g) (times-left-comm L X D B ∙ sym (times-assoc L D X B)) ∙ sym (plus-times L Y (D ⊠ X) B))
 
   -- a series added twice
   twice : (f g : Series K) → (f ⊞ g) ⊞ g ≡ f

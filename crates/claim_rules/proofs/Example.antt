@@ -8,29 +8,29 @@ use mathlib.Core.Path.{◌∙◌, ◌≡◌, ap, refl}
 use mathlib.Core.Option.{Option-elim}
 use mathlib.Core.List.{[], ◌∷◌}
 use native.Mathlib.Omega.{arith}
-use Rattle.algebra.specs.Trial.{firstFrom}
-use Rattle.algebra.specs.Polynomial.{add, coef, frobenius, fromRoots, mul}
-use Rattle.algebra.specs.Routines.{norm, quotientDigit, rem, shiftIn}
+use Rattle.algebra.specs.Trial.{first_from}
+use Rattle.algebra.specs.Polynomial.{add, coef, frobenius, from_roots, mul}
+use Rattle.algebra.specs.Routines.{norm, quotient_digit, rem, shift_in}
 use Rattle.algebra.proofs.NumberEvaluation.{top-coef}
-use Rattle.field.specs.Rows.{known_in, polyIn}
-use Rattle.field.specs.Field.{G, carryFree, cut, horner, hornerIn, inverse, mul as product, reduce}
+use Rattle.field.specs.Rows.{known_in, poly_in}
+use Rattle.field.specs.Field.{G, carry_free, cut, horner, horner_in, inverse, mul as product, reduce}
 use Rattle.input.proofs.Fields.{known-field}
-use Rattle.claim_rules.specs.Claims.{Acceptable, Claim, claim_of, claimed, combined, fieldRemainder, spreadOut}
+use Rattle.claim_rules.specs.Claims.{Acceptable, Claim, claim_of, claimed, combined, field_remainder, spread_out}
 
 -- the root 0 once, and the cofactor z^2 + z + 8
 abbrev example : Claim
 example = claim_of (0 ∷ []) (1 ∷ []) (8 ∷ 1 ∷ 1 ∷ []) (0 ∷ []) (1 ∷ [])
 
 product_is : claimed 4 example ≡ 0 ∷ 8 ∷ 1 ∷ 1 ∷ []
-unfolding spreadOut fromRoots mul add product reduce cut carryFree horner hornerIn polyIn
+unfolding spread_out from_roots mul add product reduce cut carry_free horner horner_in poly_in
 product_is = refl
 
-residue-is : fieldRemainder 4 (8 ∷ 1 ∷ 1 ∷ []) ≡ 1 ∷ 0 ∷ []
-unfolding fieldRemainder Option-elim norm rem shiftIn quotientDigit frobenius mul add inverse firstFrom product reduce cut carryFree horner hornerIn polyIn
+residue-is : field_remainder 4 (8 ∷ 1 ∷ 1 ∷ []) ≡ 1 ∷ 0 ∷ []
+unfolding field_remainder Option-elim norm rem shift_in quotient_digit frobenius mul add inverse first_from product reduce cut carry_free horner horner_in poly_in
 residue-is = refl
 
 combined-is : combined 4 example ≡ 1 ∷ 0 ∷ 0 ∷ []
-unfolding mul add product reduce cut carryFree horner hornerIn polyIn
+unfolding mul add product reduce cut carry_free horner horner_in poly_in
 combined-is = ap (λ w. add (G 4) (mul (G 4) (0 ∷ []) (8 ∷ 1 ∷ 1 ∷ [])) (mul (G 4) (1 ∷ []) w)) residue-is
 
 acceptable : Acceptable 4 (0 ∷ 8 ∷ 1 ∷ 1 ∷ []) example

@@ -16,19 +16,19 @@ use native.Mathlib.Omega.{arith}
 use lib.ListN.{length, replicate}
 use lib.Seq.{ext_get_or}
 use Rattle.algebra.specs.Field.{Laws, OnNumbers, Ops}
-use Rattle.algebra.specs.Polynomial.{Below, add, coef, fromRoots, mul}
+use Rattle.algebra.specs.Polynomial.{Below, add, coef, from_roots, mul}
 use Rattle.algebra.proofs.Coefficients.{coef-add, coef-mul, coef-one}
-use Rattle.algebra.proofs.Crossing.{Elem, by-elements, by_two, coef-down, coef-up, elem-equal, elems, laws, low, low-add, low-coef, low-fromRoots, low-mul}
+use Rattle.algebra.proofs.Crossing.{Elem, by-elements, by_two, coef-down, coef-up, elem-equal, elems, laws, low, low-add, low-coef, low-from_roots, low-mul}
 use Rattle.algebra.proofs.Degree.{Top, monic-cancel, top-times, top?}
 use Rattle.algebra.proofs.Elements.{zero-of-product}
-use Rattle.algebra.proofs.Factors.{fromRoots-monic}
-use Rattle.algebra.proofs.Series.{Series, equal-of-plus, nought, plus, plus_assoc, plus-back, plus_comm, plus-self, plus_times, times, times-comm, times-left-comm, times-plus, times-unit, unit}
+use Rattle.algebra.proofs.Factors.{from_roots-monic}
+use Rattle.algebra.proofs.Series.{Series, equal-of-plus, nought, plus, plus_assoc, plus-back, plus_comm, plus-self, plus-times, times, times-comm, times-left-comm, times-plus, times-unit, unit}
 use Rattle.algebra.proofs.Signs.{signs}
 use Rattle.algebra.proofs.StaysBelow.{append-below, replicate-below}
 use Rattle.field.specs.Rows.{known}
 use Rattle.field.specs.Field.{G}
 use Rattle.input.proofs.Fields.{known-field}
-use Rattle.claim_rules.specs.Claims.{Acceptable, Claim, claim_of, fieldRemainder, spreadOut}
+use Rattle.claim_rules.specs.Claims.{Acceptable, Claim, claim_of, field_remainder, spread_out}
 use Rattle.claim_rules.specs.Admitting.{ClaimIn, Full}
 use Rattle.claim_rules.proofs.Complete.{claim-complete}
 use Rattle.claim_rules.proofs.Combinations.{by-six}
@@ -65,8 +65,8 @@ module _ {K : Type 0} {F : Ops K} (L : Laws F) where
       let D : Series K = coef F (add F v y) in
       let E : Series K = coef F (add F u x) in
       let both : D ⊠ W ≡ H ⊠ E =
-      ap (λ g. g ⊠ W) (coef-add L v y) ∙ plus_times L B (coef F y) W ∙ across (U ⊠ H) (B ⊠ W) (coef F x ⊠ H) (coef F y ⊠ W) (a ∙ sym b)
-      ∙ sym (plus_times L U (coef F x) H) ∙ ap (λ g. g ⊠ H) (sym (coef-add L u x)) ∙ times-comm L E H in
+      ap (λ g. g ⊠ W) (coef-add L v y) ∙ plus-times L B (coef F y) W ∙ across (U ⊠ H) (B ⊠ W) (coef F x ⊠ H) (coef F y ⊠ W) (a ∙ sym b)
+      ∙ sym (plus-times L U (coef F x) H) ∙ ap (λ g. g ⊠ H) (sym (coef-add L u x)) ∙ times-comm L E H in
       let q : List K = add F (mul F (add F v y) u) (mul F v (add F u x)) in
       let part : coef F q ≡ D ⊠ U ⊞ B ⊠ E =
       coef-add L (mul F (add F v y) u) (mul F v (add F u x)) ∙ ap₂ ◌⊞◌ (coef-mul L (add F v y) u) (coef-mul L v (add F u x)) in
@@ -97,7 +97,7 @@ module _ {K : Type 0} {F : Ops K} (L : Laws F) where
       let same : U ≡ X = sym (plus-back L R U) ∙ ap (λ g. R ⊞ g) (plus_comm L R U ∙ a ∙ sym b ∙ plus_comm L X R) ∙ plus-back L R X in
       equal-of-plus L (coef F u) (coef F x) (sym (coef-add L u x)
       ∙ no-divisors h (add F u x) n z (times-comm L (coef F h) (coef F (add F u x)) ∙ ap (λ g. g ⊠ coef F h) (coef-add L u x)
-      ∙ plus_times L (coef F u) (coef F x) (coef F h) ∙ ap (λ g. g ⊞ X) same ∙ plus-self L X))
+      ∙ plus-times L (coef F u) (coef F x) (coef F h) ∙ ap (λ g. g ⊞ X) same ∙ plus-self L X))
 
 module _ {H : Ops ℕ} {q : ℕ} (N : OnNumbers H q) where
   -- the field of elements, and its laws
@@ -108,14 +108,14 @@ module _ {H : Ops ℕ} {q : ℕ} (N : OnNumbers H q) where
   L = laws N
 
   -- the cofactor
-  one-cofactor : (s h g : List ℕ) → Below q s → Below q h → Below q g → coef H (mul H (fromRoots H s) h) ≡ coef H (mul H (fromRoots H s) g) → coef H h ≡ coef H g
+  one-cofactor : (s h g : List ℕ) → Below q s → Below q h → Below q g → coef H (mul H (from_roots H s) h) ≡ coef H (mul H (from_roots H s) g) → coef H h ≡ coef H g
   one-cofactor s h g hs hh hg =
-      by-elements N (λ s. coef H (mul H (fromRoots H s) h) ≡ coef H (mul H (fromRoots H s) g) → coef H h ≡ coef H g)
-      (λ a. by_two N (λ h g. coef H (mul H (fromRoots H (low N a)) h) ≡ coef H (mul H (fromRoots H (low N a)) g) → coef H h ≡ coef H g)
+      by-elements N (λ s. coef H (mul H (from_roots H s) h) ≡ coef H (mul H (from_roots H s) g) → coef H h ≡ coef H g)
+      (λ a. by_two N (λ h g. coef H (mul H (from_roots H (low N a)) h) ≡ coef H (mul H (from_roots H (low N a)) g) → coef H h ≡ coef H g)
       (λ b c e.
-      let p : List (Elem q) = fromRoots K a in
-      let lows : (d : List (Elem q)) → low N (mul K p d) ≡ mul H (fromRoots H (low N a)) (low N d) = λ d. low-mul N p d ∙ ap (λ u. mul H u (low N d)) (low-fromRoots N a) in
-      coef-down N b c (monic-cancel L b c (fromRoots-monic L a)
+      let p : List (Elem q) = from_roots K a in
+      let lows : (d : List (Elem q)) → low N (mul K p d) ≡ mul H (from_roots H (low N a)) (low N d) = λ d. low-mul N p d ∙ ap (λ u. mul H u (low N d)) (low-from_roots N a) in
+      coef-down N b c (monic-cancel L b c (from_roots-monic L a)
       (sym (coef-mul L p b) ∙ coef-up N (mul K p b) (mul K p c) (ap (coef H) (lows b) ∙ e ∙ ap (coef H) (sym (lows c))) ∙ coef-mul L p c))) h g hh hg) s hs
 
   -- a combination that is 1, of elements
@@ -141,11 +141,11 @@ module _ {H : Ops ℕ} {q : ℕ} (N : OnNumbers H q) where
       (coef-down N u x (first-up L h u x n (times K (coef K v) (coef K w)) Z A (ap (λ g. plus K (times K (coef K x) (coef K h)) (times K g (coef K w))) same ∙ B)), coef-down N v y same)
 
 -- the roots spread by the numbers beside them stay elements
-pub spread-below : (q : ℕ) (s es : List ℕ) → Below q s → Below q (spreadOut s es)
-unfolding spreadOut
+pub spread-below : (q : ℕ) (s es : List ℕ) → Below q s → Below q (spread_out s es)
+unfolding spread_out
 spread-below q [] es h = tt
 spread-below q (r ∷ s) [] h = tt
-spread-below q (r ∷ s) (e ∷ es) h = append-below q (replicate e r) (spreadOut s es) (replicate-below q e r h.0) (spread-below q s es h.1)
+spread-below q (r ∷ s) (e ∷ es) h = append-below q (replicate e r) (spread_out s es) (replicate-below q e r h.0) (spread-below q s es h.1)
 
 -- lists of one length with the same coefficients are one
 pub same-list : (m : ℕ) (p r : List ℕ) → length p ≡ length r → coef (G m) p ≡ coef (G m) r → p ≡ r
@@ -166,18 +166,18 @@ module _ {m : ℕ} {f : List ℕ} {c d : Claim} (i : ClaimIn m f c) (a : Accepta
   same-cofactor =
       let r = same-roots in
       same-list m c.cofactor d.cofactor (s.cofactor ∙ sym t.cofactor)
-      (one-cofactor N (spreadOut c.roots c.times) c.cofactor d.cofactor (spread-below (2 ^ m) c.roots c.times i.elements) i.cofactor.small j.cofactor.small
-      (a.product ∙ sym b.product ∙ ap₂ (λ x y. coef (G m) (mul (G m) (fromRoots (G m) (spreadOut x y)) d.cofactor)) (sym r.0) (sym r.1)))
+      (one-cofactor N (spread_out c.roots c.times) c.cofactor d.cofactor (spread-below (2 ^ m) c.roots c.times i.elements) i.cofactor.small j.cofactor.small
+      (a.product ∙ sym b.product ∙ ap₂ (λ x y. coef (G m) (mul (G m) (from_roots (G m) (spread_out x y)) d.cofactor)) (sym r.0) (sym r.1)))
 
   -- with the place of the higher bound
   same-pair : (n : ℕ) → coef (G m) c.cofactor n ≢ 0 → ((k : ℕ) → n ≤ k → coef (G m) c.second k ≡ 0) → ((k : ℕ) → n ≤ k → coef (G m) d.second k ≡ 0)
       → (coef (G m) c.first ≡ coef (G m) d.first) × (coef (G m) c.second ≡ coef (G m) d.second)
   same-pair n z x y =
       let h : List ℕ = c.cofactor in
-      let w : List ℕ = fieldRemainder m h in
+      let w : List ℕ = field_remainder m h in
       one-pair N h w c.first c.second d.first d.second i.cofactor.small (remainder-below m i.field h i.cofactor.small) i.first.small i.second.small
       j.first.small j.second.small n z x y a.coprime
-      (ap (λ g. coef (G m) (add (G m) (mul (G m) d.first g) (mul (G m) d.second (fieldRemainder m g)))) same-cofactor ∙ b.coprime)
+      (ap (λ g. coef (G m) (add (G m) (mul (G m) d.first g) (mul (G m) d.second (field_remainder m g)))) same-cofactor ∙ b.coprime)
 
   same-factors : (c.first ≡ d.first) × (c.second ≡ d.second)
   same-factors =

@@ -14,42 +14,42 @@ use mathlib.Core.Bool.{true}
 use Prim.Native.Nat.{◌<◌, ◌^◌, ℕ}
 use lib.ListN.{length}
 use Rattle.algebra.specs.Field.{OnNumbers, Ops, squared}
-use Rattle.algebra.specs.Polynomial.{Below, add, coef, eval, fieldPoly, mul}
+use Rattle.algebra.specs.Polynomial.{Below, add, coef, eval, field_poly, mul}
 use Rattle.algebra.specs.Routines.{monic, norm, rem}
-use Rattle.algebra.proofs.Crossing.{Elem, elems, laws, low-eval, low-fieldPoly, low-squared}
-use Rattle.algebra.proofs.Evaluation.{eval-fieldPoly}
+use Rattle.algebra.proofs.Crossing.{Elem, elems, laws, low-eval, low-field_poly, low-squared}
+use Rattle.algebra.proofs.Evaluation.{eval-field_poly}
 use Rattle.algebra.proofs.NumberDivision.{eval-rem}
 use Rattle.algebra.proofs.NumberElements.{mul-zero, zero-of-product}
 use Rattle.algebra.proofs.NumberEvaluation.{eval_add, eval_mul, eval-same, eval-scale}
 use Rattle.algebra.proofs.NumberMonic.{Made, norm-made}
-use Rattle.algebra.proofs.StaysBelow.{add-below, eval-below, fieldPoly-below, monic-below, mul-below, rem_below, scale-below}
+use Rattle.algebra.proofs.StaysBelow.{add-below, eval-below, field_poly-below, monic-below, mul-below, rem_below, scale-below}
 use Rattle.field.specs.Rows.{known}
 use Rattle.field.specs.Field.{G}
 use Rattle.input.proofs.Fields.{known-field}
-use Rattle.claim_rules.specs.Claims.{fieldRemainder}
+use Rattle.claim_rules.specs.Claims.{field_remainder}
 
 -- w by the monic multiple of h
-pub remainder_of : (m : ℕ) (h : List ℕ) {p : List ℕ} → norm (G m) (length h) h ≡ some p → fieldRemainder m h ≡ rem (G m) p (fieldPoly (G m) m)
-unfolding fieldRemainder Option-elim
-remainder_of m h e = ap (λ (o : Option (List ℕ)). Option-elim o [] (λ p. rem (G m) p (fieldPoly (G m) m))) e
+pub remainder_of : (m : ℕ) (h : List ℕ) {p : List ℕ} → norm (G m) (length h) h ≡ some p → field_remainder m h ≡ rem (G m) p (field_poly (G m) m)
+unfolding field_remainder Option-elim
+remainder_of m h e = ap (λ (o : Option (List ℕ)). Option-elim o [] (λ p. rem (G m) p (field_poly (G m) m))) e
 
 module _ {H : Ops ℕ} {q : ℕ} (N : OnNumbers H q) (m : ℕ) (fermat : (x : ℕ) → x < q → squared H m x ≡ x) where
   -- z^(2^m) + z is 0 at every element
-  pub field-zero : (x : ℕ) → x < q → eval H (fieldPoly H m) x ≡ H.zero
+  pub field-zero : (x : ℕ) → x < q → eval H (field_poly H m) x ≡ H.zero
   field-zero x l =
       let y : Elem q = (x, l) in
-      ap (λ f. eval H f x) (sym (low-fieldPoly N m)) ∙ sym (low-eval N (fieldPoly (elems N) m) y)
-      ∙ ap (λ z. z.0) (eval-fieldPoly (laws N) m y) ∙ ap (λ z. H.add z x) (low-squared N m y ∙ fermat x l) ∙ N.add-self x l
+      ap (λ f. eval H f x) (sym (low-field_poly N m)) ∙ sym (low-eval N (field_poly (elems N) m) y)
+      ∙ ap (λ z. z.0) (eval-field_poly (laws N) m y) ∙ ap (λ z. H.add z x) (low-squared N m y ∙ fermat x l) ∙ N.add-self x l
 
   -- where h is 0 at x, so is w
-  remainder-zero : (h p : List ℕ) → Below q h → norm H (length h) h ≡ some p → (x : ℕ) → x < q → eval H h x ≡ H.zero → eval H (rem H p (fieldPoly H m)) x ≡ H.zero
+  remainder-zero : (h p : List ℕ) → Below q h → norm H (length h) h ≡ some p → (x : ℕ) → x < q → eval H h x ≡ H.zero → eval H (rem H p (field_poly H m)) x ≡ H.zero
   remainder-zero h p hh e x l z =
       let d : Made H q h p = norm-made N h hh e in
       let hm : Below q (monic H p) = monic-below N p d.small in
       let value : H.mul d.lead (eval H (monic H p) x) ≡ H.zero =
       sym (eval-scale N d.lead (monic H p) d.lead-below hm x l)
       ∙ sym (eval-same N h (map (H.mul d.lead) (monic H p)) hh (scale-below N d.lead (monic H p) d.lead-below hm) d.exact x l) ∙ z in
-      eval-rem N p (fieldPoly H m) d.small (fieldPoly-below N m) x l
+      eval-rem N p (field_poly H m) d.small (field_poly-below N m) x l
       (zero-of-product N d.lead (eval H (monic H p) x) d.lead-below (eval-below N (monic H p) x hm l) d.nonzero value) ∙ field-zero x l
 
   -- where u h + v w = 1, and w is 0 wherever h is, h has no root
@@ -76,19 +76,19 @@ module _ (m : ℕ) (k : known m ≡ true) (h : List ℕ) (hh : Below (2 ^ m) h) 
   N = (known-field m k).numbers
 
   -- w is 0 wherever h is
-  pub remainder-root : (x : ℕ) → x < 2 ^ m → eval (G m) h x ≡ 0 → eval (G m) (fieldRemainder m h) x ≡ 0
-  unfolding fieldRemainder Option-elim eval
+  pub remainder-root : (x : ℕ) → x < 2 ^ m → eval (G m) h x ≡ 0 → eval (G m) (field_remainder m h) x ≡ 0
+  unfolding field_remainder Option-elim eval
   remainder-root x l z = go (norm (G m) (length h) h) refl
     where
-      go : (o : Option (List ℕ)) → norm (G m) (length h) h ≡ o → eval (G m) (Option-elim o [] (λ p. rem (G m) p (fieldPoly (G m) m))) x ≡ 0
+      go : (o : Option (List ℕ)) → norm (G m) (length h) h ≡ o → eval (G m) (Option-elim o [] (λ p. rem (G m) p (field_poly (G m) m))) x ≡ 0
       go none e = refl
       go (some p) e = remainder-zero N m (known-field m k).fermat h p hh e x l z
 
   -- and has elements of the field
-  pub remainder-below : Below (2 ^ m) (fieldRemainder m h)
-  unfolding fieldRemainder Option-elim
+  pub remainder-below : Below (2 ^ m) (field_remainder m h)
+  unfolding field_remainder Option-elim
   remainder-below = go (norm (G m) (length h) h) refl
     where
-      go : (o : Option (List ℕ)) → norm (G m) (length h) h ≡ o → Below (2 ^ m) (Option-elim o [] (λ p. rem (G m) p (fieldPoly (G m) m)))
+      go : (o : Option (List ℕ)) → norm (G m) (length h) h ≡ o → Below (2 ^ m) (Option-elim o [] (λ p. rem (G m) p (field_poly (G m) m)))
       go none e = tt
-      go (some p) e = rem_below N p (fieldPoly (G m) m) (norm-made N h hh e).small (fieldPoly-below N m)
+      go (some p) e = rem_below N p (field_poly (G m) m) (norm-made N h hh e).small (field_poly-below N m)

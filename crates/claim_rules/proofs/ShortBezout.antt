@@ -18,7 +18,7 @@ use Rattle.algebra.specs.Field.{Laws, OnNumbers, Ops}
 use Rattle.algebra.specs.Polynomial.{Below, add, coef, mul}
 use Rattle.algebra.specs.Routines.{gcd, monic, quo, rem}
 use Rattle.algebra.proofs.Elements.{zero-mul}
-use Rattle.algebra.proofs.Series.{Series, nought, plus, plus_assoc, plus-back, plus_comm, scale, scale_back, startingWith, times-comm, times-left-comm, times-plus, times-scale, unit}
+use Rattle.algebra.proofs.Series.{Series, nought, plus, plus_assoc, plus-back, plus_comm, scale, scale_back, starting_with, times-comm, times-left-comm, times-plus, times-scale, unit}
 use Rattle.algebra.proofs.Coefficients.{coef-add, coef-mul, coef-one, coef-scale, coef-top}
 use Rattle.algebra.proofs.Degree.{Top, monic-list, top-times, top?}
 use Rattle.algebra.proofs.Division.{division}
@@ -53,7 +53,7 @@ module _ {K : Type 0} {F : Ops K} (L : Laws F) where
 
   -- 1 has one coefficient
   unit-above : (i : ℕ) → 0 < i → unit F i ≡ 0#
-  unfolding startingWith
+  unfolding starting_with
   unit-above zero h = absurd (not-suc-le-zero h)
   unit-above (suc i) h = refl
 

@@ -1,4 +1,4 @@
--- `fieldRemainder` is the remainder of z^(2^m) + z by h, and so it does not depend on zeros at the top of h.
+-- `field_remainder` is the remainder of z^(2^m) + z by h, and so it does not depend on zeros at the top of h.
 --   small-multiple     a multiple of h that ends below a coefficient of h is 0
 --   remainder-right    w has a lower degree than h, and h divides z^(2^m) + z + w
 --   remainder-only     no other polynomial is so
@@ -14,7 +14,7 @@ use native.Mathlib.Decide.{dec_le}
 use native.Mathlib.Omega.{arith}
 use lib.ListN.{get_or-eq_default, length}
 use Rattle.algebra.specs.Field.{Laws, OnNumbers, Ops}
-use Rattle.algebra.specs.Polynomial.{Below, Divides, DividesBelow, add, coef, fieldPoly, mul}
+use Rattle.algebra.specs.Polynomial.{Below, Divides, DividesBelow, add, coef, field_poly, mul}
 use Rattle.algebra.specs.Routines.{monic, rem}
 use Rattle.algebra.proofs.Coefficients.{coef-add, coef-mul, coef-scale}
 use Rattle.algebra.proofs.Crossing.{Elem, by-elements, by_two, coef-down, coef-up, elem-equal, elems, laws, low, low-add, low-coef, low-monic, low-mul, low-rem, low-scale}
@@ -27,11 +27,11 @@ use Rattle.algebra.proofs.NumberDivision.{divides-down, divides-up}
 use Rattle.algebra.proofs.NumberMonic.{Made, made-degree, norm-made, norm-some}
 use Rattle.algebra.proofs.Series.{Series, equal-of-plus, nought, plus, plus_assoc, plus-back, plus-left-comm, scale, scale_back, times, times-nought}
 use Rattle.algebra.proofs.Signs.{signs}
-use Rattle.algebra.proofs.StaysBelow.{fieldPoly-below}
+use Rattle.algebra.proofs.StaysBelow.{field_poly-below}
 use Rattle.field.specs.Rows.{known}
 use Rattle.field.specs.Field.{G}
 use Rattle.input.proofs.Fields.{known-field}
-use Rattle.claim_rules.specs.Claims.{IsFieldRemainder, fieldRemainder}
+use Rattle.claim_rules.specs.Claims.{IsFieldRemainder, field_remainder}
 use Rattle.claim_rules.proofs.Remainders.{remainder-below, remainder_of}
 
 module _ {K : Type 0} {F : Ops K} (L : Laws F) where
@@ -132,7 +132,7 @@ module _ (m : ℕ) (k : known m ≡ true) where
   N = (known-field m k).numbers
 
   -- w has a lower degree than h, and h divides z^(2^m) + z + w
-  pub remainder-right : (h : List ℕ) → Below (2 ^ m) h → (j : ℕ) → coef (G m) h j ≢ 0 → IsFieldRemainder m h (fieldRemainder m h)
+  pub remainder-right : (h : List ℕ) → Below (2 ^ m) h → (j : ℕ) → coef (G m) h j ≢ 0 → IsFieldRemainder m h (field_remainder m h)
   remainder-right h hh j z =
       let s = norm-some N h hh j z in
       let p : List ℕ = s.0 in
@@ -140,25 +140,25 @@ module _ (m : ℕ) (k : known m ≡ true) where
       subst (IsFieldRemainder m h) (sym (remainder_of m h s.1)) (record {
         place = length p;
         present = λ e. d.nonzero (sym (made-degree N d).0 ∙ e);
-        lower = λ i l. get_or-eq_default (rem (G m) p (fieldPoly (G m) m)) 0 (omega (arith, length-rem (G m) p (fieldPoly (G m) m)));
-        exact = rem-exact N h p (fieldPoly (G m) m) d.lead hh d.small (fieldPoly-below N m) d.lead-below d.nonzero d.exact;
+        lower = λ i l. get_or-eq_default (rem (G m) p (field_poly (G m) m)) 0 (omega (arith, length-rem (G m) p (field_poly (G m) m)));
+        exact = rem-exact N h p (field_poly (G m) m) d.lead hh d.small (field_poly-below N m) d.lead-below d.nonzero d.exact;
       })
 
   -- no other polynomial is so
   pub remainder-only : (h w x : List ℕ) → Below (2 ^ m) h → Below (2 ^ m) w → Below (2 ^ m) x → IsFieldRemainder m h w → IsFieldRemainder m h x
       → coef (G m) w ≡ coef (G m) x
   remainder-only h w x hh hw hx a b = elim (dec_le a.place b.place) [
-    | yes l ↦ rem-one N h (fieldPoly (G m) m) w x b.place hh (fieldPoly-below N m) hw hx b.present (λ i j. a.lower i (omega arith)) b.lower a.exact b.exact
-    | no l ↦ rem-one N h (fieldPoly (G m) m) w x a.place hh (fieldPoly-below N m) hw hx a.present a.lower (λ i j. b.lower i (omega arith)) a.exact b.exact
+    | yes l ↦ rem-one N h (field_poly (G m) m) w x b.place hh (field_poly-below N m) hw hx b.present (λ i j. a.lower i (omega arith)) b.lower a.exact b.exact
+    | no l ↦ rem-one N h (field_poly (G m) m) w x a.place hh (field_poly-below N m) hw hx a.present a.lower (λ i j. b.lower i (omega arith)) a.exact b.exact
   ]
 
   -- it does not depend on zeros at the top of h
   pub remainder-same : (h g : List ℕ) → Below (2 ^ m) h → Below (2 ^ m) g → coef (G m) h ≡ coef (G m) g → (j : ℕ) → coef (G m) h j ≢ 0
-      → coef (G m) (fieldRemainder m h) ≡ coef (G m) (fieldRemainder m g)
+      → coef (G m) (field_remainder m h) ≡ coef (G m) (field_remainder m g)
   remainder-same h g hh hg e j z =
       let a = remainder-right h hh j z in
       let b = remainder-right g hg j (λ y. z (ap (λ w. w j) e ∙ y)) in
-      remainder-only g (fieldRemainder m h) (fieldRemainder m g) hg (remainder-below m k h hh) (remainder-below m k g hg)
+      remainder-only g (field_remainder m h) (field_remainder m g) hg (remainder-below m k h hh) (remainder-below m k g hg)
       (record {
         place = a.place;
         present = λ y. a.present (ap (λ w. w a.place) e ∙ y);

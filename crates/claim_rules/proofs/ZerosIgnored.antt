@@ -11,15 +11,15 @@ use Prim.Native.Nat.{◌≤◌, ◌^◌, ℕ}
 use lib.ListN.{length}
 use Rattle.algebra.specs.Field.{OnNumbers}
 use Rattle.algebra.specs.Trial.{All, Ascending}
-use Rattle.algebra.specs.Polynomial.{Below, coef, eval, fromRoots, mul}
+use Rattle.algebra.specs.Polynomial.{Below, coef, eval, from_roots, mul}
 use Rattle.algebra.specs.Routines.{norm}
-use Rattle.algebra.proofs.Crossing.{below-low, by-elements, elems, low-fromRoots}
+use Rattle.algebra.proofs.Crossing.{below-low, by-elements, elems, low-from_roots}
 use Rattle.algebra.proofs.NumberEvaluation.{eval-same}
 use Rattle.algebra.proofs.NumberMonic.{Made, made-degree, norm-made, norm-none}
 use Rattle.algebra.proofs.StaysBelow.{mul-below}
 use Rattle.field.specs.Field.{G}
 use Rattle.input.proofs.Fields.{known-field}
-use Rattle.claim_rules.specs.Claims.{Acceptable, Claim, SameClaim, fieldRemainder, spreadOut}
+use Rattle.claim_rules.specs.Claims.{Acceptable, Claim, SameClaim, field_remainder, spread_out}
 use Rattle.claim_rules.specs.Admitting.{ClaimIn}
 use Rattle.claim_rules.proofs.Products.{spread-below}
 use Rattle.claim_rules.proofs.Remainders.{remainder-below}
@@ -60,10 +60,10 @@ module _ {m : ℕ} {f : List ℕ} {c : Claim} (i : ClaimIn m f c) (a : Acceptabl
   acceptable-same {g} {d} k s =
       let h : List ℕ = c.cofactor in
       let h' : List ℕ = d.cofactor in
-      let w : List ℕ = fieldRemainder m h in
-      let w' : List ℕ = fieldRemainder m h' in
-      let p : List ℕ = fromRoots (G m) (spreadOut c.roots c.times) in
-      let hp : Below (2 ^ m) p = products-below (spreadOut c.roots c.times) (spread-below (2 ^ m) c.roots c.times i.elements) in
+      let w : List ℕ = field_remainder m h in
+      let w' : List ℕ = field_remainder m h' in
+      let p : List ℕ = from_roots (G m) (spread_out c.roots c.times) in
+      let hp : Below (2 ^ m) p = products-below (spread_out c.roots c.times) (spread-below (2 ^ m) c.roots c.times i.elements) in
       let hw : Below (2 ^ m) w = remainder-below m i.field h i.cofactor.small in
       let hw' : Below (2 ^ m) w' = remainder-below m i.field h' k.cofactor.small in
       let j = cofactor-place in
@@ -71,7 +71,7 @@ module _ {m : ℕ} {f : List ℕ} {c : Claim} (i : ClaimIn m f c) (a : Acceptabl
         paired = sym (ap length s.roots) ∙ a.paired ∙ ap length s.times;
         ascending = subst Ascending s.roots a.ascending;
         least = subst (All (λ e. 1 ≤ e)) s.times a.least;
-        product = ap₂ (λ x y. coef (G m) (mul (G m) (fromRoots (G m) (spreadOut x y)) h')) (sym s.roots) (sym s.times)
+        product = ap₂ (λ x y. coef (G m) (mul (G m) (from_roots (G m) (spread_out x y)) h')) (sym s.roots) (sym s.times)
             ∙ mul-same N p h' p h hp k.cofactor.small hp i.cofactor.small refl (sym s.cofactor) ∙ a.product ∙ s.given;
         coprime = sym (add_same N (mul (G m) c.first h) (mul (G m) c.second w) (mul (G m) d.first h') (mul (G m) d.second w')
             (mul-below N c.first h i.first.small i.cofactor.small) (mul-below N c.second w i.second.small hw)
@@ -81,5 +81,5 @@ module _ {m : ℕ} {f : List ℕ} {c : Claim} (i : ClaimIn m f c) (a : Acceptabl
             (remainder-same m i.field h h' i.cofactor.small k.cofactor.small s.cofactor j.0 j.1))) ∙ a.coprime;
       }
     where
-      products-below : (s : List ℕ) → Below (2 ^ m) s → Below (2 ^ m) (fromRoots (G m) s)
-      products-below = by-elements N (λ s. Below (2 ^ m) (fromRoots (G m) s)) (λ u. subst (Below (2 ^ m)) (low-fromRoots N u) (below-low N (fromRoots (elems N) u)))
+      products-below : (s : List ℕ) → Below (2 ^ m) s → Below (2 ^ m) (from_roots (G m) s)
+      products-below = by-elements N (λ s. Below (2 ^ m) (from_roots (G m) s)) (λ u. subst (Below (2 ^ m)) (low-from_roots N u) (below-low N (from_roots (elems N) u)))

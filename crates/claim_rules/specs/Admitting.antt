@@ -1,7 +1,7 @@
 -- When a claim is refused, under which number and in which order (docs/RULES.md section 14.2).
---   someOf         some of several lists passes a test
---   polynomialsOf  the given polynomial, the cofactor, u and v
---   claimTests     refusals 1 to 5: the field, no coefficients, too many, an element that is none, and the given
+--   some_of         some of several lists passes a test
+--   polynomials_of  the given polynomial, the cofactor, u and v
+--   claim_tests     refusals 1 to 5: the field, no coefficients, too many, an element that is none, and the given
 --                  polynomial 0. The numbers beside the roots are not looked at
 --   ClaimIn        what is known of a claim that was let in
 --   Full           a claim of as many coefficients as there may be, with v of a lower degree than h: there is one (proofs/
@@ -9,26 +9,26 @@
 -- Assumes nothing.
 use Rattle.std.specs.Prelude.{◌≡◌, Bool, true, false, not, cond, List, [], ◌∷◌, ℕ, suc, ◌^◌, ◌≤◌, ◌<◌, eqb, ltb, length}
 use Rattle.field.specs.Rows.{known}
-use Rattle.slices.specs.Bounded.{any_from, allZero}
+use Rattle.slices.specs.Bounded.{any_from, all_zero}
 use Rattle.algebra.specs.Polynomial.{Below}
 use Rattle.input.specs.Limit.{limit}
 use Rattle.claim_rules.specs.Claims.{Claim, Lower}
 
 -- one after the other
-unfoldable pub someOf : (List ℕ → Bool) → List (List ℕ) → Bool
-someOf t [] = false
-someOf t (p ∷ ps) = cond (t p) true (someOf t ps)
+unfoldable pub some_of : (List ℕ → Bool) → List (List ℕ) → Bool
+some_of t [] = false
+some_of t (p ∷ ps) = cond (t p) true (some_of t ps)
 
 -- the given one first
-abbrev pub polynomialsOf : List ℕ → Claim → List (List ℕ)
-polynomialsOf f c = f ∷ c.cofactor ∷ c.first ∷ c.second ∷ []
+abbrev pub polynomials_of : List ℕ → Claim → List (List ℕ)
+polynomials_of f c = f ∷ c.cofactor ∷ c.first ∷ c.second ∷ []
 
 -- 4 looks at the roots too
-abbrev pub claimTests : ℕ → List ℕ → Claim → List (ℕ × Bool)
-claimTests m f c =
-    (1, not (known m)) ∷ (2, someOf (λ p. eqb (length p) 0) (polynomialsOf f c))
-    ∷ (3, someOf (λ p. ltb (suc limit) (length p)) (polynomialsOf f c))
-    ∷ (4, someOf (any_from (2 ^ m)) (c.roots ∷ polynomialsOf f c)) ∷ (5, allZero f) ∷ []
+abbrev pub claim_tests : ℕ → List ℕ → Claim → List (ℕ × Bool)
+claim_tests m f c =
+    (1, not (known m)) ∷ (2, some_of (λ p. eqb (length p) 0) (polynomials_of f c))
+    ∷ (3, some_of (λ p. ltb (suc limit) (length p)) (polynomials_of f c))
+    ∷ (4, some_of (any_from (2 ^ m)) (c.roots ∷ polynomials_of f c)) ∷ (5, all_zero f) ∷ []
 
 -- a polynomial with 1 to limit + 1 coefficients, all elements
 pub record Sent (m : ℕ) (p : List ℕ) : Type 0 where
@@ -43,7 +43,7 @@ pub record ClaimIn (m : ℕ) (f : List ℕ) (c : Claim) : Type 0 where
   pub first : Sent m c.first
   pub second : Sent m c.second
   pub elements : Below (2 ^ m) c.roots
-  pub nonzero : allZero f ≡ false
+  pub nonzero : all_zero f ≡ false
 
 -- a claim of as many coefficients as there may be, with v of a lower degree than h
 pub record Full (m : ℕ) (c : Claim) : Type 0 where

@@ -2,9 +2,9 @@
 -- it is acceptable.
 --   Claim            roots, beside each its multiplicity e, a cofactor h, and two polynomials u and v
 --   claim_of          the claim of these five lists
---   spreadOut        each root as many times as the number beside it says
+--   spread_out        each root as many times as the number beside it says
 --   claimed          the product of (z + r)^e over the roots, and h
---   fieldRemainder   w: the remainder of z^(2^m) + z by h, or 0 if h is constant. It is taken by the monic multiple of
+--   field_remainder   w: the remainder of z^(2^m) + z by h, or 0 if h is constant. It is taken by the monic multiple of
 --                    h, which has the same remainders (proofs/TheRemainder.antt: it is the remainder by h)
 --   IsFieldRemainder what that means: a lower degree than that of h, and h divides the sum
 --   Acceptable       the roots are strictly ascending, each e is at least 1, the product of (z + r)^e and h is f, and
@@ -16,7 +16,7 @@
 use Rattle.std.specs.Prelude.{◌≡◌, ◌≢◌, List, [], ◌∷◌, ◌++◌, ℕ, ◌^◌, ◌≤◌, length, replicate}
 use Rattle.std.proofs.Math.Option.{Option·elim}
 use Rattle.algebra.specs.Trial.{All, Ascending}
-use Rattle.algebra.specs.Polynomial.{DividesBelow, coef, add, mul, fromRoots, fieldPoly}
+use Rattle.algebra.specs.Polynomial.{DividesBelow, coef, add, mul, from_roots, field_poly}
 use Rattle.algebra.specs.Routines.{norm, rem}
 use Rattle.field.specs.Field.{G}
 
@@ -32,31 +32,31 @@ abbrev pub claim_of : List ℕ → List ℕ → List ℕ → List ℕ → List �
 claim_of roots es h u v = record { roots = roots; times = es; cofactor = h; first = u; second = v }
 
 -- what has no partner is left out
-unfoldable pub spreadOut : {K : Type 0} → List K → List ℕ → List K
-spreadOut [] es = []
-spreadOut (r ∷ s) [] = []
-spreadOut (r ∷ s) (e ∷ es) = replicate e r ++ spreadOut s es
+unfoldable pub spread_out : {K : Type 0} → List K → List ℕ → List K
+spread_out [] es = []
+spread_out (r ∷ s) [] = []
+spread_out (r ∷ s) (e ∷ es) = replicate e r ++ spread_out s es
 
 -- the product that must be f
 abbrev pub claimed : ℕ → Claim → List ℕ
-claimed m c = mul (G m) (fromRoots (G m) (spreadOut c.roots c.times)) c.cofactor
+claimed m c = mul (G m) (from_roots (G m) (spread_out c.roots c.times)) c.cofactor
 
 -- `norm` is the monic multiple without its leading 1: empty where h is a nonzero constant, and nothing where h is 0
-unfoldable pub fieldRemainder : ℕ → List ℕ → List ℕ
+unfoldable pub field_remainder : ℕ → List ℕ → List ℕ
 unfolding Option·elim
-fieldRemainder m h = Option·elim (norm (G m) (length h) h) [] (λ p. rem (G m) p (fieldPoly (G m) m))
+field_remainder m h = Option·elim (norm (G m) (length h) h) [] (λ p. rem (G m) p (field_poly (G m) m))
 
 -- what that means: w has no coefficient from some place of h on, and h divides z^(2^m) + z + w
 pub record IsFieldRemainder (m : ℕ) (h w : List ℕ) : Type 0 where
   pub place : ℕ
   pub present : coef (G m) h place ≢ 0
   pub lower : (k : ℕ) → place ≤ k → coef (G m) w k ≡ 0
-  pub exact : DividesBelow (G m) (2 ^ m) h (add (G m) (fieldPoly (G m) m) w)
+  pub exact : DividesBelow (G m) (2 ^ m) h (add (G m) (field_poly (G m) m) w)
 
 -- what u h + v w must be: 1
 abbrev pub combined : ℕ → Claim → List ℕ
 combined m c =
-    add (G m) (mul (G m) c.first c.cofactor) (mul (G m) c.second (fieldRemainder m c.cofactor))
+    add (G m) (mul (G m) c.first c.cofactor) (mul (G m) c.second (field_remainder m c.cofactor))
 
 -- the conditions, in the words in which they are asked for
 pub record Acceptable (m : ℕ) (f : List ℕ) (c : Claim) : Type 0 where

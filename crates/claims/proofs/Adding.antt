@@ -20,11 +20,11 @@ use lib.Seq.{drop_at, drop-cons, drop-length, get_or-take, length-take-le, take-
 use Rattle.algebra.specs.Polynomial.{add, coef, mul}
 use Rattle.algebra.proofs.StaysBelow.{below_at, below-from}
 use Rattle.field.specs.Field.{G, field_at}
-use Rattle.field.specs.Tables.{logOf}
+use Rattle.field.specs.Tables.{log_of}
 use Rattle.field.proofs.Xor.{xor_assoc}
-use Rattle.slices.specs.Bounded.{allZero}
-use Rattle.slices.proofs.Bounded.{allBelow-exactly, allZero-exactly}
-use Rattle.poly.specs.Lent.{Addable, LogRow, Loggable, held, logRow}
+use Rattle.slices.specs.Bounded.{all_zero}
+use Rattle.slices.proofs.Bounded.{all_below-exactly, all_zero-exactly}
+use Rattle.poly.specs.Lent.{Addable, LogRow, Loggable, held, log_row}
 use Rattle.poly.proofs.Logs.{held-long, held-row, row-is-row}
 use Rattle.poly.proofs.Parts.{part_none, part-rest}
 use Rattle.poly.proofs.Sums.{add_assoc, add-nil, long-row}
@@ -149,15 +149,15 @@ cut-same m n l h = fun_ext λ k. elim (dec_le (suc k) n) [
 ]
 
 -- the same polynomial
-pub sum-zero : (m : ℕ) (f g : List ℕ) → allZero (add (G m) f g) ≡ true → coef (G m) g ≡ coef (G m) f
+pub sum-zero : (m : ℕ) (f g : List ℕ) → all_zero (add (G m) f g) ≡ true → coef (G m) g ≡ coef (G m) f
 sum-zero m f g e =
-    let z : add (G m) f g ≡ replicate (length (add (G m) f g)) 0 = (allZero-exactly (add (G m) f g)).0 e in
+    let z : add (G m) f g ≡ replicate (length (add (G m) f g)) 0 = (all_zero-exactly (add (G m) f g)).0 e in
     fun_ext λ k. sym (xor-equal (get_or f k 0) (get_or g k 0) (sym (sum-at m f g k) ∙ ap (λ l. get_or l k 0) z ∙ zeros-at (length (add (G m) f g)) k))
 
 -- and there alone
-pub zero-sum : (m : ℕ) (f g : List ℕ) → coef (G m) g ≡ coef (G m) f → allZero (add (G m) f g) ≡ true
+pub zero-sum : (m : ℕ) (f g : List ℕ) → coef (G m) g ≡ coef (G m) f → all_zero (add (G m) f g) ≡ true
 zero-sum m f g e =
-    (allBelow-exactly 1 (add (G m) f g)).1 (below-from 1 (add (G m) f g) λ i l.
+    (all_below-exactly 1 (add (G m) f g)).1 (below-from 1 (add (G m) f g) λ i l.
     let z : get_or (add (G m) f g) i 0 ≡ 0 = sum-at m f g i ∙ ap (λ w. bit_xor (get_or f i 0) (w i)) e ∙ xor_self (get_or f i 0) in omega arith)
 
 -- ---- a product of two polynomials, one of them as a row
@@ -167,15 +167,15 @@ module _ {m : ℕ} {ls ts p q sum : List ℕ} (g : Productive m ls ts p q sum) w
   pub product-logs : {l : List ℕ} → length q ≡ length l → Loggable m ls ts q l
   product-logs e = record { tables = g.tables; small = g.second; room = e }
 
-  module _ {y : List ℕ} (e : y ≡ logRow m q) (rest : List ℕ) where
+  module _ {y : List ℕ} (e : y ≡ log_row m q) (rest : List ℕ) where
     -- it stands at the front
     row-long : length y ≡ length q
-    row-long = ap length e ∙ length-map q (logOf (field_at m))
+    row-long = ap length e ∙ length-map q (log_of (field_at m))
 
     pub row_fits : length q ≤ length (y ++ rest)
     row_fits = omega (arith, length-append y rest, row-long)
 
-    row-front : take (length q) (y ++ rest) ≡ logRow m q
+    row-front : take (length q) (y ++ rest) ≡ log_row m q
     row-front = take_at y rest (length q) row-long ∙ e
 
     pub row-size : length (take (length q) (y ++ rest)) ≡ length q

@@ -17,24 +17,24 @@ use Rattle.refusals.proofs.Order.{holds, fails, passes, failed, others}
 use Rattle.field.specs.Rows.{IsRow, known}
 use Rattle.field.specs.declared.rows.Row.{Row}
 use Rattle.field.proofs.Known.{listed-on}
-use Rattle.slices.specs.Bounded.{all_below, allZero, any_from}
-use Rattle.slices.proofs.Bounded.{allBelow-exactly}
+use Rattle.slices.specs.Bounded.{all_below, all_zero, any_from}
+use Rattle.slices.proofs.Bounded.{all_below-exactly}
 use Rattle.input.specs.Limit.{limit}
 use Rattle.claim_rules.specs.Claims.{Claim}
-use Rattle.claim_rules.specs.Admitting.{ClaimIn, Sent, claimTests, polynomialsOf, someOf}
+use Rattle.claim_rules.specs.Admitting.{ClaimIn, Sent, claim_tests, polynomials_of, some_of}
 
 -- ---- some of several lists
 
-pub found : (t : List ℕ → Bool) (p : List ℕ) (ps : List (List ℕ)) → t p ≡ true → true ≡ someOf t (p ∷ ps)
-unfolding someOf
-found t p ps e = sym (ap (λ x. cond x true (someOf t ps)) e)
+pub found : (t : List ℕ → Bool) (p : List ℕ) (ps : List (List ℕ)) → t p ≡ true → true ≡ some_of t (p ∷ ps)
+unfolding some_of
+found t p ps e = sym (ap (λ x. cond x true (some_of t ps)) e)
 
-pub passed : (t : List ℕ → Bool) (p : List ℕ) (ps : List (List ℕ)) {a : Bool} → t p ≡ false → a ≡ someOf t ps → a ≡ someOf t (p ∷ ps)
-unfolding someOf
-passed t p ps e s = s ∙ sym (ap (λ x. cond x true (someOf t ps)) e)
+pub passed : (t : List ℕ → Bool) (p : List ℕ) (ps : List (List ℕ)) {a : Bool} → t p ≡ false → a ≡ some_of t ps → a ≡ some_of t (p ∷ ps)
+unfolding some_of
+passed t p ps e s = s ∙ sym (ap (λ x. cond x true (some_of t ps)) e)
 
-pub last : (t : List ℕ → Bool) (p : List ℕ) → t p ≡ someOf t (p ∷ [])
-unfolding someOf
+pub last : (t : List ℕ → Bool) (p : List ℕ) → t p ≡ some_of t (p ∷ [])
+unfolding some_of
 last t p = go (t p)
   where
     go : (b : Bool) → b ≡ cond b true false
@@ -43,35 +43,35 @@ last t p = go (t p)
 
 -- ---- the tests in their order
 
-module _ {m : ℕ} {row : Row} (f : List ℕ) (c : Claim) (i : IsRow m row) {a : Bool} (x : a ≡ someOf (λ p. eqb (length p) 0) (polynomialsOf f c)) where
-  pub ask-empty : a ≡ true → Given 2 (claimTests m f c)
+module _ {m : ℕ} {row : Row} (f : List ℕ) (c : Claim) (i : IsRow m row) {a : Bool} (x : a ≡ some_of (λ p. eqb (length p) 0) (polynomials_of f c)) where
+  pub ask-empty : a ≡ true → Given 2 (claim_tests m f c)
   ask-empty t = fails (listed-on i) (holds (sym x ∙ t))
 
-  module _ (t : a ≡ false) {b : Bool} (y : b ≡ someOf (λ p. ltb (suc limit) (length p)) (polynomialsOf f c)) where
-    pub ask-long : b ≡ true → Given 3 (claimTests m f c)
+  module _ (t : a ≡ false) {b : Bool} (y : b ≡ some_of (λ p. ltb (suc limit) (length p)) (polynomials_of f c)) where
+    pub ask-long : b ≡ true → Given 3 (claim_tests m f c)
     ask-long u = fails (listed-on i) (fails (sym x ∙ t) (holds (sym y ∙ u)))
 
-    module _ (u : b ≡ false) {d : Bool} (z : d ≡ someOf (any_from row.size) (c.roots ∷ polynomialsOf f c)) where
+    module _ (u : b ≡ false) {d : Bool} (z : d ≡ some_of (any_from row.size) (c.roots ∷ polynomials_of f c)) where
       -- the row has the field's size
-      at_size : someOf (any_from (2 ^ m)) (c.roots ∷ polynomialsOf f c) ≡ d
-      at_size = ap (λ q. someOf (any_from q) (c.roots ∷ polynomialsOf f c)) (sym i.size) ∙ sym z
+      at_size : some_of (any_from (2 ^ m)) (c.roots ∷ polynomials_of f c) ≡ d
+      at_size = ap (λ q. some_of (any_from q) (c.roots ∷ polynomials_of f c)) (sym i.size) ∙ sym z
 
-      pub ask-large : d ≡ true → Given 4 (claimTests m f c)
+      pub ask-large : d ≡ true → Given 4 (claim_tests m f c)
       ask-large v = fails (listed-on i) (fails (sym x ∙ t) (fails (sym y ∙ u) (holds (at_size ∙ v))))
 
-      module _ (v : d ≡ false) {e : Bool} (w : e ≡ allZero f) where
-        pub ask-zero : e ≡ true → Given 5 (claimTests m f c)
+      module _ (v : d ≡ false) {e : Bool} (w : e ≡ all_zero f) where
+        pub ask-zero : e ≡ true → Given 5 (claim_tests m f c)
         ask-zero k = fails (listed-on i) (fails (sym x ∙ t) (fails (sym y ∙ u) (fails (at_size ∙ v) (holds (sym w ∙ k)))))
 
-        pub ask_in : e ≡ false → Passed (claimTests m f c)
+        pub ask_in : e ≡ false → Passed (claim_tests m f c)
         ask_in k = passes (listed-on i) (passes (sym x ∙ t) (passes (sym y ∙ u) (passes (at_size ∙ v) (passes (sym w ∙ k) none))))
 
 -- ---- what was let in
 
 -- none of several lists passes: not the first, and none behind it
-none_first : (t : List ℕ → Bool) (p : List ℕ) (ps : List (List ℕ)) → someOf t (p ∷ ps) ≡ false → (t p ≡ false) × (someOf t ps ≡ false)
-unfolding someOf
-none_first t p ps e = go (t p) (someOf t ps) e
+none_first : (t : List ℕ → Bool) (p : List ℕ) (ps : List (List ℕ)) → some_of t (p ∷ ps) ≡ false → (t p ≡ false) × (some_of t ps ≡ false)
+unfolding some_of
+none_first t p ps e = go (t p) (some_of t ps) e
   where
     go : (a b : Bool) → cond a true b ≡ false → (a ≡ false) × (b ≡ false)
     go true b e = let z : ◌≡◌ {A = ℕ} 0 1 = cc in absurd (omega arith)
@@ -84,7 +84,7 @@ record Each (t : List ℕ → Bool) (f : List ℕ) (c : Claim) : Type 0 where
   pub first : t c.first ≡ false
   pub second : t c.second ≡ false
 
-each_of : (t : List ℕ → Bool) (f : List ℕ) (c : Claim) → someOf t (polynomialsOf f c) ≡ false → Each t f c
+each_of : (t : List ℕ → Bool) (f : List ℕ) (c : Claim) → some_of t (polynomials_of f c) ≡ false → Each t f c
 each_of t f c e =
     let a = none_first t f _ e in
     let b = none_first t c.cofactor _ a.1 in
@@ -95,14 +95,14 @@ each_of t f c e =
 sent-of : (m : ℕ) (p : List ℕ) → eqb (length p) 0 ≡ false → ltb (suc limit) (length p) ≡ false → any_from (2 ^ m) p ≡ false → Sent m p
 sent-of m p a b d =
     let n = eqb-false (length p) 0 a in
-    record { some = omega arith; few = ltb-false (suc limit) (length p) b; small = (allBelow-exactly (2 ^ m) p).0 (not-false (all_below (2 ^ m) p) d) }
+    record { some = omega arith; few = ltb-false (suc limit) (length p) b; small = (all_below-exactly (2 ^ m) p).0 (not-false (all_below (2 ^ m) p) d) }
 
-pub claim-told : (m : ℕ) (f : List ℕ) (c : Claim) → Passed (claimTests m f c) → ClaimIn m f c
+pub claim-told : (m : ℕ) (f : List ℕ) (c : Claim) → Passed (claim_tests m f c) → ClaimIn m f c
 claim-told m f c p =
     let q = others p in
     let r = others q in
     let s = others r in
-    let large = none_first (any_from (2 ^ m)) c.roots (polynomialsOf f c) (failed s) in
+    let large = none_first (any_from (2 ^ m)) c.roots (polynomials_of f c) (failed s) in
     let e = each_of (λ p. eqb (length p) 0) f c (failed q) in
     let l = each_of (λ p. ltb (suc limit) (length p)) f c (failed r) in
     let k = each_of (any_from (2 ^ m)) f c large.1 in
@@ -112,6 +112,6 @@ claim-told m f c p =
       cofactor = sent-of m c.cofactor e.cofactor l.cofactor k.cofactor;
       first = sent-of m c.first e.first l.first k.first;
       second = sent-of m c.second e.second l.second k.second;
-      elements = (allBelow-exactly (2 ^ m) c.roots).0 (not-false (all_below (2 ^ m) c.roots) large.0);
+      elements = (all_below-exactly (2 ^ m) c.roots).0 (not-false (all_below (2 ^ m) c.roots) large.0);
       nonzero = failed (others s);
     }

@@ -14,8 +14,8 @@ use Rattle.refusals.proofs.Numbers.{by_number, refused-back}
 use Rattle.refusals.proofs.Order.{accepted, given-decides, passed-decides, refused}
 use Rattle.refusals.proofs.Told.{way_back}
 use Rattle.claim_rules.specs.Claims.{Claim}
-use Rattle.claim_rules.specs.Admitting.{claimTests}
-use Rattle.claims.specs.Calls.{Checks, toldChecked}
+use Rattle.claim_rules.specs.Admitting.{claim_tests}
+use Rattle.claims.specs.Calls.{Checks, told_checked}
 use Rattle.claims.specs.declared.Checked.{Checked}
 use Rattle.claims.specs.declared.Checked.TheVariants.{Accepted, No, NotChecked}
 
@@ -24,24 +24,24 @@ pub exclusive : {ts : List (ℕ × Bool)} {k : ℕ} → Passed ts → Given k ts
 exclusive p g = let z : ◌≡◌ {A = ℕ} 0 1 = sym (passed-decides (λ k. 1) 0 p) ∙ given-decides (λ k. 1) 0 g in omega arith
 
 -- the answer that a number and its values stand for
-checkedOf : ℕ × List ℕ → Checked
-checkedOf (k, []) = by_number NotChecked No k
-checkedOf (k, zero ∷ more) = No
-checkedOf (k, suc n ∷ more) = Accepted
+checked_of : ℕ × List ℕ → Checked
+checked_of (k, []) = by_number NotChecked No k
+checked_of (k, zero ∷ more) = No
+checked_of (k, suc n ∷ more) = Accepted
 
 -- it takes number and value back
-checked-back : (r : Checked) → checkedOf (toldChecked r) ≡ r
-unfolding checkedOf
+checked-back : (r : Checked) → checked_of (told_checked r) ≡ r
+unfolding checked_of
 checked-back Accepted = refl
 checked-back No = refl
 checked-back (NotChecked k) = refused-back NotChecked No k
 
-pub checked-told : (r s : Checked) → toldChecked r ≡ toldChecked s → r ≡ s
-checked-told = way_back toldChecked checkedOf checked-back
+pub checked-told : (r s : Checked) → told_checked r ≡ told_checked s → r ≡ s
+checked-told = way_back told_checked checked_of checked-back
 
 module _ (m : ℕ) (f : List ℕ) (c : Claim) where
   -- an answer tells the outcome that the tests decide, with its own value
-  pub check-outcome : (r : Checked) → Checks m f c r → toldChecked r ≡ outcome (claimTests m f c) (toldChecked r).1
+  pub check-outcome : (r : Checked) → Checks m f c r → told_checked r ≡ outcome (claim_tests m f c) (told_checked r).1
   check-outcome Accepted h = sym (accepted (1 ∷ []) h.0)
   check-outcome No h = sym (accepted (0 ∷ []) h.0)
   check-outcome (NotChecked k) h = sym (refused [] h)

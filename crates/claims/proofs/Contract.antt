@@ -19,12 +19,12 @@ use Rattle.refusals.specs.Order.Passed.{none}
 use Rattle.refusals.proofs.Order.{passes}
 use Rattle.algebra.specs.Trial.{All}
 use Rattle.slices.specs.Bounded.{any_from}
-use Rattle.slices.proofs.Bounded.{allBelow-exactly}
-use Rattle.field.specs.Field.{multiplicitiesAt, rootsAt}
+use Rattle.slices.proofs.Bounded.{all_below-exactly}
+use Rattle.field.specs.Field.{multiplicities_at, roots_at}
 use Rattle.input.specs.Limit.{limit}
 use Rattle.input.specs.Polynomials.{PolynomialIn}
 use Rattle.claim_rules.specs.Claims.{Claim, SameClaim}
-use Rattle.claim_rules.specs.Admitting.{ClaimIn, Sent, claimTests, polynomialsOf, someOf}
+use Rattle.claim_rules.specs.Admitting.{ClaimIn, Sent, claim_tests, polynomials_of, some_of}
 use Rattle.claim_rules.proofs.Complete.{claim-complete}
 use Rattle.claim_rules.proofs.Claimable.{claim-exists}
 use Rattle.claim_rules.proofs.ZerosIgnored.{acceptable-same, same_back}
@@ -37,7 +37,7 @@ use Rattle.claims.proofs.Coincide.{check-coincide, exclusive}
 -- ---- an accepted claim
 
 -- CHECK-COMPLETE: the list is the complete list of the roots, with their multiplicities
-pub check-complete : (m : ℕ) (f : List ℕ) (c : Claim) → Checks m f c Accepted → (c.roots ≡ rootsAt m f) × (c.times ≡ multiplicitiesAt m f)
+pub check-complete : (m : ℕ) (f : List ℕ) (c : Claim) → Checks m f c Accepted → (c.roots ≡ roots_at m f) × (c.times ≡ multiplicities_at m f)
 check-complete m f c h = claim-complete (claim-told m f c h.0) h.1
 
 -- ---- every polynomial has one
@@ -45,23 +45,23 @@ check-complete m f c h = claim-complete (claim-told m f c h.0) h.1
 -- a polynomial that may be sent
 sent-passes : {m : ℕ} {p : List ℕ} → Sent m p → (eqb (length p) 0 ≡ false) × (ltb (suc limit) (length p) ≡ false) × (any_from (2 ^ m) p ≡ false)
 sent-passes {m} {p} s =
-    (ne_eqb (length p) 0 (λ e. omega (arith, s.some)), le-ltb (suc limit) (length p) s.few, ap not ((allBelow-exactly (2 ^ m) p).1 s.small))
+    (ne_eqb (length p) 0 (λ e. omega (arith, s.some)), le-ltb (suc limit) (length p) s.few, ap not ((all_below-exactly (2 ^ m) p).1 s.small))
 
 -- none of several lists passes a test
-none_of : (t : List ℕ → Bool) (p : List ℕ) (ps : List (List ℕ)) → t p ≡ false → someOf t ps ≡ false → someOf t (p ∷ ps) ≡ false
-unfolding someOf
+none_of : (t : List ℕ → Bool) (p : List ℕ) (ps : List (List ℕ)) → t p ≡ false → some_of t ps ≡ false → some_of t (p ∷ ps) ≡ false
+unfolding some_of
 none_of t p ps e s = ap₂ (λ x y. cond x true y) e s
 
-nobody : (t : List ℕ → Bool) → someOf t [] ≡ false
-unfolding someOf
+nobody : (t : List ℕ → Bool) → some_of t [] ≡ false
+unfolding some_of
 nobody t = refl
 
 four : (t : List ℕ → Bool) (f : List ℕ) (c : Claim) → t f ≡ false → t c.cofactor ≡ false → t c.first ≡ false → t c.second ≡ false
-    → someOf t (polynomialsOf f c) ≡ false
+    → some_of t (polynomials_of f c) ≡ false
 four t f c a b d e = none_of t f _ a (none_of t c.cofactor _ b (none_of t c.first _ d (none_of t c.second [] e (nobody t))))
 
 -- what is let in
-pub claim-passes : (m : ℕ) (f : List ℕ) (c : Claim) → ClaimIn m f c → Passed (claimTests m f c)
+pub claim-passes : (m : ℕ) (f : List ℕ) (c : Claim) → ClaimIn m f c → Passed (claim_tests m f c)
 claim-passes m f c i =
     let a = sent-passes i.given in
     let b = sent-passes i.cofactor in
@@ -70,7 +70,7 @@ claim-passes m f c i =
     passes (ap not i.field)
     (passes (four (λ p. eqb (length p) 0) f c a.0 b.0 d.0 e.0)
     (passes (four (λ p. ltb (suc limit) (length p)) f c a.1 b.1 d.1 e.1)
-    (passes (none_of (any_from (2 ^ m)) c.roots _ (ap not ((allBelow-exactly (2 ^ m) c.roots).1 i.elements)) (four (any_from (2 ^ m)) f c a.2 b.2 d.2 e.2))
+    (passes (none_of (any_from (2 ^ m)) c.roots _ (ap not ((all_below-exactly (2 ^ m) c.roots).1 i.elements)) (four (any_from (2 ^ m)) f c a.2 b.2 d.2 e.2))
     (passes i.nonzero none))))
 
 -- CHECK-EXISTS: every nonzero polynomial within the limit has a claim that is accepted

@@ -16,14 +16,14 @@ use lib.ListN.{length, length-append, length-replicate, replicate, take}
 use lib.Seq.{get_or-take, length-take-le, take_at}
 use Rattle.algebra.specs.Multiplicity.{total}
 use Rattle.algebra.specs.Trial.{All}
-use Rattle.algebra.specs.Polynomial.{Below, coef, fromRoots, mul}
+use Rattle.algebra.specs.Polynomial.{Below, coef, from_roots, mul}
 use Rattle.algebra.proofs.StaysBelow.{take_below}
 use Rattle.field.specs.Field.{G}
 use Rattle.poly.specs.Monic.{TopIs}
 use Rattle.input.specs.Limit.{limit}
 use Rattle.input.proofs.Fields.{known-field}
 use Rattle.input.proofs.Polynomials.{nonzero-place}
-use Rattle.claim_rules.specs.Claims.{Acceptable, Claim, SameClaim, claim_of, combined, spreadOut}
+use Rattle.claim_rules.specs.Claims.{Acceptable, Claim, SameClaim, claim_of, combined, spread_out}
 use Rattle.claim_rules.specs.Admitting.{ClaimIn, Sent}
 use Rattle.claim_rules.proofs.Complete.{given-in}
 use Rattle.claim_rules.proofs.Degrees.{Degrees, degrees-add}
@@ -37,12 +37,12 @@ use Rattle.claims.proofs.Weighing.{differ}
 -- ---- `weigh_lent` and `weigh`
 
 -- the first equation fails
-pub weigh-no : {m : ℕ} {f list h u v : List ℕ} {a : Bool} → Decides a (coef (G m) (mul (G m) (fromRoots (G m) list) h) ≡ coef (G m) f) → not a ≡ true
+pub weigh-no : {m : ℕ} {f list h u v : List ℕ} {a : Bool} → Decides a (coef (G m) (mul (G m) (from_roots (G m) list) h) ≡ coef (G m) f) → not a ≡ true
     → Decides false (Weighs m f list h u v)
 weigh-no {m} {f} {list} {h} {u} {v} {a} d t = record { yes = λ y. absurd (differ (sym y)); no = λ y w. d.no (not-true a t) w.product }
 
 -- the second decides
-pub weigh-says : {m : ℕ} {f list h u v : List ℕ} {a b : Bool} → Decides a (coef (G m) (mul (G m) (fromRoots (G m) list) h) ≡ coef (G m) f) → not a ≡ false
+pub weigh-says : {m : ℕ} {f list h u v : List ℕ} {a b : Bool} → Decides a (coef (G m) (mul (G m) (from_roots (G m) list) h) ≡ coef (G m) f) → not a ≡ false
     → Decides b (coef (G m) (combined m (claim_of [] [] h u v)) ≡ coef (G m) (1 ∷ [])) → Decides b (Weighs m f list h u v)
 weigh-says {m} {f} {list} {h} {u} {v} {a} d t e = record {
   yes = λ y. record { product = d.yes (not-false a t); coprime = e.yes y };
@@ -68,7 +68,7 @@ module _ {m : ℕ} {f roots es h u v : List ℕ} (g : ClaimIn m f (claim_of root
 
   degrees-fit : Acceptable m f claim → DegreesFit m n d es
   degrees-fit k =
-      let t : Degrees (G m) (spreadOut roots es) h (n - 1) = degrees-add (known-field m g.field).numbers (spreadOut roots es) f h (n - 1)
+      let t : Degrees (G m) (spread_out roots es) h (n - 1) = degrees-add (known-field m g.field).numbers (spread_out roots es) f h (n - 1)
       (spread-below (2 ^ m) roots es g.elements) g.given.small g.cofactor.small k.product (a.nonzero positive) (λ i l. a.above i (omega arith)) in
       let low : t.degree < d = elim (dec_le d t.degree) [ yes l ↦ absurd (t.leading (b.above t.degree l)) | no l ↦ omega arith ] in
       let high : d - 1 ≤ t.degree = elim (dec_le (d - 1) t.degree) [ yes l ↦ l | no l ↦ absurd (b.nonzero (omega arith) (t.above (d - 1) (omega arith))) ] in
@@ -116,12 +116,12 @@ module _ {m : ℕ} {f roots es h u v : List ℕ} (g : ClaimIn m f (claim_of root
       room = told.sum ∙ sym (length-take-le (n - d) (replicate limit 0) (omega (arith, judge-few, length-replicate {A = ℕ} limit 0)));
     }
 
-    module _ {y : List ℕ} (i : y ≡ spreadOut roots es) (rest : List ℕ) where
+    module _ {y : List ℕ} (i : y ≡ spread_out roots es) (rest : List ℕ) where
       -- the list stands at the front
       front_long : length y ≡ n - d
       front_long = ap length i ∙ spread-length roots es told.paired ∙ told.sum
 
-      front : take (n - d) (y ++ rest) ≡ spreadOut roots es
+      front : take (n - d) (y ++ rest) ≡ spread_out roots es
       front = take_at y rest (n - d) front_long ∙ i
 
       pub judge-fits : n - d ≤ length (y ++ rest)
@@ -166,8 +166,8 @@ module _ {m : ℕ} {f roots es h u v : List ℕ} (g : ClaimIn m f (claim_of root
       -- and say
       pub judge-says : {c : Bool} → Decides c (Weighs m f (take (n - d) (y ++ rest)) (take d h) u v) → Decides c (Acceptable m f claim)
       judge-says {c} w =
-          let same : (l : List ℕ) → l ≡ spreadOut roots es → coef (G m) (mul (G m) (fromRoots (G m) l) (take d h)) ≡ coef (G m) (mul (G m) (fromRoots (G m) (spreadOut roots es)) (take d h)) =
-          λ l j. ap (λ x. coef (G m) (mul (G m) (fromRoots (G m) x) (take d h))) j in
+          let same : (l : List ℕ) → l ≡ spread_out roots es → coef (G m) (mul (G m) (from_roots (G m) l) (take d h)) ≡ coef (G m) (mul (G m) (from_roots (G m) (spread_out roots es)) (take d h)) =
+          λ l j. ap (λ x. coef (G m) (mul (G m) (from_roots (G m) x) (take d h))) j in
           record {
             yes = λ y.
                 let k = w.yes y in

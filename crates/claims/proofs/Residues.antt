@@ -11,14 +11,14 @@ use native.Mathlib.Omega.{arith}
 use lib.Bits.{bit_xor, xor_comm, xor_zero_r}
 use lib.ListN.{get_or, length, replicate, set}
 use Rattle.algebra.specs.Field.{Laws, OnNumbers, Ops}
-use Rattle.algebra.specs.Polynomial.{Below, add, coef, fieldPoly, frobenius, linear}
-use Rattle.algebra.specs.Routines.{frobeniusMod, monic, quotientDigit, rem, shiftIn}
+use Rattle.algebra.specs.Polynomial.{Below, add, coef, field_poly, frobenius, linear}
+use Rattle.algebra.specs.Routines.{frobenius_mod, monic, quotient_digit, rem, shift_in}
 use Rattle.algebra.proofs.Series.{Series, plus, plus-back, plus_comm, times}
 use Rattle.algebra.proofs.Congruence.{Cong, cong-add}
-use Rattle.algebra.proofs.Crossing.{Elem, by-elements, elems, laws, low, low-add, low-fieldPoly, low-frobeniusMod, low-rem}
+use Rattle.algebra.proofs.Crossing.{Elem, by-elements, elems, laws, low, low-add, low-field_poly, low-frobenius_mod, low-rem}
 use Rattle.algebra.proofs.Divisibility.{quotient-exact}
 use Rattle.algebra.proofs.Division.{division-unique, rem-cong}
-use Rattle.algebra.proofs.Lengths.{length-add, length-frobeniusMod, length-rem}
+use Rattle.algebra.proofs.Lengths.{length-add, length-frobenius_mod, length-rem}
 use Rattle.algebra.proofs.Modular.{frobenius-mod}
 use Rattle.algebra.proofs.NumberElements.{zero-mul}
 use Rattle.field.specs.Field.{G}
@@ -38,34 +38,34 @@ module _ {K : Type 0} {F : Ops K} (L : Laws F) where
       (sym (plus-back L R Q) ∙ plus_comm L R (plus F R Q) ∙ ap (λ w. plus F w R) (plus_comm L R Q ∙ sym (quotient-exact L c)))).1
 
   -- z^(2^m) and z, both reduced
-  residue-up : (m : ℕ) (p : List K) → let z : List K = rem F p (linear F F.zero) in add F (frobeniusMod F p m z) z ≡ rem F p (fieldPoly F m)
+  residue-up : (m : ℕ) (p : List K) → let z : List K = rem F p (linear F F.zero) in add F (frobenius_mod F p m z) z ≡ rem F p (field_poly F m)
   residue-up m p =
       let x : List K = linear F F.zero in
       let z : List K = rem F p x in
-      let w : List K = frobeniusMod F p m z in
+      let w : List K = frobenius_mod F p m z in
       let n : length z ≡ length p = length-rem F p x in
-      let k : length w ≡ length p = length-frobeniusMod F p m z n in
-      rem-of-cong p (fieldPoly F m) (add F w z) (length-add F w z (omega arith) ∙ n)
+      let k : length w ≡ length p = length-frobenius_mod F p m z n in
+      rem-of-cong p (field_poly F m) (add F w z) (length-add F w z (omega arith) ∙ n)
       (cong-add L (frobenius F m x) w x z (frobenius-mod L p m x z (rem-cong L p x)) (rem-cong L p x))
 
 module _ {H : Ops ℕ} {q : ℕ} (N : OnNumbers H q) where
   -- the same of numbers below q
   residue-sum : (m : ℕ) (p : List ℕ) → Below q p
-      → add H (frobeniusMod H p m (rem H p (linear H H.zero))) (rem H p (linear H H.zero)) ≡ rem H p (fieldPoly H m)
+      → add H (frobenius_mod H p m (rem H p (linear H H.zero))) (rem H p (linear H H.zero)) ≡ rem H p (field_poly H m)
   residue-sum m =
-      by-elements N (λ p. add H (frobeniusMod H p m (rem H p (linear H H.zero))) (rem H p (linear H H.zero)) ≡ rem H p (fieldPoly H m)) λ u.
+      by-elements N (λ p. add H (frobenius_mod H p m (rem H p (linear H H.zero))) (rem H p (linear H H.zero)) ≡ rem H p (field_poly H m)) λ u.
       let x : List (Elem q) = linear (elems N) (elems N).zero in
       let z : List (Elem q) = rem (elems N) u x in
       let zs : low N z ≡ rem H (low N u) (linear H H.zero) = low-rem N u x in
-      ap₂ (add H) (ap (frobeniusMod H (low N u) m) (sym zs) ∙ sym (low-frobeniusMod N u m z)) (sym zs)
-      ∙ sym (low-add N (frobeniusMod (elems N) u m z) z) ∙ ap (low N) (residue-up (laws N) m u) ∙ low-rem N u (fieldPoly (elems N) m)
-      ∙ ap (rem H (low N u)) (low-fieldPoly N m)
+      ap₂ (add H) (ap (frobenius_mod H (low N u) m) (sym zs) ∙ sym (low-frobenius_mod N u m z)) (sym zs)
+      ∙ sym (low-add N (frobenius_mod (elems N) u m z) z) ∙ ap (low N) (residue-up (laws N) m u) ∙ low-rem N u (field_poly (elems N) m)
+      ∙ ap (rem H (low N u)) (low-field_poly N m)
 
 -- ---- z reduced
 
 -- by z + c it is c
 rem-z-one : (m : ℕ) → OnNumbers (G m) (2 ^ m) → (c : ℕ) → c < 2 ^ m → rem (G m) (c ∷ []) (0 ∷ 1 ∷ []) ≡ c ∷ []
-unfolding rem shiftIn quotientDigit add
+unfolding rem shift_in quotient_digit add
 rem-z-one m N c h =
     ap (λ x. bit_xor 0 ((G m).mul x c) ∷ []) (ap (bit_xor 1) (zero-mul N c h) ∙ xor_zero_r 1)
     ∙ ap (λ x. bit_xor 0 x ∷ []) (N.one-mul c h) ∙ ap (λ x. x ∷ []) (xor_comm 0 c ∙ xor_zero_r c)
@@ -94,17 +94,17 @@ add-c m (x ∷ y ∷ f) c h = absurd (omega (arith, h))
 
 -- ---- what the code leaves
 
-module _ {m : ℕ} {ls ts p w₀ w : List ℕ} (g : Startable m ls ts p w₀) (e : w ≡ frobeniusMod (G m) p m (rem (G m) p (0 ∷ 1 ∷ []))) where
+module _ {m : ℕ} {ls ts p w₀ w : List ℕ} (g : Startable m ls ts p w₀) (e : w ≡ frobenius_mod (G m) p m (rem (G m) p (0 ∷ 1 ∷ []))) where
   -- as long as p
   pub residue-long : length w ≡ length p
-  residue-long = ap length e ∙ length-frobeniusMod (G m) p m (rem (G m) p (0 ∷ 1 ∷ [])) (length-rem (G m) p (0 ∷ 1 ∷ []))
+  residue-long = ap length e ∙ length-frobenius_mod (G m) p m (rem (G m) p (0 ∷ 1 ∷ [])) (length-rem (G m) p (0 ∷ 1 ∷ []))
 
   -- where z reduced is r
-  residue-with : (r : List ℕ) → rem (G m) p (0 ∷ 1 ∷ []) ≡ r → add (G m) w r ≡ rem (G m) p (fieldPoly (G m) m)
+  residue-with : (r : List ℕ) → rem (G m) p (0 ∷ 1 ∷ []) ≡ r → add (G m) w r ≡ rem (G m) p (field_poly (G m) m)
   residue-with r s = ap₂ (add (G m)) e (sym s) ∙ residue-sum (numbers_of g.tables) m p g.small
 
   -- of degree 0
-  pub residue-none : length p ≡ 0 → w ≡ rem (G m) p (fieldPoly (G m) m)
+  pub residue-none : length p ≡ 0 → w ≡ rem (G m) p (field_poly (G m) m)
   residue-none z =
       let none : rem (G m) p (0 ∷ 1 ∷ []) ≡ [] = empty (rem (G m) p (0 ∷ 1 ∷ [])) (length-rem (G m) p (0 ∷ 1 ∷ []) ∙ z) in
       sym (add-nil m w) ∙ residue-with [] none
@@ -114,7 +114,7 @@ module _ {m : ℕ} {ls ts p w₀ w : List ℕ} (g : Startable m ls ts p w₀) (e
       empty (x ∷ l) h = absurd (omega (arith, h))
 
   -- of degree 1
-  pub residue-one : length p ≡ 1 → set w 0 (bit_xor (get_or w 0 0) (get_or p 0 0)) ≡ rem (G m) p (fieldPoly (G m) m)
+  pub residue-one : length p ≡ 1 → set w 0 (bit_xor (get_or w 0 0) (get_or p 0 0)) ≡ rem (G m) p (field_poly (G m) m)
   residue-one z = add-c m w (get_or p 0 0) (residue-long ∙ z) ∙ residue-with (get_or p 0 0 ∷ []) (single p z g.small)
     where
       single : (p : List ℕ) → length p ≡ 1 → Below (2 ^ m) p → rem (G m) p (0 ∷ 1 ∷ []) ≡ get_or p 0 0 ∷ []
@@ -123,7 +123,7 @@ module _ {m : ℕ} {ls ts p w₀ w : List ℕ} (g : Startable m ls ts p w₀) (e
       single (c ∷ d ∷ p) h b = absurd (omega (arith, h))
 
   -- of a higher degree
-  pub residue-more : 2 ≤ length p → set w 1 (bit_xor (get_or w 1 0) 1) ≡ rem (G m) p (fieldPoly (G m) m)
+  pub residue-more : 2 ≤ length p → set w 1 (bit_xor (get_or w 1 0) 1) ≡ rem (G m) p (field_poly (G m) m)
   residue-more z =
       let n : ℕ = length p - 2 in
       let two : length w ≡ suc (suc n) = omega (arith, residue-long) in

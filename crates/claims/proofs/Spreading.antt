@@ -11,7 +11,7 @@ use native.Mathlib.Omega.{arith}
 use lib.ListN.{drop, drop_of_length-le, get_or, get_or-replicate, length, length-append, length-drop, length-replicate, replicate, set, take}
 use lib.Seq.{drop-cons, length-take-le, take_all, take_at}
 use Rattle.slices.proofs.Filling.{Filling, fill_on}
-use Rattle.claim_rules.specs.Claims.{spreadOut}
+use Rattle.claim_rules.specs.Claims.{spread_out}
 use Rattle.claim_rules.proofs.Products.{spread-length}
 use Rattle.claims.specs.Checking.{Spreadable}
 
@@ -22,22 +22,22 @@ fill-turn x {s₀} {s} {i} f h = fill_on f h (sym (get_or-replicate (length s₀
 pub record Spreading (roots es list₀ list : List ℕ) (at i : ℕ) : Type 0 where
   pub paired : length roots ≡ length es
   pub long : length list ≡ length list₀
-  pub rest : at + length (spreadOut (drop i roots) (drop i es)) ≡ length list
-  pub done : spreadOut roots es ≡ take at list ++ spreadOut (drop i roots) (drop i es)
+  pub rest : at + length (spread_out (drop i roots) (drop i es)) ≡ length list
+  pub done : spread_out roots es ≡ take at list ++ spread_out (drop i roots) (drop i es)
 
 pub spread-from : {roots es list : List ℕ} → Spreadable roots es list → Spreading roots es list list 0 0
 spread-from {roots} {es} {list} s = record { paired = s.paired; long = refl; rest = omega (arith, spread-length roots es s.paired, s.room); done = refl }
 
 module _ {roots es list₀ list : List ℕ} {at i : ℕ} (s : Spreading roots es list₀ list at i) (l : i < length roots) where
   -- the next root, and what is behind it
-  here : spreadOut (drop i roots) (drop i es) ≡ replicate (get_or es i 0) (get_or roots i 0) ++ spreadOut (drop (suc i) roots) (drop (suc i) es)
-  unfolding spreadOut
-  here = ap₂ (λ (a : List ℕ) (b : List ℕ). spreadOut a b) (drop-cons roots i 0 l) (drop-cons es i 0 (omega (arith, s.paired)))
+  here : spread_out (drop i roots) (drop i es) ≡ replicate (get_or es i 0) (get_or roots i 0) ++ spread_out (drop (suc i) roots) (drop (suc i) es)
+  unfolding spread_out
+  here = ap₂ (λ (a : List ℕ) (b : List ℕ). spread_out a b) (drop-cons roots i 0 l) (drop-cons es i 0 (omega (arith, s.paired)))
 
   -- it fits
   pub spread-fits : at + get_or es i 0 ≤ length list
   spread-fits =
-      omega (arith, s.rest, ap length here, length-append (replicate (get_or es i 0) (get_or roots i 0)) (spreadOut (drop (suc i) roots) (drop (suc i) es)), length-replicate (get_or es i 0) (get_or roots i 0))
+      omega (arith, s.rest, ap length here, length-append (replicate (get_or es i 0) (get_or roots i 0)) (spread_out (drop (suc i) roots) (drop (suc i) es)), length-replicate (get_or es i 0) (get_or roots i 0))
 
   -- there is a number beside it
   pub spread-reads : i < length es
@@ -50,7 +50,7 @@ module _ {roots es list₀ list : List ℕ} {at i : ℕ} (s : Spreading roots es
       let n : ℕ = get_or es i 0 in
       let r : ℕ = get_or roots i 0 in
       let fits : at + n ≤ length list = spread-fits in
-      let ahead : List ℕ = spreadOut (drop (suc i) roots) (drop (suc i) es) in
+      let ahead : List ℕ = spread_out (drop (suc i) roots) (drop (suc i) es) in
       let k : length (take (end - at) (drop at list)) ≡ n = length-take-le (end - at) (drop at list) (omega (arith, length-drop at list)) ∙ omega arith in
       let ys : y ≡ replicate n r = e ∙ ap (λ j. replicate j r) k in
       let yl : length y ≡ n = ap length ys ∙ length-replicate n r in
@@ -64,15 +64,15 @@ module _ {roots es list₀ list : List ℕ} {at i : ℕ} (s : Spreading roots es
       record {
         paired = s.paired;
         long = same ∙ s.long;
-        rest = ap (λ j. end + length (spreadOut (drop j roots) (drop j es))) (add-one i)
+        rest = ap (λ j. end + length (spread_out (drop j roots) (drop j es))) (add-one i)
             ∙ omega (arith, s.rest, ap length here, length-append (replicate n r) ahead, length-replicate n r);
         done = s.done ∙ ap (λ u. take at list ++ u) here ∙ sym (append_assoc (take at list) (replicate n r) ahead)
-            ∙ ap₂ (λ u j. u ++ spreadOut (drop j roots) (drop j es)) (ap (λ u. take at list ++ u) (sym ys) ∙ sym taken) (sym (add-one i));
+            ∙ ap₂ (λ u j. u ++ spread_out (drop j roots) (drop j es)) (ap (λ u. take at list ++ u) (sym ys) ∙ sym taken) (sym (add-one i));
       }
 
 -- nothing lies ahead
-pub spread_end : {roots es list₀ list : List ℕ} {at i : ℕ} → Spreading roots es list₀ list at i → length roots ≤ i → list ≡ spreadOut roots es
-unfolding spreadOut
+pub spread_end : {roots es list₀ list : List ℕ} {at i : ℕ} → Spreading roots es list₀ list at i → length roots ≤ i → list ≡ spread_out roots es
+unfolding spread_out
 spread_end {roots} {es} {list₀} {list} {at} {i} s h =
-    let gone : spreadOut (drop i roots) (drop i es) ≡ [] = ap (λ (u : List ℕ). spreadOut u (drop i es)) (drop_of_length-le roots h) in
+    let gone : spread_out (drop i roots) (drop i es) ≡ [] = ap (λ (u : List ℕ). spread_out u (drop i es)) (drop_of_length-le roots h) in
     sym (s.done ∙ ap₂ (λ u v. u ++ v) (take_all at list (omega (arith, s.rest, ap length gone))) gone ∙ append-nil list)

@@ -2,7 +2,7 @@
 --   Decides      a test tells whether a statement holds
 --   tallies      roots from k on, strictly ascending, with numbers of at least 1 beside them that add up to n
 --   Spreadable   the roots spread by the numbers beside them fill a list
---   productRoom  the words of a product
+--   product_room  the words of a product
 --   Rowable, Productive   a product can be added to the front of sum
 --   Expandable   the product of z + r over a list, and h, can be compared with f
 --   Residual, Residue   the remainder of z^(2^m) + z by h can be written to w, and the monic multiple of h to low, and
@@ -13,13 +13,13 @@
 use Rattle.std.specs.Prelude.{◌≡◌, ◌≢◌, Bool, true, false, ◌&&◌, List, [], ◌∷◌, ℕ, suc, ◌+◌, ◌-◌, ◌*◌, ◌^◌, ◌≤◌, eqb, leb, ltb, get_or, length, take}
 use Rattle.std.proofs.Math.Option.{some}
 use Rattle.algebra.specs.Multiplicity.{total}
-use Rattle.algebra.specs.Polynomial.{Below, coef, fromRoots, mul}
+use Rattle.algebra.specs.Polynomial.{Below, coef, from_roots, mul}
 use Rattle.algebra.specs.Routines.{norm}
 use Rattle.field.specs.Rows.{known}
 use Rattle.field.specs.Field.{G}
 use Rattle.poly.specs.Lent.{Lent, LogRow}
 use Rattle.input.specs.Limit.{limit}
-use Rattle.claim_rules.specs.Claims.{claim_of, combined, fieldRemainder}
+use Rattle.claim_rules.specs.Claims.{claim_of, combined, field_remainder}
 use Rattle.claim_rules.specs.Admitting.{Sent}
 
 pub record Decides (b : Bool) (P : Type 0) : Type 0 where
@@ -38,8 +38,8 @@ pub record Spreadable (roots es list : List ℕ) : Type 0 where
   pub room : total es ≡ length list
 
 -- the words of a product of two polynomials within the limit
-abbrev pub productRoom : ℕ
-productRoom = 2 * suc limit
+abbrev pub product_room : ℕ
+product_room = 2 * suc limit
 
 -- one factor as a row of logs
 pub record Rowable (m : ℕ) (ls ts p row sum : List ℕ) : Type 0 where
@@ -77,7 +77,7 @@ pub record Residue (m : ℕ) (h : List ℕ) (d : ℕ) (low w : List ℕ) : Type 
   pub inside : d ≤ length low
   pub within : d ≤ length w
   pub made : norm (G m) (length h) h ≡ some (take d low)
-  pub front : take d w ≡ fieldRemainder m h
+  pub front : take d w ≡ field_remainder m h
 
 -- with room of its own
 pub record Combinable (m : ℕ) (ls ts h u v : List ℕ) : Type 0 where
@@ -102,5 +102,5 @@ pub record Weighable (m : ℕ) (f list h u v : List ℕ) : Type 0 where
 
 -- the two equations of a claim
 pub record Weighs (m : ℕ) (f list h u v : List ℕ) : Type 0 where
-  pub product : coef (G m) (mul (G m) (fromRoots (G m) list) h) ≡ coef (G m) f
+  pub product : coef (G m) (mul (G m) (from_roots (G m) list) h) ≡ coef (G m) f
   pub coprime : coef (G m) (combined m (claim_of [] [] h u v)) ≡ coef (G m) (1 ∷ [])

@@ -8,14 +8,14 @@ ghost use Rattle.std.specs.Prelude.{◌≡◌, [], ◌∷◌, ◌≤◌, suc, �
 ghost use Rattle.refusals.specs.Admitting.{Admits};
 ghost use Rattle.slices.specs.Bounded.{any_from};
 ghost use Rattle.algebra.specs.Multiplicity.{total};
-ghost use Rattle.algebra.specs.Polynomial.{add, coef, fieldPoly, fromRoots, mul};
+ghost use Rattle.algebra.specs.Polynomial.{add, coef, field_poly, from_roots, mul};
 ghost use Rattle.algebra.specs.Routines.{rem};
 ghost use Rattle.field.specs.Field.{G};
 ghost use Rattle.poly.specs.Lent.{Lent, held};
 ghost use Rattle.poly_powers.specs.Powers.{Startable};
 ghost use Rattle.input.specs.Limit.{limit};
-ghost use Rattle.claim_rules.specs.Claims.{Acceptable, claim_of, combined, spreadOut};
-ghost use Rattle.claim_rules.specs.Admitting.{ClaimIn, claimTests, someOf};
+ghost use Rattle.claim_rules.specs.Claims.{Acceptable, claim_of, combined, spread_out};
+ghost use Rattle.claim_rules.specs.Admitting.{ClaimIn, claim_tests, some_of};
 ghost use Rattle.claims.specs.Calls.{Checks};
 ghost use Rattle.claims.specs.Checking.{Decides, tallies, Spreadable, Rowable, Productive, Expandable};
 ghost use Rattle.claims.specs.Checking.{Residual, Residue, Combinable, Weighable, Weighs};
@@ -43,7 +43,7 @@ pub enum Checked {
 
 // One of the polynomials has no coefficients.
 fn some_empty(f: &[u16], h: &[u16], u: &[u16], v: &[u16]) -> bool
-    ensures { result ≡ someOf (λ p. eqb (length p) 0)
+    ensures { result ≡ some_of (λ p. eqb (length p) 0)
         (f.now ∷ h.now ∷ u.now ∷ v.now ∷ []) }
 {
     if f.len() == 0 {
@@ -60,7 +60,7 @@ fn some_empty(f: &[u16], h: &[u16], u: &[u16], v: &[u16]) -> bool
 
 // One of the polynomials has too many coefficients.
 fn some_long(f: &[u16], h: &[u16], u: &[u16], v: &[u16]) -> bool
-    ensures { result ≡ someOf (λ p. ltb (suc limit) (length p))
+    ensures { result ≡ some_of (λ p. ltb (suc limit) (length p))
         (f.now ∷ h.now ∷ u.now ∷ v.now ∷ []) }
 {
     if COEFFICIENTS < f.len() {
@@ -77,7 +77,7 @@ fn some_long(f: &[u16], h: &[u16], u: &[u16], v: &[u16]) -> bool
 
 // One of the roots or coefficients is the bound or above.
 fn some_large(bound: u16, roots: &[u16], f: &[u16], h: &[u16], u: &[u16], v: &[u16]) -> bool
-    ensures { result ≡ someOf (any_from bound)
+    ensures { result ≡ some_of (any_from bound)
         (roots.now ∷ f.now ∷ h.now ∷ u.now ∷ v.now ∷ []) }
 {
     if !all_below(roots, bound) {
@@ -97,7 +97,7 @@ fn some_large(bound: u16, roots: &[u16], f: &[u16], h: &[u16], u: &[u16], v: &[u
 
 // Refusals 1 to 5. The multiplicities are not looked at.
 fn admit(m: u16, f: &[u16], roots: &[u16], h: &[u16], u: &[u16], v: &[u16]) -> Admission
-    ensures { Admits (claimTests m f.now
+    ensures { Admits (claim_tests m f.now
         (claim_of roots.now [] h.now u.now v.now)) result }
 {
     let found = row_of(m);
@@ -167,7 +167,7 @@ fn fill(x: u16, s: &mut [u16])
 // Writes each root as many times as the number beside it says, which fills the list.
 pub fn spread_into(roots: &[u16], mults: &[u16], list: &mut [u16])
     requires { Spreadable roots.now mults.now list.old }
-    ensures { list.new ≡ spreadOut roots.now mults.now }
+    ensures { list.new ≡ spread_out roots.now mults.now }
 {
     let mut at = 0;
     let mut i = 0;
@@ -207,7 +207,7 @@ pub fn add_product(m: u16, logs: &[u16], antilogs: &[u16], p: &[u16], q: &[u16],
 // The product of z + r over the list, and h, is f: added to f it leaves nothing.
 fn expands(m: u16, logs: &[u16], antilogs: &[u16], list: &[u16], h: &[u16], f: &[u16]) -> bool
     requires { Expandable m logs.now antilogs.now list.now h.now f.now }
-    ensures { Decides result (coef (G m) (mul (G m) (fromRoots (G m) list.now) h.now)
+    ensures { Decides result (coef (G m) (mul (G m) (from_roots (G m) list.now) h.now)
         ≡ coef (G m) f.now) }
 {
     let mut p = [0u16; COEFFICIENTS];
@@ -223,7 +223,7 @@ fn expands(m: u16, logs: &[u16], antilogs: &[u16], list: &[u16], h: &[u16], f: &
 // added, which modulo z + c is c.
 fn field_remainder(m: u16, logs: &[u16], antilogs: &[u16], p: &[u16], w: &mut [u16])
     requires { Startable m logs.now antilogs.now p.now w.old }
-    ensures { w.new ≡ rem (G m) p.now (fieldPoly (G m) m) }
+    ensures { w.new ≡ rem (G m) p.now (field_poly (G m) m) }
 {
     z_power(m, logs, antilogs, p, m, w);
     if p.len() == 0 {

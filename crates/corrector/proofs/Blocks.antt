@@ -18,7 +18,7 @@ use Rattle.algebra.specs.Field.{power}
 use Rattle.algebra.specs.Polynomial.{eval}
 use Rattle.algebra.specs.Trial.{keep, up_from}
 use Rattle.field.proofs.Digits.{bit-cases}
-use Rattle.corrector_code.specs.Word.{differs, difference, bit, wordValue, places}
+use Rattle.corrector_code.specs.Word.{differs, difference, bit, word_value, places}
 use Rattle.corrector_code.specs.Word as words
 use Rattle.corrector_code.specs.Eleven.{F11}
 use Rattle.corrector.specs.Correcting.{bit_at, polynomial, distance, IsBlock, IsCodeword, Within}
@@ -50,7 +50,7 @@ digit-bit : (n : ℕ) → n % 2 ≡ bit F11 (eqb (n % 2) 1)
 digit-bit n = bit-cases (λ d. d ≡ bit F11 (eqb d 1)) refl refl n
 
 -- the value of a word's polynomial is that of its bits
-pub value-bits : (word : List ℕ) (x : ℕ) → eval F11 (polynomial word) x ≡ wordValue F11 (bits_of word) x
+pub value-bits : (word : List ℕ) (x : ℕ) → eval F11 (polynomial word) x ≡ word_value F11 (bits_of word) x
 unfolding polynomial bits_of
 value-bits word x = ap (λ (p : List ℕ). eval F11 p x) (each (up_from 0 2047))
   where
@@ -72,15 +72,15 @@ both-map f g [] = refl
 both-map f g (j ∷ l) = ap (λ r. differs (f j) (g j) ∷ r) (both-map f g l)
 
 -- distance by counting is that of the bits
-pub distance-bits : (word v : List ℕ) → distance word v ≡ words.bitDistance (bits_of word) (bits_of v)
+pub distance-bits : (word v : List ℕ) → distance word v ≡ words.bit_distance (bits_of word) (bits_of v)
 unfolding distance bits_of
 distance-bits word v = ap length (sym
     (ap (places 0) (both-map (set word) (set v) (up_from 0 2047))
     ∙ places-kept (λ j. differs (set word j) (set v j)) 0 2047
-    ∙ ap (λ t. keep t (up_from 0 2047)) (fun_ext (λ j. digits-differ (digitsAt word j) (digitsAt v j)))))
+    ∙ ap (λ t. keep t (up_from 0 2047)) (fun_ext (λ j. digits-differ (digits_at word j) (digits_at v j)))))
   where
-    digitsAt : List ℕ → ℕ → ℕ
-    digitsAt w j = get_or w (j / 8) 0 / 2 ^ (j % 8)
+    digits_at : List ℕ → ℕ → ℕ
+    digits_at w j = get_or w (j / 8) 0 / 2 ^ (j % 8)
 
     set : List ℕ → ℕ → Bool
     set w j = eqb (bit_at w j) 1

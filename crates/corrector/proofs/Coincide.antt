@@ -18,10 +18,10 @@ use Rattle.refusals.proofs.Numbers.{refused-back, accepted-back}
 use Rattle.refusals.proofs.Told.{told-by}
 use Rattle.field.specs.Field.{field_at}
 use Rattle.field.proofs.Digits.{bit-cases}
-use Rattle.corrector_code.specs.Digits.{bytesNumber as numberOfBytes, digits}
+use Rattle.corrector_code.specs.Digits.{bytes_number as number_of_bytes, digits}
 use Rattle.corrector_code.proofs.Eleven.{gen11}
 use Rattle.corrector_code.proofs.Numbers as codes
-use Rattle.corrector.specs.Correcting.{distance, IsBlock, Within, Corrects, toldCorrected}
+use Rattle.corrector.specs.Correcting.{distance, IsBlock, Within, Corrects, told_corrected}
 use Rattle.corrector.specs.Correcting.Corrects.{no_block, no-strength, none-near, mended}
 use Rattle.corrector.specs.declared.Corrected.{Corrected}
 use Rattle.corrector.specs.declared.Corrected.TheVariants.{Flips, NotCorrected}
@@ -59,8 +59,8 @@ digits-told (suc n) x y a b e =
     omega arith
 
 -- bytes are told by their number
-bytes-told : (l m : List ℕ) → length l ≡ length m → Bytes l → Bytes m → numberOfBytes l ≡ numberOfBytes m → l ≡ m
-unfolding numberOfBytes
+bytes-told : (l m : List ℕ) → length l ≡ length m → Bytes l → Bytes m → number_of_bytes l ≡ number_of_bytes m → l ≡ m
+unfolding number_of_bytes
 bytes-told [] [] e u v h = refl
 bytes-told [] (y ∷ m) e u v h = absurd (omega arith)
 bytes-told (x ∷ l) [] e u v h = absurd (omega arith)
@@ -68,18 +68,18 @@ bytes-told (x ∷ l) (y ∷ m) e u v h =
     let a = u 0 in
     let b = v 0 in
     let p : x ≡ y = omega arith in
-    let q : numberOfBytes l ≡ numberOfBytes m = omega arith in
+    let q : number_of_bytes l ≡ number_of_bytes m = omega arith in
     ap₂ (λ c r. c ∷ r) p (bytes-told l m (omega arith) (λ k. u (suc k)) (λ k. v (suc k)) q)
 
 -- the number of a block
-block-number : {l : List ℕ} → IsBlock l → numberOfBytes l < 2 ^ 2047
+block-number : {l : List ℕ} → IsBlock l → number_of_bytes l < 2 ^ 2047
 block-number {l} b = block-below l b.long (last-small b) b.bytes
 
 -- a block is told by its bits
 pub block-told : (l m : List ℕ) → IsBlock l → IsBlock m → bits_of l ≡ bits_of m → l ≡ m
 block-told l m a b e =
     bytes-told l m (a.long ∙ sym b.long) a.bytes b.bytes
-    (digits-told 2047 (numberOfBytes l) (numberOfBytes m) (block-number a) (block-number b)
+    (digits-told 2047 (number_of_bytes l) (number_of_bytes m) (block-number a) (block-number b)
     (sym (bits-digits l a.bytes) ∙ e ∙ bits-digits m b.bytes))
 
 -- NO TWO CODEWORDS QUALIFY
@@ -111,11 +111,11 @@ outcomes-coincide {t} {word} (mended b s x) (mended c r y) =
     let e = within-unique x y in (ap (λ (v : List ℕ). (0, distance word v ∷ [])) e, e)
 
 -- two answers with one number and value are one; the value is the number of flips
-pub corrected-told : (r s : Corrected) → toldCorrected r ≡ toldCorrected s → r ≡ s
-corrected-told = told-by toldCorrected (λ o. o.0) NotCorrected (λ o. Flips (get_or o.1 0 0))
+pub corrected-told : (r s : Corrected) → told_corrected r ≡ told_corrected s → r ≡ s
+corrected-told = told-by told_corrected (λ o. o.0) NotCorrected (λ o. Flips (get_or o.1 0 0))
     (elim [ Flips n ↦ accepted-back NotCorrected (Flips n) | NotCorrected k ↦ refused-back NotCorrected (Flips 0) k ])
 
 -- the answer and the lent word
 pub correct-coincide : {t : ℕ} {word : List ℕ} (r s : Corrected) (a b : List ℕ)
-    → Corrects t word (toldCorrected r) a → Corrects t word (toldCorrected s) b → (r ≡ s) × (a ≡ b)
+    → Corrects t word (told_corrected r) a → Corrects t word (told_corrected s) b → (r ≡ s) × (a ≡ b)
 correct-coincide r s a b x y = let h = outcomes-coincide x y in (corrected-told r s h.0, h.1)

@@ -20,30 +20,30 @@ use lib.Dec.{T, eqb, eqb→eq, eqb_refl}
 use lib.ListN.{length, get_or, length-map}
 use lib.Pow.{pow-lt, pow_pos}
 use Rattle.algebra.specs.Field.{power}
-use Rattle.algebra.specs.Polynomial.{coef, isRoot}
+use Rattle.algebra.specs.Polynomial.{coef, is_root}
 use Rattle.algebra.specs.Trial.{All, Distinct, up_from}
 use Rattle.field.specs.Field.{field_at, mul, inverse}
 use Rattle.field.proofs.Generator.{one_below}
-use Rattle.corrector_code.specs.Word.{difference, places, bitDistance, total, wordValue, locators}
+use Rattle.corrector_code.specs.Word.{difference, places, bit_distance, total, word_value, locators}
 use Rattle.corrector_code.specs.Key.{register}
-use Rattle.corrector_code.specs.Correct.{syndromes, locatorOf, markedAt, flips, Passes}
-use Rattle.corrector_code.specs.Digits.{bytesNumber, digits, valueOfDigits}
+use Rattle.corrector_code.specs.Correct.{syndromes, locator_of, marked_at, flips, Passes}
+use Rattle.corrector_code.specs.Digits.{bytes_number, digits, value_of_digits}
 use Rattle.corrector_code.specs.Eleven.{F11}
 use Rattle.corrector_code.proofs.Eleven.{gen11}
 use Rattle.corrector_code.proofs.Odd.{half}
 use Rattle.corrector_code.proofs.Same.{register-same}
-use Rattle.corrector_code.proofs.Complete.{map-upFrom-at, difference-difference}
+use Rattle.corrector_code.proofs.Complete.{map-up_from-at, difference-difference}
 use Rattle.corrector_code.proofs.Flips.{digits-xor}
 use Rattle.corrector_code.proofs.Numbers.{syndrome-square, passes-within, passes-exactly}
 use Rattle.corrector_code.proofs.Values.{value-digits}
-use Rattle.corrector_generator.specs.Generators.{oddPower}
+use Rattle.corrector_generator.specs.Generators.{odd_power}
 use Rattle.corrector_remainder.specs.Remainder.{RestAt}
 use Rattle.corrector_remainder.proofs.Strengths.{zero-values}
 use Rattle.corrector_syndromes.specs.Syndromes.{OddValues}
 use Rattle.corrector_syndromes.proofs.Remainders.{odd-syndromes}
 use Rattle.corrector_locator.specs.Under.{PowerSums}
 use Rattle.corrector_locator.proofs.Fine.{register-fine}
-use Rattle.corrector.specs.Places.{xorOver, placesOf, sum_at, Apart, Acceptable, named, flipAll}
+use Rattle.corrector.specs.Places.{xor_over, places_of, sum_at, Apart, Acceptable, named, flip_all}
 use Rattle.corrector.specs.Correcting.{IsBlock, IsStrength, Within}
 use Rattle.corrector.specs.Correcting as blocks
 use Rattle.corrector.proofs.Bits.{bits_of, bits-digits, block-below, length_digits, word_back, Flipped, flipped}
@@ -51,8 +51,8 @@ use Rattle.corrector.proofs.Blocks.{Near, make-block, last-small, within-bits, w
 use Rattle.corrector.proofs.Marking.{places-distinct, places-member, places-below}
 use Rattle.corrector.proofs.Reordering.{same_length, same-xor}
 
-total-over : (g h : ℕ → ℕ) (l : List ℕ) → total F11 g (map h l) ≡ xorOver (λ j. g (h j)) l
-unfolding total xorOver
+total-over : (g h : ℕ → ℕ) (l : List ℕ) → total F11 g (map h l) ≡ xor_over (λ j. g (h j)) l
+unfolding total xor_over
 total-over g h [] = refl
 total-over g h (j ∷ l) = ap (bit_xor (g (h j))) (total-over g h l)
 
@@ -62,8 +62,8 @@ length-row k zero = refl
 length-row k (suc n) = ap suc (length-row (suc k) n)
 
 -- the highest byte of a number that is small
-top_byte : (bytes : List ℕ) (n : ℕ) → length bytes ≡ suc n → get_or bytes n 0 * 256 ^ n ≤ bytesNumber bytes
-unfolding bytesNumber
+top_byte : (bytes : List ℕ) (n : ℕ) → length bytes ≡ suc n → get_or bytes n 0 * 256 ^ n ≤ bytes_number bytes
+unfolding bytes_number
 top_byte [] n e = absurd (omega arith)
 top_byte (b ∷ bs) zero e = omega arith
 top_byte (b ∷ bs) (suc n) e =
@@ -78,13 +78,13 @@ factor x p N a b = go (dec_lt x 128)
     go (yes h) = h
     go (no h) = let m : 128 * p ≤ x * p = mul-le-mul_right p (let l : 128 ≤ x = omega arith in l) in absurd (let z : ⊥ = omega arith in z)
 
-last-below : (bytes : List ℕ) → length bytes ≡ 256 → bytesNumber bytes < 2 ^ 2047 → get_or bytes 255 0 < 128
-last-below bytes e h = factor (get_or bytes 255 0) (256 ^ 255) (bytesNumber bytes) (top_byte bytes 255 e) h
+last-below : (bytes : List ℕ) → length bytes ≡ 256 → bytes_number bytes < 2 ^ 2047 → get_or bytes 255 0 < 128
+last-below bytes e h = factor (get_or bytes 255 0) (256 ^ 255) (bytes_number bytes) (top_byte bytes 255 e) h
 
-xor_below : (js : List ℕ) → All (λ j. j < 2047) js → xorOver (λ j. 2 ^ j) js < 2 ^ 2047
-unfolding xorOver
+xor_below : (js : List ℕ) → All (λ j. j < 2047) js → xor_over (λ j. 2 ^ j) js < 2 ^ 2047
+unfolding xor_over
 xor_below [] a = pow_pos 2047
-xor_below (j ∷ js) a = xor_lt 2047 (2 ^ j) (xorOver (λ j. 2 ^ j) js) (pow-lt a.0) (xor_below js a.1)
+xor_below (j ∷ js) a = xor_lt 2047 (2 ^ j) (xor_over (λ j. 2 ^ j) js) (pow-lt a.0) (xor_below js a.1)
 
 -- the word with no places
 none : List Bool → List Bool
@@ -148,7 +148,7 @@ module _ (word : List ℕ) (t : ℕ) (b : IsBlock word) (st : IsStrength t) wher
   w = bits_of word
 
   abbrev W : ℕ
-  W = bytesNumber word
+  W = bytes_number word
 
   small : W < 2 ^ 2047
   small = block-below word b.long (last-small b) b.bytes
@@ -161,7 +161,7 @@ module _ (word : List ℕ) (t : ℕ) (b : IsBlock word) (st : IsStrength t) wher
   long-w = ap length w-digits ∙ length_digits 2047 W
 
   -- a word whose odd syndromes are 0
-  silent-within : ((k : ℕ) → k < t → wordValue F11 w (power F11 2 (suc (2 * k))) ≡ 0) → Within t word word
+  silent-within : ((k : ℕ) → k < t → word_value F11 w (power F11 2 (suc (2 * k))) ≡ 0) → Within t word word
   unfolding w total
   silent-within z =
       within_block b (subst (Near t w) (none_both w) (passes-within (field_at 11) gen11 t w (none w) (length_none w) (few, sum)))
@@ -170,18 +170,18 @@ module _ (word : List ℕ) (t : ℕ) (b : IsBlock word) (st : IsStrength t) wher
       few = subst (λ (l : List ℕ). length l ≤ t) (sym (places-none 0 w)) (omega arith)
 
       sum : (i : ℕ) → i < t
-          → total F11 (λ x. power F11 x (suc (2 * i))) (locators F11 2 (none w)) ≡ wordValue F11 w (power F11 2 (suc (2 * i)))
+          → total F11 (λ x. power F11 x (suc (2 * i))) (locators F11 2 (none w)) ≡ word_value F11 w (power F11 2 (suc (2 * i)))
       sum i l =
           ap (λ (m : List ℕ). total F11 (λ x. power F11 x (suc (2 * i))) (map (power F11 2) m)) (places-none 0 w)
           ∙ sym (z i l)
 
   -- A WORD WHOSE VALUES AT a, a^3, .., a^(2t-1) ARE 0 IS A CODEWORD
-  pub zero-within : ((k : ℕ) → k < t → valueOfDigits (field_at 11) (oddPower k) W ≡ 0) → Within t word word
-  unfolding oddPower
+  pub zero-within : ((k : ℕ) → k < t → value_of_digits (field_at 11) (odd_power k) W ≡ 0) → Within t word word
+  unfolding odd_power
   zero-within z =
       silent-within
-      (λ k h. ap (λ (x : List Bool). wordValue F11 x (power F11 2 (suc (2 * k)))) w-digits
-      ∙ value-digits (field_at 11) gen11.monic (one_below (field_at 11) gen11) (oddPower k) 2047 W small ∙ z k h)
+      (λ k h. ap (λ (x : List Bool). word_value F11 x (power F11 2 (suc (2 * k)))) w-digits
+      ∙ value-digits (field_at 11) gen11.monic (one_below (field_at 11) gen11) (odd_power k) 2047 W small ∙ z k h)
 
   -- SO IS ONE WHOSE REMAINDER AT STRENGTH t IS 0
   pub rest-zero-within : RestAt t W 0 → Within t word word
@@ -189,8 +189,8 @@ module _ (word : List ℕ) (t : ℕ) (b : IsBlock word) (st : IsStrength t) wher
 
   module _ {n : ℕ} {odd : List ℕ} (r : RestAt t W n) (v : OddValues n odd) where
     -- the first t odd syndromes
-    odd-at : (k : ℕ) → k < t → get_or odd k 0 ≡ wordValue F11 w (power F11 2 (suc (2 * k)))
-    odd-at k h = odd-syndromes W st.most small r v k h ∙ ap (λ (x : List Bool). wordValue F11 x (power F11 2 (suc (2 * k)))) (sym w-digits)
+    odd-at : (k : ℕ) → k < t → get_or odd k 0 ≡ word_value F11 w (power F11 2 (suc (2 * k)))
+    odd-at k h = odd-syndromes W st.most small r v k h ∙ ap (λ (x : List Bool). word_value F11 x (power F11 2 (suc (2 * k)))) (sym w-digits)
 
     -- ---- places that a test tells
 
@@ -207,7 +207,7 @@ module _ (word : List ℕ) (t : ℕ) (b : IsBlock word) (st : IsStrength t) wher
       unfolding f
       count = same_length test 2047 js distinct told
 
-      sums : (g : ℕ → ℕ) → xorOver g (places 0 f) ≡ xorOver g js
+      sums : (g : ℕ → ℕ) → xor_over g (places 0 f) ≡ xor_over g js
       unfolding f
       sums g = same-xor test 2047 js distinct told g
 
@@ -227,91 +227,91 @@ module _ (word : List ℕ) (t : ℕ) (b : IsBlock word) (st : IsStrength t) wher
       }
 
       after : List ℕ
-      after = flipAll js word
+      after = flip_all js word
 
       fl : Flipped js word after
       unfolding after
       fl = flipped js word below b.long b.bytes
 
-      after_small : bytesNumber after < 2 ^ 2047
+      after_small : bytes_number after < 2 ^ 2047
       after_small =
           subst (λ (m : ℕ). m < 2 ^ 2047) (sym fl.number)
-          (xor_lt 2047 W (xorOver (λ j. 2 ^ j) js) small (xor_below js below))
+          (xor_lt 2047 W (xor_over (λ j. 2 ^ j) js) small (xor_below js below))
 
       bits-after : bits_of after ≡ difference w f
       bits-after =
-          bits-digits after fl.bytes_fit ∙ ap (digits 2047) fl.number ∙ digits-xor 2047 W (xorOver (λ j. 2 ^ j) js)
+          bits-digits after fl.bytes_fit ∙ ap (digits 2047) fl.number ∙ digits-xor 2047 W (xor_over (λ j. 2 ^ j) js)
           ∙ ap₂ difference (sym w-digits) (ap (digits 2047) (sym (sums (λ j. 2 ^ j))) ∙ word_back f long-f)
 
-      flips-within : Acceptable odd t js → Within t word (flipAll js word)
+      flips-within : Acceptable odd t js → Within t word (flip_all js word)
       unfolding w after
       flips-within a =
           within_block (make-block fl.long fl.bytes_fit (last-below after fl.long after_small))
           (subst (Near t w) (sym bits-after) (passes-within (field_at 11) gen11 t w f (long-f ∙ sym long-w) (passes a)))
 
-      flips-distance : length js ≡ blocks.distance word (flipAll js word)
+      flips-distance : length js ≡ blocks.distance word (flip_all js word)
       unfolding w after
       flips-distance = sym
-          (distance-bits word after ∙ ap (bitDistance w) bits-after
+          (distance-bits word after ∙ ap (bit_distance w) bits-after
           ∙ ap (λ (x : List Bool). length (places 0 x)) (difference-difference w f (long-f ∙ sym long-w)) ∙ count)
 
     -- ---- any places
 
     module _ (js : List ℕ) (a : Apart js) where
       -- FLIPPING ACCEPTABLE PLACES MAKES THE CODEWORD
-      pub any-within : Acceptable odd t js → Within t word (flipAll js word)
+      pub any-within : Acceptable odd t js → Within t word (flip_all js word)
       any-within = flips-within js (standing js) a.distinct (stands_at js a.below) a.below
 
       -- by so many flips
-      pub any-distance : length js ≡ blocks.distance word (flipAll js word)
+      pub any-distance : length js ≡ blocks.distance word (flip_all js word)
       any-distance = flips-distance js (standing js) a.distinct (stands_at js a.below) a.below
 
     -- ---- the places that the register names
 
     module _ (s : List ℕ) (ps : PowerSums odd s) where
-      sum-at : (f k : ℕ) → k ≤ f → 0 < k → k ≤ 2 * t → get_or s k 0 ≡ wordValue F11 w (power F11 2 k)
+      sum-at : (f k : ℕ) → k ≤ f → 0 < k → k ≤ 2 * t → get_or s k 0 ≡ word_value F11 w (power F11 2 k)
       sum-at zero k l p q = absurd (omega arith)
       sum-at (suc f) k l p q =
           ⊎_elim (λ h. even h.0 h.1 (sum-at f h.0 (omega (arith, h.1)) (omega (arith, h.1)) (omega (arith, h.1))))
-          (λ h. ap (λ (m : ℕ). get_or s m 0) h.1 ∙ ps.odd_is h.0 (omega (arith, h.1, st.most)) ∙ odd-at h.0 (omega (arith, h.1)) ∙ ap (λ (m : ℕ). wordValue F11 w (power F11 2 m)) (sym h.1)) (half k)
+          (λ h. ap (λ (m : ℕ). get_or s m 0) h.1 ∙ ps.odd_is h.0 (omega (arith, h.1, st.most)) ∙ odd-at h.0 (omega (arith, h.1)) ∙ ap (λ (m : ℕ). word_value F11 w (power F11 2 m)) (sym h.1)) (half k)
         where
-          even : (i : ℕ) → k ≡ 2 * i → get_or s i 0 ≡ wordValue F11 w (power F11 2 i) → get_or s k 0 ≡ wordValue F11 w (power F11 2 k)
+          even : (i : ℕ) → k ≡ 2 * i → get_or s i 0 ≡ word_value F11 w (power F11 2 i) → get_or s k 0 ≡ word_value F11 w (power F11 2 k)
           even i h ih =
               let m : k ≡ suc (suc (2 * (i - 1))) = omega arith in
               let c : suc (i - 1) ≡ i = omega arith in
               ap (λ (m : ℕ). get_or s m 0) m ∙ ps.even_is (i - 1) (omega (arith, st.most)) ∙ ap (λ (m : ℕ). mul (field_at 11) (get_or s m 0) (get_or s m 0)) c
-              ∙ ap (λ (x : ℕ). mul (field_at 11) x x) ih ∙ sym (syndrome-square (field_at 11) gen11 w i) ∙ ap (λ (m : ℕ). wordValue F11 w (power F11 2 m)) (sym h)
+              ∙ ap (λ (x : ℕ). mul (field_at 11) x x) ih ∙ sym (syndrome-square (field_at 11) gen11 w i) ∙ ap (λ (m : ℕ). word_value F11 w (power F11 2 m)) (sym h)
 
       coef-at : (k : ℕ) → k ≤ 2 * t → get_or s k 0 ≡ coef F11 (syndromes F11 2 t w) k
       unfolding syndromes
       coef-at zero h = ps.first
       coef-at (suc k) h =
           sum-at 16 (suc k) (let m = st.most in omega arith) (omega arith) h
-          ∙ sym (map-upFrom-at 0 (λ i. wordValue F11 w (power F11 2 i)) 1 (2 * t) k h ∙ ap (λ (m : ℕ). wordValue F11 w (power F11 2 m)) (let z : 1 + k ≡ suc k = omega arith in z))
+          ∙ sym (map-up_from-at 0 (λ i. word_value F11 w (power F11 2 i)) 1 (2 * t) k h ∙ ap (λ (m : ℕ). word_value F11 w (power F11 2 m)) (let z : 1 + k ≡ suc k = omega arith in z))
 
       p : List ℕ
       p = (register F11 8 (λ j. get_or s j 0) t).locator
 
-      p-is : p ≡ locatorOf F11 2 t w
-      unfolding p locatorOf
+      p-is : p ≡ locator_of F11 2 t w
+      unfolding p locator_of
       p-is = ap (λ r. r.locator) (register-same F11 8 (λ j. get_or s j 0) (coef F11 (syndromes F11 2 t w)) t coef-at)
 
       first : get_or p 0 0 ≡ 1
       unfolding p
       first = (register-fine (λ j. get_or s j 0) t).first
 
-      named-is : placesOf p ≡ named s t
+      named-is : places_of p ≡ named s t
       unfolding p named
       named-is = refl
 
       test : ℕ → Bool
-      test j = isRoot F11 p (inverse (field_at 11) (power F11 2 j))
+      test j = is_root F11 p (inverse (field_at 11) (power F11 2 j))
 
       marked-is : map test (up_from 0 2047) ≡ flips F11 2 t w
-      unfolding test flips markedAt
-      marked-is = ap₂ (λ (q : List ℕ) (m : ℕ). map (λ j. isRoot F11 q (inverse (field_at 11) (power F11 2 j))) (up_from 0 m)) p-is (sym long-w)
+      unfolding test flips marked_at
+      marked-is = ap₂ (λ (q : List ℕ) (m : ℕ). map (λ j. is_root F11 q (inverse (field_at 11) (power F11 2 j))) (up_from 0 m)) p-is (sym long-w)
 
-      told : (x : ℕ) → Memᴰ x (placesOf p) ↔ ((x < 2047) × T (test x))
+      told : (x : ℕ) → Memᴰ x (places_of p) ↔ ((x < 2047) × T (test x))
       unfolding test
       told = places-member p first
 
@@ -322,7 +322,7 @@ module _ (word : List ℕ) (t : ℕ) (b : IsBlock word) (st : IsStrength t) wher
           let some : (x : List Bool) × Near t w x = (bits_of v, within-bits h) in
           let q = (passes-exactly (field_at 11) gen11 t w st.most (let l = long-w in omega arith)).1 some in
           never (subst (Acceptable odd t) named-is
-          (acceptable (placesOf p) test (places-distinct p first) told (places-below p first) (subst (Passes F11 2 t w) (sym marked-is) q)))
+          (acceptable (places_of p) test (places-distinct p first) told (places-below p first) (subst (Passes F11 2 t w) (sym marked-is) q)))
 
       -- the places that the register names stand apart
       pub named-apart : Apart (named s t)

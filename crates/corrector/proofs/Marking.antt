@@ -16,17 +16,17 @@ use lib.Dec.{T, eqb, eqb→eq}
 use lib.ListN.{length, get_or, length-map}
 use Rattle.algebra.specs.Field.{power}
 use Rattle.algebra.specs.Trial.{All, Distinct, up_from}
-use Rattle.algebra.specs.Polynomial.{eval, isRoot}
-use Rattle.algebra.proofs.RootList.{rootsOf-distinct, rootsOf-member}
+use Rattle.algebra.specs.Polynomial.{eval, is_root}
+use Rattle.algebra.proofs.RootList.{roots_of-distinct, roots_of-member}
 use Rattle.algebra.proofs.Trial.{all-at}
-use Rattle.field.specs.Field.{field_at, mul, inverse, position, rootsAt}
+use Rattle.field.specs.Field.{field_at, mul, inverse, position, roots_at}
 use Rattle.field.proofs.Ring.{ring, power-lt, power-add}
 use Rattle.field.proofs.Generator.{one_below, inverse-lt, inverse-only, mul-inverse, position-only, position-is, power-order}
-use Rattle.field_elements.specs.Calls.{positionUnder}
+use Rattle.field_elements.specs.Calls.{position_under}
 use Rattle.field_elements.proofs.Mirror.{goppa, of-inverse}
 use Rattle.corrector_code.specs.Eleven.{F11}
 use Rattle.corrector_code.proofs.Eleven.{gen11}
-use Rattle.corrector.specs.Places.{placesOf}
+use Rattle.corrector.specs.Places.{places_of}
 open ring (field_at 11) gen11.monic use {mul_comm, mul-zero-l, mul-zero-r}
 
 -- ---- inverses
@@ -44,10 +44,10 @@ inverse-twice x h l =
     (mul_comm (inverse (field_at 11) x) x ∙ mul-inverse (field_at 11) gen11 x h l)
 
 -- the place of a root is the position of its inverse
-place_is : (r : ℕ) → 0 < r → r < 2048 → positionUnder 1 (field_at 11) r ≡ position (field_at 11) (inverse (field_at 11) r)
+place_is : (r : ℕ) → 0 < r → r < 2048 → position_under 1 (field_at 11) r ≡ position (field_at 11) (inverse (field_at 11) r)
 place_is r h l = of-inverse (field_at 11) gen11 r h l ∙ goppa (field_at 11) (inverse (field_at 11) r) 0 refl
 
-pub place-below : (r : ℕ) → 0 < r → r < 2048 → (positionUnder 1 (field_at 11) r < 2047) × (inverse (field_at 11) (power F11 2 (positionUnder 1 (field_at 11) r)) ≡ r)
+pub place-below : (r : ℕ) → 0 < r → r < 2048 → (position_under 1 (field_at 11) r < 2047) × (inverse (field_at 11) (power F11 2 (position_under 1 (field_at 11) r)) ≡ r)
 place-below r h l =
     let p = position-is (field_at 11) gen11 (inverse (field_at 11) r) (inverse-positive r h l) (inverse-lt (field_at 11) gen11 r) in
     (subst (λ (n : ℕ). n < 2047) (sym (place_is r h l)) p.0, ap (λ (n : ℕ). inverse (field_at 11) (power F11 2 n)) (place_is r h l) ∙ ap (inverse (field_at 11)) p.1 ∙ inverse-twice r h l)
@@ -65,7 +65,7 @@ power-positive j h = go (power F11 2 j) refl
         sum = sym (power-add (field_at 11) gen11.monic (one_below (field_at 11) gen11) 2 j (2047 - j)) ∙ ap (power F11 2) (let e : j + (2047 - j) ≡ 2047 = omega arith in e) ∙ power-order (field_at 11) gen11
     go (suc y) e = omega arith
 
-place-back : (j : ℕ) → j < 2047 → positionUnder 1 (field_at 11) (inverse (field_at 11) (power F11 2 j)) ≡ j
+place-back : (j : ℕ) → j < 2047 → position_under 1 (field_at 11) (inverse (field_at 11) (power F11 2 j)) ≡ j
 place-back j h =
     let x : ℕ = power F11 2 j in
     let p : 0 < x = power-positive j h in
@@ -105,36 +105,36 @@ module _ (p : List ℕ) (first : get_or p 0 0 ≡ 1) where
   at_zero [] e = e
   at_zero (c ∷ q) e = ap₂ bit_xor e (mul-zero-l (eval F11 q 0))
 
-  root-positive : (r : ℕ) → T (isRoot F11 p r) → 0 < r
+  root-positive : (r : ℕ) → T (is_root F11 p r) → 0 < r
   root-positive zero t = let z : ◌≡◌ {A = ℕ} 1 0 = sym (at_zero p first) ∙ eqb→eq (eval F11 p 0) 0 t in absurd (let b : ⊥ = omega arith in b)
   root-positive (suc r) t = omega arith
 
-  root_in : (r : ℕ) → Memᴰ r (rootsAt 11 p) → Nonzero r × T (isRoot F11 p r)
-  root_in r m = let h = (rootsOf-member F11 2048 p r).0 m in ((root-positive r h.1, h.0), h.1)
+  root_in : (r : ℕ) → Memᴰ r (roots_at 11 p) → Nonzero r × T (is_root F11 p r)
+  root_in r m = let h = (roots_of-member F11 2048 p r).0 m in ((root-positive r h.1, h.0), h.1)
 
-  pub roots-nonzero : All Nonzero (rootsAt 11 p)
-  roots-nonzero = all-mem Nonzero (rootsAt 11 p) (λ r m. (root_in r m).0)
+  pub roots-nonzero : All Nonzero (roots_at 11 p)
+  roots-nonzero = all-mem Nonzero (roots_at 11 p) (λ r m. (root_in r m).0)
 
   -- each place once
-  pub places-distinct : Distinct (placesOf p)
-  unfolding placesOf
+  pub places-distinct : Distinct (places_of p)
+  unfolding places_of
   places-distinct =
-      distinct-map (positionUnder 1 (field_at 11)) Nonzero
+      distinct-map (position_under 1 (field_at 11)) Nonzero
       (λ x y a b e. sym (place-below x a.0 a.1).1 ∙ ap (λ (n : ℕ). inverse (field_at 11) (power F11 2 n)) e ∙ (place-below y b.0 b.1).1)
-      (rootsAt 11 p) roots-nonzero (rootsOf-distinct F11 2048 p)
+      (roots_at 11 p) roots-nonzero (roots_of-distinct F11 2048 p)
 
   -- exactly these places
-  pub places-member : (x : ℕ) → Memᴰ x (placesOf p) ↔ ((x < 2047) × T (isRoot F11 p (inverse (field_at 11) (power F11 2 x))))
-  unfolding placesOf
+  pub places-member : (x : ℕ) → Memᴰ x (places_of p) ↔ ((x < 2047) × T (is_root F11 p (inverse (field_at 11) (power F11 2 x))))
+  unfolding places_of
   places-member x = (
-    λ m. let r = map-mem (positionUnder 1 (field_at 11)) (rootsAt 11 p) x m in
+    λ m. let r = map-mem (position_under 1 (field_at 11)) (roots_at 11 p) x m in
         let h = root_in r.0 r.1 in
         let b = place-below r.0 h.0.0 h.0.1 in
-        (subst (λ (n : ℕ). n < 2047) (sym r.2) b.0, subst (λ (n : ℕ). T (isRoot F11 p n)) (sym (ap (λ (n : ℕ). inverse (field_at 11) (power F11 2 n)) r.2 ∙ b.1)) h.1),
+        (subst (λ (n : ℕ). n < 2047) (sym r.2) b.0, subst (λ (n : ℕ). T (is_root F11 p n)) (sym (ap (λ (n : ℕ). inverse (field_at 11) (power F11 2 n)) r.2 ∙ b.1)) h.1),
     λ h. let y : ℕ = inverse (field_at 11) (power F11 2 x) in
-        subst (λ (n : ℕ). Memᴰ n (map (positionUnder 1 (field_at 11)) (rootsAt 11 p))) (place-back x h.0)
-        (mem-map (positionUnder 1 (field_at 11)) (rootsAt 11 p) y ((rootsOf-member F11 2048 p y).1 (inverse-lt (field_at 11) gen11 (power F11 2 x), h.1))),
+        subst (λ (n : ℕ). Memᴰ n (map (position_under 1 (field_at 11)) (roots_at 11 p))) (place-back x h.0)
+        (mem-map (position_under 1 (field_at 11)) (roots_at 11 p) y ((roots_of-member F11 2048 p y).1 (inverse-lt (field_at 11) gen11 (power F11 2 x), h.1))),
   )
 
-  pub places-below : All (λ j. j < 2047) (placesOf p)
-  places-below = all-mem (λ j. j < 2047) (placesOf p) (λ j m. ((places-member j).0 m).0)
+  pub places-below : All (λ j. j < 2047) (places_of p)
+  places-below = all-mem (λ j. j < 2047) (places_of p) (λ j m. ((places-member j).0 m).0)

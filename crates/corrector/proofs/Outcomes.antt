@@ -19,15 +19,15 @@ use lib.Pow.{pow_mono}
 use lib.Seq.{length-take-le}
 use Rattle.field.specs.Field.{field_at}
 use Rattle.field.proofs.Generator.{one_below}
-use Rattle.corrector_code.specs.Digits.{bytesNumber}
+use Rattle.corrector_code.specs.Digits.{bytes_number}
 use Rattle.corrector_code.proofs.Eleven.{gen11}
-use Rattle.corrector_code.proofs.Values.{valueOfDigits-lt}
-use Rattle.corrector_generator.specs.Generators.{oddPower}
+use Rattle.corrector_code.proofs.Values.{value_of_digits-lt}
+use Rattle.corrector_generator.specs.Generators.{odd_power}
 use Rattle.corrector_remainder.specs.Remainder.{rest_of, RestAt}
 use Rattle.corrector_remainder.specs.declared.Rest.{Rest}
 use Rattle.corrector_syndromes.specs.Syndromes.{OddValues}
 use Rattle.corrector_locator.specs.Under.{Under, PowerSums}
-use Rattle.corrector.specs.Places.{named, placesIn, flipAll, HoldsPlaces, Apart, Acceptable, Tried, Either, Located, Tells}
+use Rattle.corrector.specs.Places.{named, places_in, flip_all, HoldsPlaces, Apart, Acceptable, Tried, Either, Located, Tells}
 use Rattle.corrector.specs.Correcting.{distance, IsBlock, IsStrength, Within, Corrects}
 use Rattle.corrector.specs.Correcting.Corrects.{none-near, mended}
 use Rattle.corrector.specs.declared.Places.{Places}
@@ -49,7 +49,7 @@ pub odd-under : {n : ℕ} {odd : List ℕ} → OddValues n odd → Under odd
 odd-under {n} {odd} v k = go (dec_lt k 8)
   where
     go : Dec (k < 8) → get_or odd k 0 < 2048
-    go (yes h) = subst (λ (x : ℕ). x < 2048) (sym (v.value k h)) (valueOfDigits-lt (field_at 11) gen11.monic (one_below (field_at 11) gen11) (oddPower k) n)
+    go (yes h) = subst (λ (x : ℕ). x < 2048) (sym (v.value k h)) (value_of_digits-lt (field_at 11) gen11.monic (one_below (field_at 11) gen11) (odd_power k) n)
     go (no h) = subst (λ (x : ℕ). x < 2048) (sym (past_end odd k (let l = v.long in omega arith))) (omega arith)
 
 -- the remainder fits the table of syndromes
@@ -71,30 +71,30 @@ module _ (word : List ℕ) (t : ℕ) (b : IsBlock word) (st : IsStrength t) wher
   mended-by n after h e = subst (λ (m : ℕ). Corrects t word (0, m ∷ []) after) (sym e) (mended b st h)
 
   -- the remainder is 0
-  pub clean : (r : Rest) → RestAt t (bytesNumber word) (rest_of r) → r.lo ≡ 0 → r.hi ≡ 0
+  pub clean : (r : Rest) → RestAt t (bytes_number word) (rest_of r) → r.lo ≡ 0 → r.hi ≡ 0
       → Corrects t word (0, 0 ∷ []) word
   clean r e x y =
       let z : rest_of r ≡ 0 = ap₂ (λ (h l : ℕ). h * 2 ^ 64 + l) y x in
-      mended-by 0 word (rest-zero-within word t b st (subst (RestAt t (bytesNumber word)) z e))
+      mended-by 0 word (rest-zero-within word t b st (subst (RestAt t (bytes_number word)) z e))
       (sym (distance_self word))
 
-  module _ {n : ℕ} {odd : List ℕ} (e : RestAt t (bytesNumber word) n) (v : OddValues n odd) (p : Places) where
+  module _ {n : ℕ} {odd : List ℕ} (e : RestAt t (bytes_number word) n) (v : OddValues n odd) (p : Places) where
     -- places that are right, flipped
-    right-flipped : (js after : List ℕ) → p.n ≡ length js → placesIn p ≡ js → Apart js → Acceptable odd t js
-        → after ≡ flipAll (placesIn p) word → Corrects t word (0, p.n ∷ []) after
+    right-flipped : (js after : List ℕ) → p.n ≡ length js → places_in p ≡ js → Apart js → Acceptable odd t js
+        → after ≡ flip_all (places_in p) word → Corrects t word (0, p.n ∷ []) after
     right-flipped js after c h a r f =
-        let g : after ≡ flipAll js word = f ∙ ap (λ (x : List ℕ). flipAll x word) h in
+        let g : after ≡ flip_all js word = f ∙ ap (λ (x : List ℕ). flip_all x word) h in
         mended-by p.n after (subst (Within t word) (sym g) (any-within word t b st e v js a r))
         (c ∙ any-distance word t b st e v js a ∙ ap (distance word) (sym g))
 
     -- places that were tried
-    pub tried-flipped : Tried odd t p → (after : List ℕ) → after ≡ flipAll (placesIn p) word → Corrects t word (0, p.n ∷ []) after
+    pub tried-flipped : Tried odd t p → (after : List ℕ) → after ≡ flip_all (places_in p) word → Corrects t word (0, p.n ∷ []) after
     tried-flipped h after =
-        right-flipped (placesIn p) after (sym (length-take-le p.n p.at (let l = h.fits.few in let m = h.fits.long in omega arith))) refl h.apart h.right
+        right-flipped (places_in p) after (sym (length-take-le p.n p.at (let l = h.fits.few in let m = h.fits.long in omega arith))) refl h.apart h.right
 
     module _ (l : Located odd t p) where
       -- good places, flipped
-      pub flipped : (after : List ℕ) → p.good ≡ true → after ≡ flipAll (placesIn p) word → Corrects t word (0, p.n ∷ []) after
+      pub flipped : (after : List ℕ) → p.good ≡ true → after ≡ flip_all (places_in p) word → Corrects t word (0, p.n ∷ []) after
       flipped after g =
           let h = located-yes odd t p l g in
           right-flipped (named h.0 t) after h.2.count h.2.places (named-apart word t b st e v h.0 h.1) h.3

@@ -9,7 +9,7 @@
 --   IsCodeword t word   zero at a^1 to a^(2t)
 --   Within t word v     v is a codeword of strength t that differs from the word in at most t bits
 --   Corrects            THE CONTRACT: the outcome for t and a word, and what the lent word holds afterwards
---   toldCorrected       the number and the value of an answer
+--   told_corrected       the number and the value of an answer
 -- Assumes nothing.
 use Rattle.std.specs.Prelude.{◌≡◌, not, List, [], ◌∷◌, map, ℕ, ◌*◌, ◌/◌, ◌%◌, ◌^◌, ◌≤◌, ◌<◌, eqb, length, get_or}
 use Rattle.algebra.specs.Field.{power}
@@ -61,6 +61,6 @@ pub data Corrects (t : ℕ) (word : List ℕ) : ℕ × List ℕ → List ℕ →
   mended : {v : List ℕ} → IsBlock word → IsStrength t → Within t word v → Corrects t word (0, distance word v ∷ []) v
 
 -- the number and the value of an answer
-abbrev pub toldCorrected : Corrected → ℕ × List ℕ
-toldCorrected (Flips n) = (0, n ∷ [])
-toldCorrected (NotCorrected k) = (number_of k, [])
+abbrev pub told_corrected : Corrected → ℕ × List ℕ
+told_corrected (Flips n) = (0, n ∷ [])
+told_corrected (NotCorrected k) = (number_of k, [])

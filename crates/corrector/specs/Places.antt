@@ -1,14 +1,14 @@
 -- The places that a locator polynomial names, and how they are judged and flipped.
 -- Inner contracts alone cite it: what the corrector promises does not rest on it.
---   xorOver g js               the sum of g(j) over the places j
---   placesOf p                 the positions of the roots of p under the recorders' convention
+--   xor_over g js               the sum of g(j) over the places j
+--   places_of p                 the positions of the roots of p under the recorders' convention
 --   sum_at js i                 the sum of a^(ij) over the places j
 --   Acceptable odd t js        at most t places, whose first t odd power sums are the odd syndromes;  Agrees  only
 --                              that
 --   Apart js                   distinct places of a word
 --   named s t                  the places that the register names after t turns on the power sums s
---   placesIn p                 the places that a struct holds
---   flipAll js bytes           the bytes, with bit j flipped for each place j
+--   places_in p                 the places that a struct holds
+--   flip_all js bytes           the bytes, with bit j flipped for each place j
 --   Findable p list            a locator polynomial, and room for its roots
 --   Placing, Placed            roots whose places are asked for, and their places
 --   Few8 p, HoldsPlaces js p   a struct holds at most eight places of a word; it holds these
@@ -22,8 +22,8 @@ use Rattle.std.specs.Prelude.{◌≡◌, Bool, true, false, List, [], ◌∷◌,
 use Rattle.std.specs.Int.Bits.{bit_xor}
 use Rattle.algebra.specs.Field.{power}
 use Rattle.algebra.specs.Trial.{All, Distinct}
-use Rattle.field.specs.Field.{field_at, rootsAt}
-use Rattle.field_elements.specs.Calls.{positionUnder}
+use Rattle.field.specs.Field.{field_at, roots_at}
+use Rattle.field_elements.specs.Calls.{position_under}
 use Rattle.input.specs.Limit.{limit}
 use Rattle.input.specs.Polynomials.{PolynomialIn}
 use Rattle.corrector_code.specs.Eleven.{F11}
@@ -32,17 +32,17 @@ use Rattle.corrector_locator.specs.Under.{PowerSums}
 use Rattle.corrector.specs.declared.Places.{Places}
 
 -- the sum of g over a list
-unfoldable pub xorOver : (ℕ → ℕ) → List ℕ → ℕ
-xorOver g [] = 0
-xorOver g (j ∷ js) = bit_xor (g j) (xorOver g js)
+unfoldable pub xor_over : (ℕ → ℕ) → List ℕ → ℕ
+xor_over g [] = 0
+xor_over g (j ∷ js) = bit_xor (g j) (xor_over g js)
 
 -- the places of the roots of p
-unfoldable pub placesOf : List ℕ → List ℕ
-placesOf p = map (positionUnder 1 (field_at 11)) (rootsAt 11 p)
+unfoldable pub places_of : List ℕ → List ℕ
+places_of p = map (position_under 1 (field_at 11)) (roots_at 11 p)
 
 -- the i-th power sum of the places
 abbrev pub sum_at : List ℕ → ℕ → ℕ
-sum_at js i = xorOver (λ j. power F11 (power F11 2 j) i) js
+sum_at js i = xor_over (λ j. power F11 (power F11 2 j) i) js
 
 -- what the code flips
 pub record Acceptable (odd : List ℕ) (t : ℕ) (js : List ℕ) : Type 0 where
@@ -56,16 +56,16 @@ pub record Apart (js : List ℕ) : Type 0 where
 
 -- what the register names
 unfoldable pub named : List ℕ → ℕ → List ℕ
-named s t = placesOf (register F11 8 (λ j. get_or s j 0) t).locator
+named s t = places_of (register F11 8 (λ j. get_or s j 0) t).locator
 
 -- what a struct holds
-abbrev pub placesIn : Places → List ℕ
-placesIn p = take p.n p.at
+abbrev pub places_in : Places → List ℕ
+places_in p = take p.n p.at
 
 -- the bytes, with a bit flipped for each place
-unfoldable pub flipAll : List ℕ → List ℕ → List ℕ
-flipAll [] bytes = bytes
-flipAll (j ∷ js) bytes = flipAll js (set bytes (j / 8) (bit_xor (get_or bytes (j / 8) 0) (2 ^ (j % 8))))
+unfoldable pub flip_all : List ℕ → List ℕ → List ℕ
+flip_all [] bytes = bytes
+flip_all (j ∷ js) bytes = flip_all js (set bytes (j / 8) (bit_xor (get_or bytes (j / 8) 0) (2 ^ (j % 8))))
 
 -- a locator polynomial, and room for its roots
 pub record Findable (p list : List ℕ) : Type 0 where
@@ -83,7 +83,7 @@ pub record Placed (roots : List ℕ) (n : ℕ) (p : Places) : Type 0 where
   pub count : p.n ≡ n
   pub good : p.good ≡ true
   pub long : length p.at ≡ 8
-  pub places : (i : ℕ) → i < n → get_or p.at i 0 ≡ positionUnder 1 (field_at 11) (get_or roots i 0)
+  pub places : (i : ℕ) → i < n → get_or p.at i 0 ≡ position_under 1 (field_at 11) (get_or roots i 0)
 
 -- at most eight places of a word
 pub record Few8 (p : Places) : Type 0 where
@@ -98,7 +98,7 @@ Agrees odd t js = (i : ℕ) → i < t → sum_at js (suc (2 * i)) ≡ get_or odd
 -- what a struct of places holds: these
 pub record HoldsPlaces (js : List ℕ) (p : Places) : Type 0 where
   pub count : p.n ≡ length js
-  pub places : placesIn p ≡ js
+  pub places : places_in p ≡ js
   pub fits : Few8 p
 
 -- one of two, by a test
@@ -124,8 +124,8 @@ Located odd t p =
 -- places that were tried: they are those to flip
 pub record Tried (odd : List ℕ) (t : ℕ) (p : Places) : Type 0 where
   pub fits : Few8 p
-  pub apart : Apart (placesIn p)
-  pub right : Acceptable odd t (placesIn p)
+  pub apart : Apart (places_in p)
+  pub right : Acceptable odd t (places_in p)
 
 -- a test's answer
 abbrev pub Tells : Type 0 → Bool → Type 0

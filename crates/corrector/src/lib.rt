@@ -6,15 +6,15 @@
 // one to four wrong bits is guessed by closed formulas, without a table. Where the guess fails Berlekamp's register
 // gives it, and its places decide exactly whether a codeword lies within t bits.
 ghost use Rattle.std.specs.Prelude.{◌≡◌, true, false, ◌+◌, ◌/◌, ◌%◌, ◌<◌, ◌≤◌, ◌^◌, get_or, length};
-ghost use Rattle.field.specs.Field.{field_at, rootsAt};
+ghost use Rattle.field.specs.Field.{field_at, roots_at};
 ghost use Rattle.field.specs.Tables.{Antilogs};
 ghost use Rattle.poly.specs.Monic.{TopIs};
 ghost use Rattle.poly_small.specs.Roots.{Front};
 ghost use Rattle.find_direct.specs.Listing.{Leading};
 ghost use Rattle.corrector_locator.specs.Under.{Under, Tables};
-ghost use Rattle.corrector.specs.Places.{placesOf, sum_at, placesIn, flipAll, Findable, Placing, Placed, Few8};
+ghost use Rattle.corrector.specs.Places.{places_of, sum_at, places_in, flip_all, Findable, Placing, Placed, Few8};
 ghost use Rattle.corrector.specs.Places.{Spotted, Spots, Located, Tells, Agrees, Tried};
-ghost use Rattle.corrector.specs.Correcting.{IsBlock, IsStrength, Corrects, toldCorrected};
+ghost use Rattle.corrector.specs.Correcting.{IsBlock, IsStrength, Corrects, told_corrected};
 
 use corrector_code::{LAST, STRONGEST, WORD};
 use field_constants::tables::antilog11;
@@ -64,7 +64,7 @@ fn nowhere() -> Places
 // are.
 fn resulted_roots(logs: &[u16], antilogs: &[u16], locator: [u16; 9], roots: &mut [u16]) -> u16
     requires { Tables logs.now antilogs.now × Findable locator roots.old }
-    ensures { Front (rootsAt 11 locator) result roots.new }
+    ensures { Front (roots_at 11 locator) result roots.new }
 {
     find11(&locator, logs, antilogs, roots)
 }
@@ -74,7 +74,7 @@ fn resulted_roots(logs: &[u16], antilogs: &[u16], locator: [u16; 9], roots: &mut
 fn low_roots(n: usize, logs: &[u16], antilogs: &[u16], locator: [u16; 9], roots: &mut [u16]) -> u16
     requires { Tables logs.now antilogs.now × Findable locator roots.old
         × TopIs locator n × (2 ≤ n) × (n ≤ 5) }
-    ensures { Front (rootsAt 11 locator) result roots.new }
+    ensures { Front (roots_at 11 locator) result roots.new }
 {
     match direct_roots(n, &locator, roots) {
         Direct::Written(k) => k,
@@ -86,7 +86,7 @@ fn low_roots(n: usize, logs: &[u16], antilogs: &[u16], locator: [u16; 9], roots:
 // trace engine and the plain search take longer at degrees 5 to 8). Returns how many there are.
 fn roots_of(logs: &[u16], antilogs: &[u16], locator: [u16; 9], roots: &mut [u16]) -> u16
     requires { Tables logs.now antilogs.now × Findable locator roots.old }
-    ensures { Front (rootsAt 11 locator) result roots.new }
+    ensures { Front (roots_at 11 locator) result roots.new }
 {
     let n = top(&locator);
     if 2 <= n {
@@ -118,7 +118,7 @@ fn places_of(roots: &[u16], n: u16) -> Places
 // The places that a locator polynomial names, unless there are more than t.
 fn spots_of(logs: &[u16], antilogs: &[u16], locator: [u16; 9], t: u16) -> Places
     requires { Tables logs.now antilogs.now × Under locator × (get_or locator 0 0 ≡ 1) × (t ≤ 8) }
-    ensures { Spotted (placesOf locator) t result }
+    ensures { Spotted (places_of locator) t result }
 {
     let mut roots = [0u16; LIMIT];
     let s = roots_of(logs, antilogs, locator, &mut roots);
@@ -138,7 +138,7 @@ fn around(e: u32) -> u32
 // The sum of a^(k j) over the places j.
 fn power_sum(antilogs: &[u16], p: Places, k: u32) -> u16
     requires { Antilogs (field_at 11) antilogs.now × Few8 p × (k < 100) }
-    ensures { result ≡ sum_at (placesIn p) k }
+    ensures { result ≡ sum_at (places_in p) k }
 {
     let at = p.at;
     let n = p.n as usize;
@@ -155,7 +155,7 @@ fn power_sum(antilogs: &[u16], p: Places, k: u32) -> u16
 // Are the first t odd power sums of the places these?
 fn agree(antilogs: &[u16], p: Places, odd: [u16; 8], t: u32) -> bool
     requires { Antilogs (field_at 11) antilogs.now × Few8 p × (t ≤ 8) }
-    ensures { Tells (Agrees odd t (placesIn p)) result }
+    ensures { Tells (Agrees odd t (places_in p)) result }
 {
     let mut i: u32 = 0;
     while i < t {
@@ -191,7 +191,7 @@ fn locate(odd: [u16; 8], t: u16) -> Places
 // The sum of a^(k j) over the places j, by the constants in place.
 fn sum_in_place(p: Places, k: u32) -> u16
     requires { Few8 p × (k < 100) }
-    ensures { result ≡ sum_at (placesIn p) k }
+    ensures { result ≡ sum_at (places_in p) k }
 {
     let at = p.at;
     let n = p.n as usize;
@@ -208,7 +208,7 @@ fn sum_in_place(p: Places, k: u32) -> u16
 // Are the first t odd power sums of the places these? No table is asked for.
 fn agree_in_place(p: Places, odd: [u16; 8], t: u32) -> bool
     requires { Few8 p × (t ≤ 8) }
-    ensures { Tells (Agrees odd t (placesIn p)) result }
+    ensures { Tells (Agrees odd t (places_in p)) result }
 {
     let mut k: u32 = 0;
     while k < t {
@@ -224,7 +224,7 @@ fn agree_in_place(p: Places, odd: [u16; 8], t: u32) -> bool
 // roots are not found directly.
 fn direct_spots(n: usize, locator: [u16; 5], t: u16) -> Places
     requires { Leading n locator × (2 ≤ n) × (n ≤ 5) × (get_or locator 0 0 ≡ 1) × (t ≤ 8) }
-    ensures { result.good ≡ true → Spots (placesOf locator) t result }
+    ensures { result.good ≡ true → Spots (places_of locator) t result }
 {
     let mut roots = [0u16; 4];
     match direct_roots(n, &locator, &mut roots) {
@@ -291,7 +291,7 @@ fn weight(k: usize) -> u8
 // Flips the bits at the places.
 fn flip(word: &mut [u8], p: Places)
     requires { (length word.old ≡ 256) × Few8 p }
-    ensures { word.new ≡ flipAll (placesIn p) word.old }
+    ensures { word.new ≡ flip_all (places_in p) word.old }
 {
     let at = p.at;
     let n = p.n as usize;
@@ -307,7 +307,7 @@ fn flip(word: &mut [u8], p: Places)
 // A block at a strength: the word becomes the codeword near it, if there is one.
 fn mend_block(strength: u16, word: &mut [u8]) -> Corrected
     requires { IsBlock word.old × IsStrength strength }
-    ensures { Corrects strength word.old (toldCorrected result) word.new }
+    ensures { Corrects strength word.old (told_corrected result) word.new }
 {
     let r = corrector_remainder::remainder_of(strength, word);
     if r.lo == 0 && r.hi == 0 {
@@ -332,7 +332,7 @@ fn mend_block(strength: u16, word: &mut [u8]) -> Corrected
 // Makes the word the codeword of this strength within so many bits of it, if there is one, and tells how many bits
 // were flipped.
 pub fn correct(strength: u16, word: &mut [u8]) -> Corrected
-    ensures { Corrects strength word.old (toldCorrected result) word.new }
+    ensures { Corrects strength word.old (told_corrected result) word.new }
 {
     if word.len() != WORD {
         return Corrected::NotCorrected(Refusal::Block);

@@ -13,8 +13,8 @@ use Rattle.algebra.specs.Field.{Ops, Laws, power}
 use Rattle.algebra.specs.Trial.{up_from}
 use Rattle.algebra.proofs.Series as S
 use Rattle.algebra.proofs.Elements as E
-use Rattle.corrector_code.specs.Word.{difference, places, bitDistance, wordValue, Codeword, CodewordWithin, DistinctPowers}
-use Rattle.corrector_code.specs.Correct.{markedAt, flips, candidate, Passes}
+use Rattle.corrector_code.specs.Word.{difference, places, bit_distance, word_value, Codeword, CodewordWithin, DistinctPowers}
+use Rattle.corrector_code.specs.Correct.{marked_at, flips, candidate, Passes}
 use Rattle.corrector_code.proofs.Words.{length-difference}
 use Rattle.corrector_code.proofs.Words as X
 use Rattle.corrector_code.proofs.Complete.{difference-difference}
@@ -31,7 +31,7 @@ module _ {K : Type 0} {F : Ops K} (L : Laws F) (a : K) (n : ℕ) (o : DistinctPo
   open F use {add as ◌⊕◌}
 
   length-flips : (t : ℕ) (w : List Bool) → length (flips F a t w) ≡ length w
-  unfolding flips markedAt
+  unfolding flips marked_at
   length-flips t w = length-map (up_from 0 (length w)) _ ∙ length-row 0 (length w)
 
   -- what passes is a correction
@@ -43,7 +43,7 @@ module _ {K : Type 0} {F : Ops K} (L : Laws F) (a : K) (n : ℕ) (o : DistinctPo
   passes t w v c = (
     c.2,
     λ i l. sym (X.value-sum L a (suc (2 * i)) (difference w v)) ∙ X.value-difference L w v (power F a (suc (2 * i)))
-        ∙ ap (λ x. wordValue F w (power F a (suc (2 * i))) ⊕ x) (c.1 (suc (2 * i)) (omega arith) (omega arith)) ∙ E.add-zero L _,
+        ∙ ap (λ x. word_value F w (power F a (suc (2 * i))) ⊕ x) (c.1 (suc (2 * i)) (omega arith) (omega arith)) ∙ E.add-zero L _,
   )
 
   -- TURNED AWAY EXACTLY IF NONE EXISTS

@@ -13,11 +13,11 @@ use Prim.Native.Nat.{ℕ, zero, suc, ◌*◌}
 use lib.Dec.{ltb}
 use lib.ListN.{length, take, replicate, get_or, length-map}
 use Rattle.algebra.specs.Field.{Ops, power}
-use Rattle.algebra.specs.Polynomial.{coef, eval, add, isRoot}
+use Rattle.algebra.specs.Polynomial.{coef, eval, add, is_root}
 use Rattle.algebra.specs.Trial.{up_from}
-use Rattle.corrector_code.specs.Word.{places, total, bit, wordValue, locators}
-use Rattle.corrector_code.specs.Key.{Register, conv, shift, plusTimes, mend, turn, register}
-use Rattle.corrector_code.specs.Correct.{syndromes, locatorOf, markedAt, flips}
+use Rattle.corrector_code.specs.Word.{places, total, bit, word_value, locators}
+use Rattle.corrector_code.specs.Key.{Register, conv, shift, plus_times, mend, turn, register}
+use Rattle.corrector_code.specs.Correct.{syndromes, locator_of, marked_at, flips}
 
 -- φ commutes with the operations
 pub record Carries {A B : Type 0} (F : Ops A) (G : Ops B) (φ : A → B) : Type 0 where
@@ -51,11 +51,11 @@ module _ {A B : Type 0} {F : Ops A} {G : Ops B} {φ : A → B} (h : Carries F G 
   bit-carries true = h.one
   bit-carries false = h.zero
 
-  pub value-carries : (w : List Bool) (x : A) → φ (wordValue F w x) ≡ wordValue G w (φ x)
+  pub value-carries : (w : List Bool) (x : A) → φ (word_value F w x) ≡ word_value G w (φ x)
   value-carries w x = eval-carries (map (bit F) w) x ∙ ap (λ p. eval G p (φ x)) (map-map (bit F) φ w ∙ ap (λ f. map f w) (fun_ext bit-carries))
 
-  pub value-pow : (w : List Bool) (a : A) (i : ℕ) → φ (wordValue F w (power F a i)) ≡ wordValue G w (power G (φ a) i)
-  value-pow w a i = value-carries w (power F a i) ∙ ap (wordValue G w) (pow-carries a i)
+  pub value-pow : (w : List Bool) (a : A) (i : ℕ) → φ (word_value F w (power F a i)) ≡ word_value G w (power G (φ a) i)
+  value-pow w a i = value-carries w (power F a i) ∙ ap (word_value G w) (pow-carries a i)
 
   coef-carries : (p : List A) (k : ℕ) → φ (coef F p k) ≡ coef G (map φ p) k
   coef-carries [] k = h.zero
@@ -91,9 +91,9 @@ module _ {A B : Type 0} {F : Ops A} {G : Ops B} {φ : A → B} (h : Carries F G 
   unfolding shift
   shift-carries p = take-carries (length p) (F.zero ∷ F.zero ∷ p) ∙ ap₂ (λ n z. take n (z ∷ z ∷ map φ p)) (sym (length-map p φ)) h.zero
 
-  plusTimes-carries : (p : List A) (d : A) (q : List A) → map φ (plusTimes F p d q) ≡ plusTimes G (map φ p) (φ d) (map φ q)
-  unfolding plusTimes
-  plusTimes-carries p d q = add-carries p (map (F.mul d) q) ∙ ap (add G (map φ p)) (scale-carries d q)
+  plus_times-carries : (p : List A) (d : A) (q : List A) → map φ (plus_times F p d q) ≡ plus_times G (map φ p) (φ d) (map φ q)
+  unfolding plus_times
+  plus_times-carries p d q = add-carries p (map (F.mul d) q) ∙ ap (add G (map φ p)) (scale-carries d q)
 
   cond-carries : (b : Bool) (x y : Register A) → carried φ (cond b x y) ≡ cond b (carried φ x) (carried φ y)
   cond-carries true x y = refl
@@ -107,9 +107,9 @@ module _ {A B : Type 0} {F : Ops A} {G : Ops B} {φ : A → B} (h : Carries F G 
   mend-carries d r =
       cond-carries (ltb r.low r.high) _ _
       ∙ ap₂ (cond (ltb r.low r.high))
-      (make (plusTimes-carries r.locator d r.spare)
+      (make (plus_times-carries r.locator d r.spare)
       (shift-carries (map (F.mul (F.inv d)) r.locator) ∙ ap (shift G) (scale-carries (F.inv d) r.locator ∙ ap (λ x. map (G.mul x) (map φ r.locator)) (h.inv d))))
-      (make (plusTimes-carries r.locator d r.spare) (shift-carries r.spare))
+      (make (plus_times-carries r.locator d r.spare) (shift-carries r.spare))
 
   turn-carries : (s : ℕ → A) (m : ℕ) (r : Register A) → carried φ (turn F s m r) ≡ turn G (λ j. φ (s j)) m (carried φ r)
   unfolding turn
@@ -131,19 +131,19 @@ module _ {A B : Type 0} {F : Ops A} {G : Ops B} {φ : A → B} (h : Carries F G 
 
   syndromes-carry : (a : A) (t : ℕ) (w : List Bool) → map φ (syndromes F a t w) ≡ syndromes G (φ a) t w
   unfolding syndromes
-  syndromes-carry a t w = ap₂ (λ x l. x ∷ l) h.one (map-map (λ i. wordValue F w (power F a i)) φ (up_from 1 (2 * t)) ∙ ap (λ f. map f (up_from 1 (2 * t))) (fun_ext (value-pow w a)))
+  syndromes-carry a t w = ap₂ (λ x l. x ∷ l) h.one (map-map (λ i. word_value F w (power F a i)) φ (up_from 1 (2 * t)) ∙ ap (λ f. map f (up_from 1 (2 * t))) (fun_ext (value-pow w a)))
 
-  locator-carries : (a : A) (t : ℕ) (w : List Bool) → map φ (locatorOf F a t w) ≡ locatorOf G (φ a) t w
-  unfolding locatorOf
+  locator-carries : (a : A) (t : ℕ) (w : List Bool) → map φ (locator_of F a t w) ≡ locator_of G (φ a) t w
+  unfolding locator_of
   locator-carries a t w =
       ap (λ r. r.locator) (register-carries 8 (coef F (syndromes F a t w)) t)
       ∙ ap (λ s. (register G 8 s t).locator) (fun_ext (coef-carries (syndromes F a t w)) ∙ ap (coef G) (syndromes-carry a t w))
 
   pub flips-carry : (a : A) (t : ℕ) (w : List Bool) → flips F a t w ≡ flips G (φ a) t w
-  unfolding flips markedAt
+  unfolding flips marked_at
   flips-carry a t w =
       ap (λ f. map f (up_from 0 (length w)))
-      (fun_ext λ j. h.is_zero _ ∙ ap G.is_zero (eval-carries (locatorOf F a t w) (F.inv (power F a j))
+      (fun_ext λ j. h.is_zero _ ∙ ap G.is_zero (eval-carries (locator_of F a t w) (F.inv (power F a j))
       ∙ ap₂ (eval G) (locator-carries a t w) (h.inv (power F a j) ∙ ap G.inv (pow-carries a j))))
 
   total-carries : (f : A → A) (g : B → B) → ((x : A) → φ (f x) ≡ g (φ x)) → (s : List A) → φ (total F f s) ≡ total G g (map φ s)

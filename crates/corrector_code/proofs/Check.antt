@@ -17,7 +17,7 @@ use Rattle.algebra.specs.Field.{Ops, Laws, power}
 use Rattle.algebra.specs.Polynomial.{eval}
 use Rattle.algebra.proofs.Series as S
 use Rattle.algebra.proofs.Elements as E
-use Rattle.corrector_code.specs.Word.{difference, bit, total, wordValue, Codeword, locators}
+use Rattle.corrector_code.specs.Word.{difference, bit, total, word_value, Codeword, locators}
 use Rattle.corrector_code.proofs.Odd.{half}
 use Rattle.corrector_code.proofs.Sums as Y
 use Rattle.corrector_code.proofs.Words as X
@@ -40,34 +40,34 @@ module _ {K : Type 0} {F : Ops K} (L : Laws F) where
       ∙ add_assoc (x ⊗ x) (x ⊗ y) (x ⊗ y ⊕ y ⊗ y) ∙ ap (λ w. x ⊗ x ⊕ w) (E.add_back L (x ⊗ y) (y ⊗ y))
 
   -- the value of a word at x^2 is the square of its value at x
-  pub value-square : (w : List Bool) (x : K) → wordValue F w (x ⊗ x) ≡ wordValue F w x ⊗ wordValue F w x
+  pub value-square : (w : List Bool) (x : K) → word_value F w (x ⊗ x) ≡ word_value F w x ⊗ word_value F w x
   unfolding eval
   value-square [] x = sym (E.mul-zero L 0#)
   value-square (b ∷ w) x =
       ap₂ ◌⊕◌ (sym (bit-square b)) (ap (λ v. x ⊗ x ⊗ v) (value-square w x) ∙ simp (mul_assoc, E.mul_left_comm L))
-      ∙ sym (sum-square (bit F b) (x ⊗ wordValue F w x))
+      ∙ sym (sum-square (bit F b) (x ⊗ word_value F w x))
 
   pow-double : (a : K) (i : ℕ) → power F a (2 * i) ≡ power F a i ⊗ power F a i
   pow-double a i = let e : 2 * i ≡ i + i = omega arith in ap (power F a) e ∙ O.pow-plus L a i i
 
   -- an even syndrome is a square
-  pub syndrome-square : (w : List Bool) (a : K) (i : ℕ) → wordValue F w (power F a (2 * i)) ≡ wordValue F w (power F a i) ⊗ wordValue F w (power F a i)
-  syndrome-square w a i = ap (wordValue F w) (pow-double a i) ∙ value-square w (power F a i)
+  pub syndrome-square : (w : List Bool) (a : K) (i : ℕ) → word_value F w (power F a (2 * i)) ≡ word_value F w (power F a i) ⊗ word_value F w (power F a i)
+  syndrome-square w a i = ap (word_value F w) (pow-double a i) ∙ value-square w (power F a i)
 
   -- a word that is zero at a, a^3, .., a^(2t-1) is a codeword
-  pub codeword-odd : (a : K) (t : ℕ) (w : List Bool) → ((i : ℕ) → i < t → wordValue F w (power F a (suc (2 * i))) ≡ 0#) → Codeword F a t w
+  pub codeword-odd : (a : K) (t : ℕ) (w : List Bool) → ((i : ℕ) → i < t → word_value F w (power F a (suc (2 * i))) ≡ 0#) → Codeword F a t w
   codeword-odd a t w h n p q = go n n (omega arith) p q
     where
-      go : (f n : ℕ) → n ≤ f → 0 < n → n ≤ 2 * t → wordValue F w (power F a n) ≡ 0#
+      go : (f n : ℕ) → n ≤ f → 0 < n → n ≤ 2 * t → word_value F w (power F a n) ≡ 0#
       go zero n l p q = absurd (omega arith)
       go (suc f) n l p q =
-          ⊎_elim (λ e. ap (λ k. wordValue F w (power F a k)) e.1 ∙ syndrome-square w a e.0
+          ⊎_elim (λ e. ap (λ k. word_value F w (power F a k)) e.1 ∙ syndrome-square w a e.0
           ∙ ap (λ v. v ⊗ v) (go f e.0 (omega (arith, e.1)) (omega (arith, e.1)) (omega (arith, e.1))) ∙ E.mul-zero L 0#)
-          (λ e. ap (λ k. wordValue F w (power F a k)) e.1 ∙ h e.0 (omega (arith, e.1))) (half n)
+          (λ e. ap (λ k. word_value F w (power F a k)) e.1 ∙ h e.0 (omega (arith, e.1))) (half n)
 
   -- THE CHECK: w with the places of f flipped is a codeword where the odd power sums of f's locators are the odd
   -- syndromes of w
-  pub check-right : (a : K) (t : ℕ) (w f : List Bool) → ((i : ℕ) → i < t → total F (λ x. power F x (suc (2 * i))) (locators F a f) ≡ wordValue F w (power F a (suc (2 * i))))
+  pub check-right : (a : K) (t : ℕ) (w f : List Bool) → ((i : ℕ) → i < t → total F (λ x. power F x (suc (2 * i))) (locators F a f) ≡ word_value F w (power F a (suc (2 * i))))
       → Codeword F a t (difference w f)
   check-right a t w f h =
       codeword-odd a t (difference w f)

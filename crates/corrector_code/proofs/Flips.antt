@@ -14,7 +14,7 @@ use lib.ListN.{length, get_or, set}
 use Rattle.field.proofs.Digits.{bit-cases}
 use Rattle.field.proofs.Xor.{xor-half}
 use Rattle.corrector_code.specs.Word.{differs, difference}
-use Rattle.corrector_code.specs.Digits.{bytesNumber, digits}
+use Rattle.corrector_code.specs.Digits.{bytes_number, digits}
 
 -- the word of a sum of numbers: the places where the two words differ
 pub digits-xor : (n x y : ℕ) → digits n (bit_xor x y) ≡ difference (digits n x) (digits n y)
@@ -29,14 +29,14 @@ digits-xor (suc n) x y = ap₂ (λ b l. b ∷ l) (ap (λ d. eqb d 1) (xor_mod x 
 
 -- byte q changed by x
 pub flip-number : (bytes : List ℕ) (q x : ℕ) → q < length bytes → ((k : ℕ) → get_or bytes k 0 < 256) → x < 256
-    → bytesNumber (set bytes q (bit_xor (get_or bytes q 0) x)) ≡ bit_xor (bytesNumber bytes) (x * 256 ^ q)
-unfolding bytesNumber
+    → bytes_number (set bytes q (bit_xor (get_or bytes q 0) x)) ≡ bit_xor (bytes_number bytes) (x * 256 ^ q)
+unfolding bytes_number
 flip-number [] q x h u l = absurd (not-suc-le-zero h)
 flip-number (b ∷ bs) zero x h u l =
     let z : 0 * 2 ^ 8 + x ≡ x = omega arith in
-    ap (λ m. m * 256 + bit_xor b x) (sym (xor_zero_r (bytesNumber bs))) ∙ sym (xor_block 8 (bytesNumber bs) 0 b x (u 0) l) ∙ ap (bit_xor (bytesNumber bs * 256 + b)) (z ∙ sym (mul-one x))
+    ap (λ m. m * 256 + bit_xor b x) (sym (xor_zero_r (bytes_number bs))) ∙ sym (xor_block 8 (bytes_number bs) 0 b x (u 0) l) ∙ ap (bit_xor (bytes_number bs * 256 + b)) (z ∙ sym (mul-one x))
 flip-number (b ∷ bs) (suc q) x h u l =
     ap (λ m. m * 256 + b) (flip-number bs q x (le_of_suc-le-suc h) (λ k. u (suc k)) l)
-    ∙ ap (λ m. bit_xor (bytesNumber bs) (x * 256 ^ q) * 256 + m) (sym (xor_zero_r b))
-    ∙ sym (xor_block 8 (bytesNumber bs) (x * 256 ^ q) b 0 (u 0) (omega arith))
-    ∙ ap (bit_xor (bytesNumber bs * 256 + b)) (add-zero (x * 256 ^ q * 256) ∙ mul_assoc x (256 ^ q) 256 ∙ ap (λ p. x * p) (sym (pow-suc 256 q)))
+    ∙ ap (λ m. bit_xor (bytes_number bs) (x * 256 ^ q) * 256 + m) (sym (xor_zero_r b))
+    ∙ sym (xor_block 8 (bytes_number bs) (x * 256 ^ q) b 0 (u 0) (omega arith))
+    ∙ ap (bit_xor (bytes_number bs * 256 + b)) (add-zero (x * 256 ^ q * 256) ∙ mul_assoc x (256 ^ q) 256 ∙ ap (λ p. x * p) (sym (pow-suc 256 q)))

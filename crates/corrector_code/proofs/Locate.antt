@@ -15,7 +15,7 @@ use native.Mathlib.Omega.{arith}
 use lib.ListN.{length, length-map, get_or-eq_default}
 use Rattle.algebra.specs.Field.{Ops, Laws, power}
 use Rattle.algebra.specs.Polynomial.{coef, eval, add, mul}
-use Rattle.algebra.proofs.Series.{Series, startingWith, plus, times, nought}
+use Rattle.algebra.proofs.Series.{Series, starting_with, plus, times, nought}
 use Rattle.algebra.proofs.Series as S
 use Rattle.algebra.proofs.Elements as E
 use Rattle.algebra.proofs.Coefficients as P
@@ -25,7 +25,7 @@ use Rattle.algebra.proofs.Degree as D
 use Rattle.algebra.specs.Trial.{All, Distinct}
 use Rattle.algebra.proofs.Factors as W
 use Rattle.corrector_code.specs.Word.{total}
-use Rattle.corrector_code.specs.Key.{conv, register, fromLocators}
+use Rattle.corrector_code.specs.Key.{conv, register, from_locators}
 use Rattle.algebra.proofs.Trial.{all_map}
 use Rattle.corrector_code.proofs.Sums as Y
 use Rattle.corrector_code.proofs.Words as X
@@ -39,7 +39,7 @@ use Rattle.algebra.proofs.Signs.{signs}
 
 -- 1, and the power sums of a list
 unfoldable pub sums : {K : Type 0} (F : Ops K) → List K → Series K
-sums F s = startingWith F.one (λ k. total F (λ x. power F x (suc k)) s)
+sums F s = starting_with F.one (λ k. total F (λ x. power F x (suc k)) s)
 
 module _ {K : Type 0} {F : Ops K} (L : Laws F) where
   open signs F use {0#, 1#, ◌⊕◌, ◌⊗◌, ◌⊞◌, ◌⊠◌}
@@ -60,7 +60,7 @@ module _ {K : Type 0} {F : Ops K} (L : Laws F) where
   -- behind the degree of p, a coefficient of p times the power sums is the sum of x^k p(1/x)
   product-sum : (s : List K) → All (λ x. x ≢ 0#) s → (p : List K) (k : ℕ) → ((j : ℕ) → k ≤ j → coef F p j ≡ 0#)
       → (coef F p ⊠ sums F s) k ≡ total F (λ x. power F x k ⊗ eval F p (F.inv x)) s
-  unfolding times eval power sums startingWith
+  unfolding times eval power sums starting_with
   product-sum s z [] k h = S.nought-at L (sums F s) k ∙ sym (Y.total-zero L _ s (all_map (λ x e. E.mul-zero L (power F x k)) s z))
   product-sum s z (c ∷ p) zero h =
       M.product-none L 0 (coef F (c ∷ p)) (sums F s) (λ i j e. inl (h i (omega arith)))
@@ -76,29 +76,29 @@ module _ {K : Type 0} {F : Ops K} (L : Laws F) where
   unfolding eval
   eval-locator x y = ap (λ w. 1# ⊕ y ⊗ w) (ap (λ w. x ⊕ w) (E.mul-zero L y) ∙ E.add-zero L x)
 
-  from_first : (s : List K) → coef F (fromLocators F s) 0 ≡ 1#
-  unfolding fromLocators times
+  from_first : (s : List K) → coef F (from_locators F s) 0 ≡ 1#
+  unfolding from_locators times
   from_first [] = refl
-  from_first (x ∷ s) = ap (λ f. f 0) (P.coef-mul L (1# ∷ x ∷ []) (fromLocators F s)) ∙ one-mul _ ∙ from_first s
+  from_first (x ∷ s) = ap (λ f. f 0) (P.coef-mul L (1# ∷ x ∷ []) (from_locators F s)) ∙ one-mul _ ∙ from_first s
 
-  from-ends : (s : List K) (k : ℕ) → length s < k → coef F (fromLocators F s) k ≡ 0#
-  unfolding fromLocators
+  from-ends : (s : List K) (k : ℕ) → length s < k → coef F (from_locators F s) k ≡ 0#
+  unfolding from_locators
   from-ends [] k h = get_or-eq_default (1# ∷ []) 0# h
   from-ends (x ∷ s) k h =
-      ap (λ f. f k) (P.coef-mul L (1# ∷ x ∷ []) (fromLocators F s))
-      ∙ M.product-none L k (coef F (1# ∷ x ∷ [])) (coef F (fromLocators F s)) (each (from-ends s))
+      ap (λ f. f k) (P.coef-mul L (1# ∷ x ∷ []) (from_locators F s))
+      ∙ M.product-none L k (coef F (1# ∷ x ∷ [])) (coef F (from_locators F s)) (each (from-ends s))
     where
-      each : ((j : ℕ) → length s < j → coef F (fromLocators F s) j ≡ 0#) → (i j : ℕ) → i + j ≡ k → (coef F (1# ∷ x ∷ []) i ≡ 0#) ⊎ (coef F (fromLocators F s) j ≡ 0#)
+      each : ((j : ℕ) → length s < j → coef F (from_locators F s) j ≡ 0#) → (i j : ℕ) → i + j ≡ k → (coef F (1# ∷ x ∷ []) i ≡ 0#) ⊎ (coef F (from_locators F s) j ≡ 0#)
       each rec i j e = elim (dec_le 2 i) [ yes l ↦ inl (get_or-eq_default (1# ∷ x ∷ []) 0# l) | no l ↦ inr (rec j (omega arith)) ]
 
-  from-zeros : (s : List K) → All (λ x. x ≢ 0#) s → All (λ x. eval F (fromLocators F s) (F.inv x) ≡ 0#) s
-  unfolding fromLocators
+  from-zeros : (s : List K) → All (λ x. x ≢ 0#) s → All (λ x. eval F (from_locators F s) (F.inv x) ≡ 0#) s
+  unfolding from_locators
   from-zeros [] z = tt
   from-zeros (x ∷ s) z = (
-    I.eval_mul L (1# ∷ x ∷ []) (fromLocators F s) (F.inv x)
-        ∙ ap (λ w. w ⊗ eval F (fromLocators F s) (F.inv x)) (eval-locator x (F.inv x) ∙ ap (λ w. 1# ⊕ w) (mul_comm (F.inv x) x ∙ mul-inv x z.0) ∙ add-self 1#)
+    I.eval_mul L (1# ∷ x ∷ []) (from_locators F s) (F.inv x)
+        ∙ ap (λ w. w ⊗ eval F (from_locators F s) (F.inv x)) (eval-locator x (F.inv x) ∙ ap (λ w. 1# ⊕ w) (mul_comm (F.inv x) x ∙ mul-inv x z.0) ∙ add-self 1#)
         ∙ E.zero-mul L _,
-    all_map (λ y e. I.eval_mul L (1# ∷ x ∷ []) (fromLocators F s) (F.inv y) ∙ ap (λ w. eval F (1# ∷ x ∷ []) (F.inv y) ⊗ w) e ∙ E.mul-zero L _) s (from-zeros s z.1),
+    all_map (λ y e. I.eval_mul L (1# ∷ x ∷ []) (from_locators F s) (F.inv y) ∙ ap (λ w. eval F (1# ∷ x ∷ []) (F.inv y) ⊗ w) e ∙ E.mul-zero L _) s (from-zeros s z.1),
   )
 
   -- ---- it makes the power sums: with s the power sums, (1 + x z) .. s = (1 + x z) .. + its odd part (Newton's
@@ -106,7 +106,7 @@ module _ {K : Type 0} {F : Ops K} (L : Laws F) where
 
   -- x z + x^2 z^2 + ..
   powers : K → Series K
-  powers x = startingWith 0# (λ k. power F x (suc k))
+  powers x = starting_with 0# (λ k. power F x (suc k))
 
   abbrev factor : K → Series K
   factor x = coef F (1# ∷ x ∷ [])
@@ -115,11 +115,11 @@ module _ {K : Type 0} {F : Ops K} (L : Laws F) where
   middle x = coef F (0# ∷ x ∷ [])
 
   sums-cons : (x : K) (s : List K) → sums F (x ∷ s) ≡ sums F s ⊞ powers x
-  unfolding sums powers startingWith plus total
+  unfolding sums powers starting_with plus total
   sums-cons x s = fun_ext (elim [ zero ↦ sym (E.add-zero L 1#) | suc k ↦ add_comm _ _ ])
 
   factor-powers : (x : K) → factor x ⊠ powers x ≡ middle x
-  unfolding powers startingWith conv power
+  unfolding powers starting_with conv power
   factor-powers x = fun_ext (λ k. sym (R.conv-is L (1# ∷ x ∷ []) (powers x) k) ∙ at k)
     where
       at : (k : ℕ) → conv F (1# ∷ x ∷ []) (powers x) k ≡ middle x k
@@ -131,27 +131,27 @@ module _ {K : Type 0} {F : Ops K} (L : Laws F) where
   unfolding odd
   odd_factor x = fun_ext (elim [ zero ↦ refl | suc zero ↦ E.add-zero L x | suc (suc k) ↦ zero-add _ ∙ zero-add _ ∙ H.odd-none L (nought F) k refl ])
 
-  newton : (s : List K) → coef F (fromLocators F s) ⊠ sums F s ≡ coef F (fromLocators F s) ⊞ odd F (coef F (fromLocators F s))
-  unfolding fromLocators sums total
+  newton : (s : List K) → coef F (from_locators F s) ⊠ sums F s ≡ coef F (from_locators F s) ⊞ odd F (coef F (from_locators F s))
+  unfolding from_locators sums total
   newton [] =
       S.times-unit L (coef F (1# ∷ []))
       ∙ sym (ap (λ w. coef F (1# ∷ []) ⊞ w) (fun_ext λ k. H.odd-below L (coef F (1# ∷ [])) k (λ i l. refl) k (omega arith)) ∙ S.plus_comm L _ _ ∙ S.nought-plus L _)
   newton (x ∷ s) =
-      let p : Series K = coef F (fromLocators F s) in
+      let p : Series K = coef F (from_locators F s) in
       let c : Series K = factor x in
-      ap₂ (λ f g. f ⊠ g) (P.coef-mul L (1# ∷ x ∷ []) (fromLocators F s)) (sums-cons x s)
+      ap₂ (λ f g. f ⊠ g) (P.coef-mul L (1# ∷ x ∷ []) (from_locators F s)) (sums-cons x s)
       ∙ S.times-plus L (c ⊠ p) (sums F s) (powers x)
       ∙ ap₂ ◌⊞◌ (S.times-assoc L c p (sums F s) ∙ ap (λ w. c ⊠ w) (newton s) ∙ S.times-plus L c p (odd F p))
       (ap (λ w. w ⊠ powers x) (S.times-comm L c p) ∙ S.times-assoc L p c (powers x) ∙ ap (λ w. p ⊠ w) (factor-powers x) ∙ S.times-comm L p (middle x))
       ∙ S.plus_assoc L (c ⊠ p) (c ⊠ odd F p) (middle x ⊠ p)
       ∙ ap (λ w. c ⊠ p ⊞ w) (S.plus_comm L (c ⊠ odd F p) (middle x ⊠ p) ∙ ap (λ w. w ⊠ p ⊞ c ⊠ odd F p) (sym (odd_factor x)) ∙ sym (H.leibniz L c p))
-      ∙ sym (ap (λ f. f ⊞ odd F f) (P.coef-mul L (1# ∷ x ∷ []) (fromLocators F s)))
+      ∙ sym (ap (λ f. f ⊞ odd F f) (P.coef-mul L (1# ∷ x ∷ []) (from_locators F s)))
 
-  from-makes : (s : List K) (n : ℕ) → ShortFor F (sums F s) n (coef F (fromLocators F s)) (length s)
+  from-makes : (s : List K) (n : ℕ) → ShortFor F (sums F s) n (coef F (from_locators F s)) (length s)
   unfolding plus
   from-makes s n = record {
     ends = from-ends s;
-    gap = λ i l. ap (λ f. f (suc (2 * i))) (newton s) ∙ ap (λ x. coef F (fromLocators F s) (suc (2 * i)) ⊕ x) (H.odd-odd L i _) ∙ add-self _;
+    gap = λ i l. ap (λ f. f (suc (2 * i))) (newton s) ∙ ap (λ x. coef F (from_locators F s) (suc (2 * i)) ⊕ x) (H.odd-odd L i _) ∙ add-self _;
   }
 
   -- ---- what makes the power sums is zero at the inverses of the locators
@@ -247,25 +247,25 @@ module _ {K : Type 0} {F : Ops K} (L : Laws F) where
   -- THE KEY EQUATION: after t turns, on 2t power sums of at most t locators, a register with room holds the product of
   -- 1 + x z
   pub key_right : (m t : ℕ) (s : List K) (u : Series K) → t ≤ m → Distinct s → All (λ x. x ≢ 0#) s → length s ≤ t → ((k : ℕ) → k ≤ 2 * t → u k ≡ sums F s k)
-      → coef F (register F m u t).locator ≡ coef F (fromLocators F s)
-  unfolding sums startingWith
+      → coef F (register F m u t).locator ≡ coef F (from_locators F s)
+  unfolding sums starting_with
   key_right m t s u l d z h e =
       ap (λ r. coef F r.locator) (register-same F m u (sums F s) t e)
-      ∙ (let w = R.register-runs L (sums F s) (coef F (fromLocators F s)) (length s) m (omega arith) refl (from_first s) (from-makes s) t in
+      ∙ (let w = R.register-runs L (sums F s) (coef F (from_locators F s)) (length s) m (omega arith) refl (from_first s) (from-makes s) t in
       let a = M.short-wider L w.small w.good in
-      same-locator s (register F m (sums F s) t).locator (fromLocators F s) d z w.first (from_first s) a.ends (from-ends s)
+      same-locator s (register F m (sums F s) t).locator (from_locators F s) d z w.first (from_first s) a.ends (from-ends s)
       (zero-inverses s (register F m (sums F s) t).locator d z a.ends (M.register-goes-on L a refl (from_first s) (from-makes s) (omega arith))) (from-zeros s z))
 
   -- the roots of the product of 1 + x z are the inverses of the locators
-  pub from-root : (s : List K) → All (λ x. x ≢ 0#) s → All (λ x. eval F (fromLocators F s) (F.inv x) ≡ 0#) s
+  pub from-root : (s : List K) → All (λ x. x ≢ 0#) s → All (λ x. eval F (from_locators F s) (F.inv x) ≡ 0#) s
   from-root = from-zeros
 
-  pub from-no-root : (s : List K) (x : K) → x ≢ 0# → All (λ y. y ≢ x) s → eval F (fromLocators F s) (F.inv x) ≢ 0#
-  unfolding fromLocators eval
+  pub from-no-root : (s : List K) (x : K) → x ≢ 0# → All (λ y. y ≢ x) s → eval F (from_locators F s) (F.inv x) ≢ 0#
+  unfolding from_locators eval
   from-no-root [] x h d e = one≢zero (sym (ap (λ w. 1# ⊕ w) (E.mul-zero L (F.inv x)) ∙ E.add-zero L 1#) ∙ e)
   from-no-root (y ∷ s) x h d e =
       from-no-root s x h d.1 (E.zero-of-product L _ _ (λ z. d.0 (same (E.equal-of-sum L 1# (F.inv x ⊗ y) (sym (eval-locator y (F.inv x)) ∙ z))))
-      (sym (I.eval_mul L (1# ∷ y ∷ []) (fromLocators F s) (F.inv x)) ∙ e))
+      (sym (I.eval_mul L (1# ∷ y ∷ []) (from_locators F s) (F.inv x)) ∙ e))
     where
       same : 1# ≡ F.inv x ⊗ y → y ≡ x
       same e = sym (one-mul y) ∙ ap (λ w. w ⊗ y) (sym (mul-inv x h)) ∙ mul_assoc x (F.inv x) y ∙ ap (λ w. x ⊗ w) (sym e) ∙ Y.times-one L x

@@ -8,7 +8,7 @@
 --   massey            so an f that fails has l + v above 2m
 --   short-wider, short-plus, short-scale   of a larger bound, of a sum, of a multiple
 --   short-front, short-next                of z^2 f, and one turn more
---   scale-times, startingWith-next, startingWith-two   the product of a multiple, of z f, of z^2 f
+--   scale-times, starting_with-next, starting_with-two   the product of a multiple, of z f, of z^2 f
 -- Assumes nothing.
 use mathlib.Core.Path.{◌≡◌, sym, ap, ap₂, ◌∙◌, fun_ext}
 use mathlib.Core.Logic.{◌≢◌, ◌⊎◌, inl, inr, ⊎_elim}
@@ -17,7 +17,7 @@ use native.Mathlib.Nat.{eq-or-lt_of_le, not-suc-le-zero}
 use native.Mathlib.Decide.{dec_le}
 use native.Mathlib.Omega.{arith}
 use Rattle.algebra.specs.Field.{Ops, Laws}
-use Rattle.algebra.proofs.Series.{Series, afterFirst, startingWith, plus, scale, times, nought}
+use Rattle.algebra.proofs.Series.{Series, after_first, starting_with, plus, scale, times, nought}
 use Rattle.algebra.proofs.Series as S
 use Rattle.algebra.proofs.Elements as E
 use Rattle.corrector_code.proofs.Odd.{odd}
@@ -39,7 +39,7 @@ module _ {K : Type 0} {F : Ops K} (L : Laws F) where
   product-none zero f g h = ⊎_elim (λ e. ap (λ x. x ⊗ g 0) e ∙ E.zero-mul L (g 0)) (λ e. ap (λ x. f 0 ⊗ x) e ∙ E.mul-zero L (f 0)) (h 0 0 (omega arith))
   product-none (suc k) f g h =
       ap₂ ◌⊕◌ (⊎_elim (λ e. ap (λ x. x ⊗ g (suc k)) e ∙ E.zero-mul L (g (suc k))) (λ e. ap (λ x. f 0 ⊗ x) e ∙ E.mul-zero L (f 0)) (h 0 (suc k) (omega arith)))
-      (product-none k (afterFirst f) g (λ i j e. h (suc i) j (omega arith))) ∙ zero-add 0#
+      (product-none k (after_first f) g (λ i j e. h (suc i) j (omega arith))) ∙ zero-add 0#
 
   -- (f t)' s^2 = (f s)' (t s), where t s has no odd coefficient
   crossed : (f t s : Series K) → odd F (t ⊠ s) ≡ nought F → odd F (f ⊠ t) ⊠ (s ⊠ s) ≡ odd F (f ⊠ s) ⊠ (t ⊠ s)
@@ -88,7 +88,7 @@ module _ {K : Type 0} {F : Ops K} (L : Laws F) where
   unfolding plus
   short-plus {s} {f} {g} a b = record {
     ends = λ k l. ap₂ ◌⊕◌ (a.ends k l) (b.ends k l) ∙ zero-add 0#;
-    gap = λ i l. ap (λ h. h (suc (2 * i))) (S.plus_times L f g s) ∙ ap₂ ◌⊕◌ (a.gap i l) (b.gap i l) ∙ zero-add 0#;
+    gap = λ i l. ap (λ h. h (suc (2 * i))) (S.plus-times L f g s) ∙ ap₂ ◌⊕◌ (a.gap i l) (b.gap i l) ∙ zero-add 0#;
   }
 
   pub scale-times : (c : K) (f s : Series K) (k : ℕ) → (scale F c f ⊠ s) k ≡ c ⊗ (f ⊠ s) k
@@ -102,19 +102,19 @@ module _ {K : Type 0} {F : Ops K} (L : Laws F) where
     gap = λ i l. scale-times c f s (suc (2 * i)) ∙ ap (λ x. c ⊗ x) (a.gap i l) ∙ E.mul-zero L c;
   }
 
-  pub startingWith-next : (f s : Series K) (k : ℕ) → (startingWith 0# f ⊠ s) (suc k) ≡ (f ⊠ s) k
-  unfolding times startingWith
-  startingWith-next f s k = ap (λ x. x ⊕ (f ⊠ s) k) (E.zero-mul L (s (suc k))) ∙ zero-add ((f ⊠ s) k)
+  pub starting_with-next : (f s : Series K) (k : ℕ) → (starting_with 0# f ⊠ s) (suc k) ≡ (f ⊠ s) k
+  unfolding times starting_with
+  starting_with-next f s k = ap (λ x. x ⊕ (f ⊠ s) k) (E.zero-mul L (s (suc k))) ∙ zero-add ((f ⊠ s) k)
 
   -- z^2 f goes two places on
-  pub startingWith-two : (f s : Series K) (k : ℕ) → (startingWith 0# (startingWith 0# f) ⊠ s) (suc (suc k)) ≡ (f ⊠ s) k
-  startingWith-two f s k = startingWith-next (startingWith 0# f) s (suc k) ∙ startingWith-next f s k
+  pub starting_with-two : (f s : Series K) (k : ℕ) → (starting_with 0# (starting_with 0# f) ⊠ s) (suc (suc k)) ≡ (f ⊠ s) k
+  starting_with-two f s k = starting_with-next (starting_with 0# f) s (suc k) ∙ starting_with-next f s k
 
-  pub short-front : {s f : Series K} {m d : ℕ} → ShortFor F s m f d → ShortFor F s (suc m) (startingWith 0# (startingWith 0# f)) (suc (suc d))
-  unfolding startingWith times
+  pub short-front : {s f : Series K} {m d : ℕ} → ShortFor F s m f d → ShortFor F s (suc m) (starting_with 0# (starting_with 0# f)) (suc (suc d))
+  unfolding starting_with times
   short-front {s} {f} {m} {d} a = record {
     ends = elim [ zero ↦ λ l. absurd (not-suc-le-zero l) | suc zero ↦ λ l. absurd (omega arith) | suc (suc k) ↦ λ l. a.ends k (omega arith) ];
-    gap = elim [ zero ↦ λ l. startingWith-next (startingWith 0# f) s 0 ∙ E.zero-mul L (s 0) | suc i ↦ λ l. ap (startingWith 0# (startingWith 0# f) ⊠ s) (three i) ∙ startingWith-two f s (suc (2 * i)) ∙ a.gap i (omega arith) ];
+    gap = elim [ zero ↦ λ l. starting_with-next (starting_with 0# f) s 0 ∙ E.zero-mul L (s 0) | suc i ↦ λ l. ap (starting_with 0# (starting_with 0# f) ⊠ s) (three i) ∙ starting_with-two f s (suc (2 * i)) ∙ a.gap i (omega arith) ];
   }
     where
       three : (i : ℕ) → suc (2 * suc i) ≡ suc (suc (suc (2 * i)))

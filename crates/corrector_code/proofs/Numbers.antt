@@ -16,7 +16,7 @@ use Rattle.algebra.proofs.Crossing as G
 use Rattle.field.specs.Field.{Field, size, order, mul, numbers}
 use Rattle.field.proofs.Generator.{Generated, position-unique}
 use Rattle.field.proofs.Instance.{on-numbers}
-use Rattle.corrector_code.specs.Word.{difference, places, total, wordValue, Codeword, CodewordWithin, locators, DistinctPowers}
+use Rattle.corrector_code.specs.Word.{difference, places, total, word_value, Codeword, CodewordWithin, locators, DistinctPowers}
 use Rattle.corrector_code.specs.Correct.{flips, Passes}
 use Rattle.corrector_code.proofs.Carry.{Carries}
 use Rattle.corrector_code.proofs.Carry as C
@@ -78,7 +78,7 @@ module _ (F : Field) (gen : Generated F) where
       same = C.flips-carry low-carries two t w
 
   -- an even syndrome is a square
-  pub syndrome-square : (w : List Bool) (i : ℕ) → wordValue (numbers F) w (power (numbers F) 2 (2 * i)) ≡ mul F (wordValue (numbers F) w (power (numbers F) 2 i)) (wordValue (numbers F) w (power (numbers F) 2 i))
+  pub syndrome-square : (w : List Bool) (i : ℕ) → word_value (numbers F) w (power (numbers F) 2 (2 * i)) ≡ mul F (word_value (numbers F) w (power (numbers F) 2 i)) (word_value (numbers F) w (power (numbers F) 2 i))
   syndrome-square w i =
       sym (C.value-pow low-carries w two (2 * i)) ∙ ap (λ (x : Elem (size F)). x.0) (Q.syndrome-square (G.laws N) w two i)
       ∙ ap₂ (mul F) (C.value-pow low-carries w two i) (C.value-pow low-carries w two i)

@@ -12,7 +12,7 @@ use Prim.Native.Nat.{ℕ, zero, suc, ◌*◌, ◌≤◌, ◌<◌}
 use native.Mathlib.Nat.{eq-or-lt_of_le, not-suc-le-zero}
 use native.Mathlib.Omega.{arith}
 use Rattle.algebra.specs.Field.{Ops, Laws}
-use Rattle.algebra.proofs.Series.{Series, afterFirst, plus, scale, times, nought}
+use Rattle.algebra.proofs.Series.{Series, after_first, plus, scale, times, nought}
 use Rattle.algebra.proofs.Series as S
 use Rattle.algebra.proofs.Elements as E
 use Rattle.algebra.proofs.Signs.{signs}
@@ -20,7 +20,7 @@ use Rattle.algebra.proofs.Signs.{signs}
 -- the odd coefficients: that at k + 1 is f's where that at k is not
 unfoldable pub odd : {K : Type 0} (F : Ops K) → Series K → Series K
 odd F f zero = F.zero
-odd F f (suc k) = F.add (f (suc k)) (odd F (afterFirst f) k)
+odd F f (suc k) = F.add (f (suc k)) (odd F (after_first f) k)
 
 -- a number is even or odd
 pub half : (k : ℕ) → ((i : ℕ) × (k ≡ 2 * i)) ⊎ ((i : ℕ) × (k ≡ suc (2 * i)))
@@ -38,11 +38,11 @@ module _ {K : Type 0} {F : Ops K} (L : Laws F) where
   odd_even zero f = refl
   odd_even (suc i) f =
       let e : 2 * suc i ≡ suc (suc (2 * i)) = omega arith in
-      ap (odd F f) e ∙ E.add_back L (f (suc (suc (2 * i)))) _ ∙ odd_even i (afterFirst (afterFirst f))
+      ap (odd F f) e ∙ E.add_back L (f (suc (suc (2 * i)))) _ ∙ odd_even i (after_first (after_first f))
 
   pub odd-odd : (i : ℕ) (f : Series K) → odd F f (suc (2 * i)) ≡ f (suc (2 * i))
   unfolding odd
-  odd-odd i f = ap (λ x. f (suc (2 * i)) ⊕ x) (odd_even i (afterFirst f)) ∙ E.add-zero L _
+  odd-odd i f = ap (λ x. f (suc (2 * i)) ⊕ x) (odd_even i (after_first f)) ∙ E.add-zero L _
 
   -- no odd coefficient where there is none
   pub odd-none : (f : Series K) (k : ℕ) → f k ≡ 0# → odd F f k ≡ 0#
@@ -57,12 +57,12 @@ module _ {K : Type 0} {F : Ops K} (L : Laws F) where
   odd-plus : (f g : Series K) (k : ℕ) → odd F (f ⊞ g) k ≡ odd F f k ⊕ odd F g k
   unfolding odd plus
   odd-plus f g zero = sym (zero-add 0#)
-  odd-plus f g (suc k) = ap (λ x. f (suc k) ⊕ g (suc k) ⊕ x) (odd-plus (afterFirst f) (afterFirst g) k) ∙ simp (add_assoc, E.add_left_comm L)
+  odd-plus f g (suc k) = ap (λ x. f (suc k) ⊕ g (suc k) ⊕ x) (odd-plus (after_first f) (after_first g) k) ∙ simp (add_assoc, E.add_left_comm L)
 
   odd-scale : (c : K) (f : Series K) (k : ℕ) → odd F (scale F c f) k ≡ c ⊗ odd F f k
   unfolding odd scale
   odd-scale c f zero = sym (E.mul-zero L c)
-  odd-scale c f (suc k) = ap (λ x. c ⊗ f (suc k) ⊕ x) (odd-scale c (afterFirst f) k) ∙ sym (mul-add c (f (suc k)) (odd F (afterFirst f) k))
+  odd-scale c f (suc k) = ap (λ x. c ⊗ f (suc k) ⊕ x) (odd-scale c (after_first f) k) ∙ sym (mul-add c (f (suc k)) (odd F (after_first f) k))
 
   leibniz-at : (f g : Series K) (k : ℕ) → odd F (f ⊠ g) k ≡ (odd F f ⊠ g) k ⊕ (f ⊠ odd F g) k
   unfolding odd times plus scale
@@ -70,13 +70,13 @@ module _ {K : Type 0} {F : Ops K} (L : Laws F) where
   leibniz-at f g (suc k) =
       let c : K = f 0 in
       let x : K = g (suc k) in
-      let p : K = (afterFirst f ⊠ g) k in
-      let q : K = odd F (afterFirst g) k in
-      let r : K = (odd F (afterFirst f) ⊠ g) k in
-      let u : K = (afterFirst f ⊠ odd F g) k in
-      ap (λ w. c ⊗ x ⊕ p ⊕ w) (odd-plus (scale F c (afterFirst g)) (afterFirst f ⊠ g) k ∙ ap₂ ◌⊕◌ (odd-scale c (afterFirst g) k) (leibniz-at (afterFirst f) g k))
+      let p : K = (after_first f ⊠ g) k in
+      let q : K = odd F (after_first g) k in
+      let r : K = (odd F (after_first f) ⊠ g) k in
+      let u : K = (after_first f ⊠ odd F g) k in
+      ap (λ w. c ⊗ x ⊕ p ⊕ w) (odd-plus (scale F c (after_first g)) (after_first f ⊠ g) k ∙ ap₂ ◌⊕◌ (odd-scale c (after_first g) k) (leibniz-at (after_first f) g k))
       ∙ regroup c x p q r u
-      ∙ sym (ap (λ w. w ⊕ (c ⊗ (x ⊕ q) ⊕ u)) (ap₂ ◌⊕◌ (E.zero-mul L x) (ap (λ h. h k) (S.plus_times L (afterFirst f) (odd F (afterFirst f)) g)) ∙ zero-add _))
+      ∙ sym (ap (λ w. w ⊕ (c ⊗ (x ⊕ q) ⊕ u)) (ap₂ ◌⊕◌ (E.zero-mul L x) (ap (λ h. h k) (S.plus-times L (after_first f) (odd F (after_first f)) g)) ∙ zero-add _))
     where
       regroup : (c x p q r u : K) → c ⊗ x ⊕ p ⊕ (c ⊗ q ⊕ (r ⊕ u)) ≡ (p ⊕ r) ⊕ (c ⊗ (x ⊕ q) ⊕ u)
       regroup c x p q r u =
@@ -97,7 +97,7 @@ module _ {K : Type 0} {F : Ops K} (L : Laws F) where
   unfolding times
   last-at zero g h z = refl
   last-at (suc k) g h z =
-      ap₂ ◌⊕◌ (ap (λ x. x ⊗ h (suc k)) (z 0 (omega arith)) ∙ E.zero-mul L (h (suc k))) (last-at k (afterFirst g) h (λ i l. z (suc i) (omega arith))) ∙ zero-add _
+      ap₂ ◌⊕◌ (ap (λ x. x ⊗ h (suc k)) (z 0 (omega arith)) ∙ E.zero-mul L (h (suc k))) (last-at k (after_first g) h (λ i l. z (suc i) (omega arith))) ∙ zero-add _
 
   pub unit-below : (n : ℕ) (g h : Series K) → h 0 ≡ 1# → ((k : ℕ) → k < n → (g ⊠ h) k ≡ 0#) → (k : ℕ) → k < n → g k ≡ 0#
   unit-below zero g h one z k l = absurd (not-suc-le-zero l)

@@ -16,13 +16,13 @@ use lib.ListN.{length, take, replicate, length-map, length-take, length-replicat
 use borrow.Author.Tests.{ltb-true, ltb-false}
 use Rattle.algebra.specs.Field.{Ops, Laws}
 use Rattle.algebra.specs.Polynomial.{coef, add}
-use Rattle.algebra.proofs.Series.{Series, startingWith, plus, scale, times, nought}
+use Rattle.algebra.proofs.Series.{Series, starting_with, plus, scale, times, nought}
 use Rattle.algebra.proofs.Series as S
 use Rattle.algebra.proofs.Elements as E
 use Rattle.algebra.proofs.Coefficients as P
 use Rattle.algebra.proofs.Evaluation as I
 use Rattle.algebra.proofs.Lengths.{length-add}
-use Rattle.corrector_code.specs.Key.{Register, conv, shift, plusTimes, mend, turn, register}
+use Rattle.corrector_code.specs.Key.{Register, conv, shift, plus_times, mend, turn, register}
 use Rattle.corrector_code.proofs.Massey.{ShortFor}
 use Rattle.corrector_code.proofs.Massey as M
 use Rattle.algebra.proofs.Signs.{signs}
@@ -50,9 +50,9 @@ module _ {K : Type 0} {F : Ops K} (L : Laws F) where
   conv-is (c ∷ p) s zero = refl
   conv-is (c ∷ p) s (suc k) = ap (λ x. c ⊗ s (suc k) ⊕ x) (conv-is p s k)
 
-  plusTimes-is : (p : List K) (d : K) (q : List K) → coef F (plusTimes F p d q) ≡ coef F p ⊞ scale F d (coef F q)
-  unfolding plusTimes
-  plusTimes-is p d q = P.coef-add L p (map (F.mul d) q) ∙ ap (λ w. coef F p ⊞ w) (P.coef-scale L d q)
+  plus_times-is : (p : List K) (d : K) (q : List K) → coef F (plus_times F p d q) ≡ coef F p ⊞ scale F d (coef F q)
+  unfolding plus_times
+  plus_times-is p d q = P.coef-add L p (map (F.mul d) q) ∙ ap (λ w. coef F p ⊞ w) (P.coef-scale L d q)
 
   cut-zeros : (n : ℕ) (l : List K) → ((k : ℕ) → n ≤ k → coef F l k ≡ 0#) → (k : ℕ) → coef F (take n l) k ≡ coef F l k
   cut-zeros zero l h k = sym (h k (omega arith))
@@ -60,11 +60,11 @@ module _ {K : Type 0} {F : Ops K} (L : Laws F) where
   cut-zeros (suc n) (c ∷ l) h zero = refl
   cut-zeros (suc n) (c ∷ l) h (suc k) = cut-zeros n l (λ j e. h (suc j) (omega arith)) k
 
-  shift_is : (p : List K) → ((k : ℕ) → length p ≤ suc (suc k) → coef F p k ≡ 0#) → coef F (shift F p) ≡ startingWith 0# (startingWith 0# (coef F p))
+  shift_is : (p : List K) → ((k : ℕ) → length p ≤ suc (suc k) → coef F p k ≡ 0#) → coef F (shift F p) ≡ starting_with 0# (starting_with 0# (coef F p))
   unfolding shift
   shift_is p h =
       fun_ext (cut-zeros (length p) (0# ∷ 0# ∷ p) (elim [ zero ↦ λ e. refl | suc zero ↦ λ e. refl | suc (suc k) ↦ λ e. h k e ]))
-      ∙ P.coef-cons L 0# (0# ∷ p) ∙ ap (startingWith 0#) (P.coef-cons L 0# p)
+      ∙ P.coef-cons L 0# (0# ∷ p) ∙ ap (starting_with 0#) (P.coef-cons L 0# p)
 
   length_shift : (p : List K) → length (shift F p) ≡ length p
   unfolding shift
@@ -75,9 +75,9 @@ module _ {K : Type 0} {F : Ops K} (L : Laws F) where
   shift-clear [] = refl
   shift-clear (c ∷ p) = refl
 
-  length-plusTimes : (p : List K) (d : K) (q : List K) → length p ≡ length q → length (plusTimes F p d q) ≡ length q
-  unfolding plusTimes
-  length-plusTimes p d q e = length-add F p (map (F.mul d) q) (omega (arith, length-map q (F.mul d))) ∙ length-map q (F.mul d)
+  length-plus_times : (p : List K) (d : K) (q : List K) → length p ≡ length q → length (plus_times F p d q) ≡ length q
+  unfolding plus_times
+  length-plus_times p d q e = length-add F p (map (F.mul d) q) (omega (arith, length-map q (F.mul d))) ∙ length-map q (F.mul d)
 
   -- two places on
   on-two : (n : ℕ) → suc (2 * suc n) ≡ suc (suc (suc (2 * n)))
@@ -88,8 +88,8 @@ module _ {K : Type 0} {F : Ops K} (L : Laws F) where
       → suc (suc d) < N → ShortFor F s (suc n) (coef F (shift F p)) (suc (suc d)) × ((coef F (shift F p) ⊠ s) (suc (2 * suc n)) ≡ 1#)
   next-spare {s} {n} {N} {d} p e h l =
       let (a, one) = h (omega arith) in
-      let z : coef F (shift F p) ≡ startingWith 0# (startingWith 0# (coef F p)) = shift_is p (λ k m. a.ends k (omega arith)) in
-      (rw z (M.short-front L a), ap₂ (λ f k. (f ⊠ s) k) z (on-two n) ∙ M.startingWith-two L (coef F p) s (suc (2 * n)) ∙ one)
+      let z : coef F (shift F p) ≡ starting_with 0# (starting_with 0# (coef F p)) = shift_is p (λ k m. a.ends k (omega arith)) in
+      (rw z (M.short-front L a), ap₂ (λ f k. (f ⊠ s) k) z (on-two n) ∙ M.starting_with-two L (coef F p) s (suc (2 * n)) ∙ one)
 
   module _ (s t : Series K) (v N : ℕ) (fits : v < N) (start : s 0 ≡ 1#) (one : t 0 ≡ 1#) (makes : (n : ℕ) → ShortFor F s n t v) where
     abbrev Runs : ℕ → Register K → Type 0
@@ -104,20 +104,20 @@ module _ {K : Type 0} {F : Ops K} (L : Laws F) where
       spare-good : ShortFor F s n (coef F r.spare) r.high × ((coef F r.spare ⊠ s) (suc (2 * n)) ≡ 1#)
       spare-good = w.other (omega (arith, enough))
 
-      mended : (m : ℕ) → r.low ≤ m → r.high ≤ m → ShortFor F s (suc n) (coef F (plusTimes F r.locator d r.spare)) m
+      mended : (m : ℕ) → r.low ≤ m → r.high ≤ m → ShortFor F s (suc n) (coef F (plus_times F r.locator d r.spare)) m
       unfolding plus
       mended m a b =
-          rw plusTimes-is
+          rw plus_times-is
           (M.short-next L (M.short-plus L (M.short-wider L a w.good) (M.short-scale L d (M.short-wider L b spare-good.0)))
-          (ap (λ f. f (suc (2 * n))) (S.plus_times L (coef F r.locator) (scale F d (coef F r.spare)) s)
+          (ap (λ f. f (suc (2 * n))) (S.plus-times L (coef F r.locator) (scale F d (coef F r.spare)) s)
           ∙ ap₂ ◌⊕◌ is (M.scale-times L d (coef F r.spare) s (suc (2 * n)) ∙ ap (λ x. d ⊗ x) spare-good.1 ∙ mul_comm d 1# ∙ one-mul d) ∙ add-self d))
 
-      mended-first : coef F (plusTimes F r.locator d r.spare) 0 ≡ 1#
+      mended-first : coef F (plus_times F r.locator d r.spare) 0 ≡ 1#
       unfolding plus scale
-      mended-first = ap (λ f. f 0) (plusTimes-is r.locator d r.spare) ∙ ap₂ (λ x y. x ⊕ d ⊗ y) w.first w.clear ∙ ap (λ x. 1# ⊕ x) (E.mul-zero L d) ∙ E.add-zero L 1#
+      mended-first = ap (λ f. f 0) (plus_times-is r.locator d r.spare) ∙ ap₂ (λ x y. x ⊕ d ⊗ y) w.first w.clear ∙ ap (λ x. 1# ⊕ x) (E.mul-zero L d) ∙ E.add-zero L 1#
 
-      mended-long : length (plusTimes F r.locator d r.spare) ≡ N
-      mended-long = length-plusTimes r.locator d r.spare (w.long ∙ sym w.long-spare) ∙ w.long-spare
+      mended-long : length (plus_times F r.locator d r.spare) ≡ N
+      mended-long = length-plus_times r.locator d r.spare (w.long ∙ sym w.long-spare) ∙ w.long-spare
 
       -- the old locator, divided by d
       old-long : length (map (F.mul (F.inv d)) r.locator) ≡ N
@@ -133,8 +133,8 @@ module _ {K : Type 0} {F : Ops K} (L : Laws F) where
       mend-runs = go (ltb r.low r.high) (ltb-true r.low r.high) (ltb-false r.low r.high)
         where
           go : (b : Bool) → (b ≡ true → r.low < r.high) → (b ≡ false → r.high ≤ r.low) → Runs (suc n) (cond b
-              (record { locator = plusTimes F r.locator d r.spare; spare = shift F (map (F.mul (F.inv d)) r.locator); low = r.high; high = suc (suc r.low) })
-              (record { locator = plusTimes F r.locator d r.spare; spare = shift F r.spare; low = r.low; high = suc (suc r.high) }))
+              (record { locator = plus_times F r.locator d r.spare; spare = shift F (map (F.mul (F.inv d)) r.locator); low = r.high; high = suc (suc r.low) })
+              (record { locator = plus_times F r.locator d r.spare; spare = shift F r.spare; low = r.low; high = suc (suc r.high) }))
           go true x y = record {
             balance = omega (arith, w.balance);
             small = enough;

@@ -21,7 +21,7 @@ use Rattle.algebra.proofs.Elements as E
 use Rattle.algebra.proofs.Coefficients as P
 use Rattle.algebra.proofs.Evaluation as I
 use Rattle.algebra.specs.Trial.{All, Distinct}
-use Rattle.corrector_code.specs.Word.{differs, difference, places, bitDistance, total, bit, wordValue, Codeword, CodewordWithin, locators, DistinctPowers}
+use Rattle.corrector_code.specs.Word.{differs, difference, places, bit_distance, total, bit, word_value, Codeword, CodewordWithin, locators, DistinctPowers}
 use Rattle.corrector_code.proofs.Sums as Y
 
 -- ---- distance
@@ -114,20 +114,20 @@ module _ {K : Type 0} {F : Ops K} (L : Laws F) where
 
   -- ---- the value of a word at a^i is a power sum of its locators
 
-  sum-from : (a : K) (i k : ℕ) (w : List Bool) → total F (λ x. power F x i) (map (power F a) (places k w)) ≡ power F (power F a i) k ⊗ wordValue F w (power F a i)
+  sum-from : (a : K) (i k : ℕ) (w : List Bool) → total F (λ x. power F x i) (map (power F a) (places k w)) ≡ power F (power F a i) k ⊗ word_value F w (power F a i)
   unfolding places total eval power
   sum-from a i k [] = sym (E.mul-zero L _)
   sum-from a i k (true ∷ w) =
       let r : K = power F a i in
       let p : K = power F r k in
-      ap₂ ◌⊕◌ (pow-swap a k i ∙ sym (Y.times-one L p)) (sum-from a i (suc k) w ∙ mul_assoc r p (wordValue F w r) ∙ E.mul_left_comm L r p (wordValue F w r))
-      ∙ sym (mul-add p 1# (r ⊗ wordValue F w r))
+      ap₂ ◌⊕◌ (pow-swap a k i ∙ sym (Y.times-one L p)) (sum-from a i (suc k) w ∙ mul_assoc r p (word_value F w r) ∙ E.mul_left_comm L r p (word_value F w r))
+      ∙ sym (mul-add p 1# (r ⊗ word_value F w r))
   sum-from a i k (false ∷ w) =
       let r : K = power F a i in
       let p : K = power F r k in
-      sum-from a i (suc k) w ∙ mul_assoc r p (wordValue F w r) ∙ E.mul_left_comm L r p (wordValue F w r) ∙ ap (λ v. p ⊗ v) (sym (zero-add (r ⊗ wordValue F w r)))
+      sum-from a i (suc k) w ∙ mul_assoc r p (word_value F w r) ∙ E.mul_left_comm L r p (word_value F w r) ∙ ap (λ v. p ⊗ v) (sym (zero-add (r ⊗ word_value F w r)))
 
-  pub value-sum : (a : K) (i : ℕ) (w : List Bool) → wordValue F w (power F a i) ≡ total F (λ x. power F x i) (locators F a w)
+  pub value-sum : (a : K) (i : ℕ) (w : List Bool) → word_value F w (power F a i) ≡ total F (λ x. power F x i) (locators F a w)
   unfolding power
   value-sum a i w = sym (sum-from a i 0 w ∙ one-mul _)
 
@@ -142,7 +142,7 @@ module _ {K : Type 0} {F : Ops K} (L : Laws F) where
   bits-both (b ∷ w) [] = refl
   bits-both (b ∷ w) (c ∷ v) = ap₂ (λ x l. x ∷ l) (bit-differs b c) (bits-both w v)
 
-  pub value-difference : (w v : List Bool) (x : K) → wordValue F (difference w v) x ≡ wordValue F w x ⊕ wordValue F v x
+  pub value-difference : (w v : List Bool) (x : K) → word_value F (difference w v) x ≡ word_value F w x ⊕ word_value F v x
   value-difference w v x = ap (λ l. eval F l x) (bits-both w v) ∙ I.eval_add L (map (bit F) w) (map (bit F) v) x
 
   -- ---- locators are distinct and not 0

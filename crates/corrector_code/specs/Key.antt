@@ -7,11 +7,11 @@
 --                     and high
 --   conv p s k        the coefficient at k of the product of p and s
 --   shift p           z^2 p, in as many coefficients as p
---   plusTimes p d q   p + d q
+--   plus_times p d q   p + d q
 --   mend d r          the register r mended by a discrepancy d
 --   turn s m r        the register after the power sums s_(2m+1) and s_(2m+2)
 --   register t s m    the register of t + 1 coefficients after the power sums s_1 to s_2m
---   fromLocators X    the product of 1 + x z over the locators x
+--   from_locators X    the product of 1 + x z over the locators x
 -- Assumes nothing.
 use Rattle.std.specs.Prelude.{Bool, true, false, cond, List, [], ◌∷◌, map, ℕ, zero, suc, ◌*◌, length, take, replicate, ltb}
 use Rattle.algebra.specs.Field.{Ops}
@@ -36,21 +36,21 @@ module _ {K : Type 0} (F : Ops K) where
   shift p = take (length p) (F.zero ∷ F.zero ∷ p)
 
   -- p + d q
-  unfoldable pub plusTimes : List K → K → List K → List K
-  plusTimes p d q = add F p (map (F.mul d) q)
+  unfoldable pub plus_times : List K → K → List K → List K
+  plus_times p d q = add F p (map (F.mul d) q)
 
   -- what a nonzero discrepancy d does: the locator is mended by d times the spare; where that makes the register
   -- longer, the old locator is the new spare
   unfoldable pub mend : K → Register K → Register K
   mend d r = cond (ltb r.low r.high)
       (record {
-        locator = plusTimes r.locator d r.spare;
+        locator = plus_times r.locator d r.spare;
         spare = shift (map (F.mul (F.inv d)) r.locator);
         low = r.high;
         high = suc (suc r.low);
       })
       (record {
-        locator = plusTimes r.locator d r.spare;
+        locator = plus_times r.locator d r.spare;
         spare = shift r.spare;
         low = r.low;
         high = suc (suc r.high);
@@ -74,6 +74,6 @@ module _ {K : Type 0} (F : Ops K) where
   register t s (suc m) = turn s m (register t s m)
 
   -- the product of 1 + x z over a list of locators x
-  unfoldable pub fromLocators : List K → List K
-  fromLocators [] = F.one ∷ []
-  fromLocators (x ∷ s) = mul F (F.one ∷ x ∷ []) (fromLocators s)
+  unfoldable pub from_locators : List K → List K
+  from_locators [] = F.one ∷ []
+  from_locators (x ∷ s) = mul F (F.one ∷ x ∷ []) (from_locators s)

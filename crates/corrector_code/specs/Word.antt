@@ -3,10 +3,10 @@
 --   differs b c               one of two bits is set, and not the other
 --   difference w v            the places where w and v differ, as a word
 --   places k w                the places with bit 1, ascending, the first place counted as k
---   bitDistance w v           in how many places w and v differ
+--   bit_distance w v           in how many places w and v differ
 --   total f s                 the sum of f(x) over the list s
 --   bit b                     the bit as a field element
---   wordValue w x             the value of w at x
+--   word_value w x             the value of w at x
 --   Codeword a t w            w is zero at a^1 to a^(2t)
 --   CodewordWithin a t w v    v is a codeword as long as w, and differs from it in at most t places
 --   locators a w              a^j for each place j with bit 1
@@ -35,8 +35,8 @@ places k (true ∷ w) = k ∷ places (suc k) w
 places k (false ∷ w) = places (suc k) w
 
 -- in how many places two words differ
-abbrev pub bitDistance : List Bool → List Bool → ℕ
-bitDistance w v = length (places 0 (difference w v))
+abbrev pub bit_distance : List Bool → List Bool → ℕ
+bit_distance w v = length (places 0 (difference w v))
 
 module _ {K : Type 0} (F : Ops K) where
   -- the sum of f over a list
@@ -50,16 +50,16 @@ module _ {K : Type 0} (F : Ops K) where
   bit false = F.zero
 
   -- the value of a word at x
-  abbrev pub wordValue : List Bool → K → K
-  wordValue w x = eval F (map bit w) x
+  abbrev pub word_value : List Bool → K → K
+  word_value w x = eval F (map bit w) x
 
   -- zero at a^1 to a^(2t)
   abbrev pub Codeword : K → ℕ → List Bool → Type 0
-  Codeword a t w = (i : ℕ) → 0 < i → i ≤ 2 * t → wordValue w (power F a i) ≡ F.zero
+  Codeword a t w = (i : ℕ) → 0 < i → i ≤ 2 * t → word_value w (power F a i) ≡ F.zero
 
   -- v is a codeword that differs from w in at most t places
   abbrev pub CodewordWithin : K → ℕ → List Bool → List Bool → Type 0
-  CodewordWithin a t w v = (length v ≡ length w) × Codeword a t v × (bitDistance w v ≤ t)
+  CodewordWithin a t w v = (length v ≡ length w) × Codeword a t v × (bit_distance w v ≤ t)
 
   -- the locators of a word: a^j for each place j with bit 1
   abbrev pub locators : K → List Bool → List K

@@ -24,11 +24,11 @@ use Rattle.field.specs.Field.{field_at}
 use Rattle.field.proofs.Digits.{bit-cases}
 use Rattle.field.proofs.Generator.{one_below}
 use Rattle.field.proofs.Xor.{xor_assoc}
-use Rattle.corrector_code.specs.Digits.{bytesNumber, digits, valueOfDigits}
+use Rattle.corrector_code.specs.Digits.{bytes_number, digits, value_of_digits}
 use Rattle.corrector_code.proofs.Eleven.{gen11}
 use Rattle.corrector_code.proofs.Flips.{flip-number}
-use Rattle.corrector_code.proofs.Values.{valueOfDigits-xor}
-use Rattle.corrector_generator.specs.Generators.{oddPower}
+use Rattle.corrector_code.proofs.Values.{value_of_digits-xor}
+use Rattle.corrector_generator.specs.Generators.{odd_power}
 use Rattle.corrector_generator.proofs.Bases.{multiples}
 use Rattle.corrector_remainder.specs.Remainder.{RestAt}
 use Rattle.corrector_remainder.proofs.Strengths.{rest-exists}
@@ -37,7 +37,7 @@ use Rattle.corrector.proofs.Bits.{bits-digits}
 use Rattle.corrector.proofs.Deciding.{zero-within}
 use Rattle.corrector_encoder.specs.Encoding.{Encoding, Encodes}
 use Rattle.corrector_encoder.specs.Encoding.Encodes.{encoded}
-use Rattle.corrector_encoder.specs.Bytes.{addBytes}
+use Rattle.corrector_encoder.specs.Bytes.{add_bytes}
 use Rattle.corrector_encoder.proofs.Unique.{bit-at, encoding-unique}
 
 -- bytes
@@ -50,7 +50,7 @@ Bytes l = (k : ℕ) → get_or l k 0 < 256
 pub record Added (n q x : ℕ) (w v : List ℕ) : Type 0 where
   pub long : length v ≡ length w
   pub bytes : Bytes v
-  pub number : bytesNumber v ≡ bit_xor (bytesNumber w) (x * 256 ^ q)
+  pub number : bytes_number v ≡ bit_xor (bytes_number w) (x * 256 ^ q)
   pub behind : (k : ℕ) → q + n ≤ k → get_or v k 0 ≡ get_or w k 0
 
 bytes-set : (w : List ℕ) (q x : ℕ) → Bytes w → q < length w → x < 256 → Bytes (set w q x)
@@ -83,12 +83,12 @@ low_byte x q =
     shuffle a p = let e : a * (p * 256) ≡ a * p * 256 = sym (mul_assoc a p 256) in omega arith
 
 -- N BYTES ADDED
-pub bytes-added : (n q x : ℕ) (w : List ℕ) → q + n ≤ length w → Bytes w → x < 256 ^ n → Added n q x w (addBytes n q x w)
-unfolding addBytes
+pub bytes-added : (n q x : ℕ) (w : List ℕ) → q + n ≤ length w → Bytes w → x < 256 ^ n → Added n q x w (add_bytes n q x w)
+unfolding add_bytes
 bytes-added zero q x w h u l = record {
   long = refl;
   bytes = u;
-  number = sym (ap (λ (y : ℕ). bit_xor (bytesNumber w) (y * 256 ^ q)) (lt-one l) ∙ ap (bit_xor (bytesNumber w)) (zero-mul (256 ^ q)) ∙ xor_zero_r (bytesNumber w));
+  number = sym (ap (λ (y : ℕ). bit_xor (bytes_number w) (y * 256 ^ q)) (lt-one l) ∙ ap (bit_xor (bytes_number w)) (zero-mul (256 ^ q)) ∙ xor_zero_r (bytes_number w));
   behind = λ k g. refl;
 }
 bytes-added (suc n) q x w h u l =
@@ -103,8 +103,8 @@ bytes-added (suc n) q x w h u l =
       bytes = r.bytes;
       number = r.number
           ∙ ap (λ (y : ℕ). bit_xor y (x / 256 * 256 ^ suc q)) (flip-number w q (x % 256) in-range u (let m : x % 256 < 256 = omega arith in m))
-          ∙ xor_assoc (bytesNumber w) (x % 256 * 256 ^ q) (x / 256 * 256 ^ suc q)
-          ∙ ap (bit_xor (bytesNumber w)) (low_byte x q);
+          ∙ xor_assoc (bytes_number w) (x % 256 * 256 ^ q) (x / 256 * 256 ^ suc q)
+          ∙ ap (bit_xor (bytes_number w)) (low_byte x q);
       behind = λ k g. r.behind k (omega arith) ∙ get_or-set_other w q k (bit_xor (get_or w q 0) (x % 256)) 0 (omega arith);
     }
 
@@ -127,31 +127,31 @@ same-digit x y =
     clash e = let z : ◌≡◌ {A = ℕ} 0 1 = cc in omega arith
 
 -- bit j of a block is digit j of its number
-pub bit-number : (word : List ℕ) → Bytes word → (j : ℕ) → j < 2047 → bit_at word j ≡ bytesNumber word / 2 ^ j % 2
+pub bit-number : (word : List ℕ) → Bytes word → (j : ℕ) → j < 2047 → bit_at word j ≡ bytes_number word / 2 ^ j % 2
 bit-number word u j h =
-    same-digit (get_or word (j / 8) 0 / 2 ^ (j % 8)) (bytesNumber word / 2 ^ j)
-    (sym (bit-at word j h) ∙ ap (λ (l : List Bool). get_or l j false) (bits-digits word u) ∙ digit_at 2047 (bytesNumber word) j h)
+    same-digit (get_or word (j / 8) 0 / 2 ^ (j % 8)) (bytes_number word / 2 ^ j)
+    (sym (bit-at word j h) ∙ ap (λ (l : List Bool). get_or l j false) (bits-digits word u) ∙ digit_at 2047 (bytes_number word) j h)
 
 -- ---- the codeword
 
-module _ (t : ℕ) (word v : List ℕ) (n : ℕ) (b : IsBlock word) (s : IsStrength t) (c : RestAt t (bytesNumber word) n)
-    (long : length v ≡ 256) (u : Bytes v) (e : bytesNumber v ≡ bit_xor (bytesNumber word) n) (last : bit_at v 2047 ≡ bit_at word 2047) where
+module _ (t : ℕ) (word v : List ℕ) (n : ℕ) (b : IsBlock word) (s : IsStrength t) (c : RestAt t (bytes_number word) n)
+    (long : length v ≡ 256) (u : Bytes v) (e : bytes_number v ≡ bit_xor (bytes_number word) n) (last : bit_at v 2047 ≡ bit_at word 2047) where
   block : IsBlock v
   block = record { long = long; bytes = u; last = last ∙ b.last }
 
   -- the values of what is made
-  zero-at : (k : ℕ) → k < t → valueOfDigits (field_at 11) (oddPower k) (bytesNumber v) ≡ 0
+  zero-at : (k : ℕ) → k < t → value_of_digits (field_at 11) (odd_power k) (bytes_number v) ≡ 0
   zero-at k h =
-      let W : ℕ = bytesNumber word in
-      let at : ℕ → ℕ = valueOfDigits (field_at 11) (oddPower k) in
-      ap at e ∙ valueOfDigits-xor (field_at 11) gen11.monic (one_below (field_at 11) gen11) (oddPower k) W n
+      let W : ℕ = bytes_number word in
+      let at : ℕ → ℕ = value_of_digits (field_at 11) (odd_power k) in
+      ap at e ∙ value_of_digits-xor (field_at 11) gen11.monic (one_below (field_at 11) gen11) (odd_power k) W n
       ∙ ap (bit_xor (at W)) (c.values k h) ∙ xor_self (at W)
 
   stays : (j : ℕ) → 11 * t ≤ j → j < 2047 → bit_at v j ≡ bit_at word j
   stays j h l =
-      bit-number v u j l ∙ ap (λ (x : ℕ). x / 2 ^ j % 2) e ∙ ap (λ (x : ℕ). x % 2) (xor_shr (bytesNumber word) n j
-      ∙ ap (bit_xor (bytesNumber word / 2 ^ j)) (div-eq_of_lt (lt_of_lt_of_le c.below (pow_mono h)))
-      ∙ xor_zero_r (bytesNumber word / 2 ^ j))
+      bit-number v u j l ∙ ap (λ (x : ℕ). x / 2 ^ j % 2) e ∙ ap (λ (x : ℕ). x % 2) (xor_shr (bytes_number word) n j
+      ∙ ap (bit_xor (bytes_number word / 2 ^ j)) (div-eq_of_lt (lt_of_lt_of_le c.below (pow_mono h)))
+      ∙ xor_zero_r (bytes_number word / 2 ^ j))
       ∙ sym (bit-number word b.bytes j l)
 
   -- A WORD WITH ITS CHECK BITS ADDED
@@ -160,27 +160,27 @@ module _ (t : ℕ) (word v : List ℕ) (n : ℕ) (b : IsBlock word) (s : IsStren
 
 -- in the two parts that the code adds
 pub encoding-made : {t : ℕ} {word : List ℕ} (hi lo : ℕ) → IsBlock word → IsStrength t
-    → RestAt t (bytesNumber word) (hi * 2 ^ 64 + lo)
-    → lo < 2 ^ 64 → Encoding t word (addBytes 3 8 hi (addBytes 8 0 lo word))
+    → RestAt t (bytes_number word) (hi * 2 ^ 64 + lo)
+    → lo < 2 ^ 64 → Encoding t word (add_bytes 3 8 hi (add_bytes 8 0 lo word))
 encoding-made {t} {word} hi lo b s c l =
     let m = s.most in
     let small : hi * 2 ^ 64 + lo < 2 ^ 88 = lt_of_lt_of_le c.below (pow_mono (let q : 11 * t ≤ 88 = omega arith in q)) in
     let first = bytes-added 8 0 lo word (let n = b.long in omega arith) b.bytes l in
-    let second = bytes-added 3 8 hi (addBytes 8 0 lo word) (let n = b.long in let k = first.long in omega arith) first.bytes (let q : hi < 16777216 = omega arith in q) in
-    encoding-of t word (addBytes 3 8 hi (addBytes 8 0 lo word)) (hi * 2 ^ 64 + lo) b s c (second.long ∙ first.long ∙ b.long) second.bytes
-    (second.number ∙ ap (λ (x : ℕ). bit_xor x (hi * 2 ^ 64)) (first.number ∙ ap (bit_xor (bytesNumber word)) (mul-one lo))
-    ∙ xor_assoc (bytesNumber word) lo (hi * 2 ^ 64)
-    ∙ ap (bit_xor (bytesNumber word)) (xor_comm lo (hi * 2 ^ 64) ∙ xor_shifted hi 64 lo l))
+    let second = bytes-added 3 8 hi (add_bytes 8 0 lo word) (let n = b.long in let k = first.long in omega arith) first.bytes (let q : hi < 16777216 = omega arith in q) in
+    encoding-of t word (add_bytes 3 8 hi (add_bytes 8 0 lo word)) (hi * 2 ^ 64 + lo) b s c (second.long ∙ first.long ∙ b.long) second.bytes
+    (second.number ∙ ap (λ (x : ℕ). bit_xor x (hi * 2 ^ 64)) (first.number ∙ ap (bit_xor (bytes_number word)) (mul-one lo))
+    ∙ xor_assoc (bytes_number word) lo (hi * 2 ^ 64)
+    ∙ ap (bit_xor (bytes_number word)) (xor_comm lo (hi * 2 ^ 64) ∙ xor_shifted hi 64 lo l))
     (ap (λ (x : ℕ). x / 2 ^ 7 % 2) (second.behind 255 (omega arith) ∙ first.behind 255 (omega arith)))
 
 -- THERE IS ONE
 pub encoding-exists : {t : ℕ} {word : List ℕ} → IsBlock word → IsStrength t → (v : List ℕ) × Encoding t word v
 encoding-exists {t} {word} b s =
-    let r = rest-exists t (bytesNumber word) s.least s.most in
+    let r = rest-exists t (bytes_number word) s.least s.most in
     let n : ℕ = r.0 in
     let e : n / 2 ^ 64 * 2 ^ 64 + n % 2 ^ 64 ≡ n = omega arith in (
-      addBytes 3 8 (n / 2 ^ 64) (addBytes 8 0 (n % 2 ^ 64) word),
-      encoding-made (n / 2 ^ 64) (n % 2 ^ 64) b s (subst (RestAt t (bytesNumber word)) (sym e) r.1) (omega arith),
+      add_bytes 3 8 (n / 2 ^ 64) (add_bytes 8 0 (n % 2 ^ 64) word),
+      encoding-made (n / 2 ^ 64) (n % 2 ^ 64) b s (subst (RestAt t (bytes_number word)) (sym e) r.1) (omega arith),
     )
 
 -- AND NO OTHER
@@ -190,7 +190,7 @@ encoding-exactly b s = let e = encoding-exists b s in (e.0, e.1, λ u x. encodin
 
 -- so the call's last step
 pub encoded-block : {t : ℕ} {word u v : List ℕ} (hi lo : ℕ) → IsBlock word → IsStrength t
-    → RestAt t (bytesNumber word) (hi * 2 ^ 64 + lo)
-    → lo < 2 ^ 64 → u ≡ addBytes 8 0 lo word → v ≡ addBytes 3 8 hi u → Encodes t word (0, 11 * t ∷ []) v
+    → RestAt t (bytes_number word) (hi * 2 ^ 64 + lo)
+    → lo < 2 ^ 64 → u ≡ add_bytes 8 0 lo word → v ≡ add_bytes 3 8 hi u → Encodes t word (0, 11 * t ∷ []) v
 encoded-block {t} {word} {u} {v} hi lo b s c l e f =
-    encoded b s (subst (Encoding t word) (sym (f ∙ ap (addBytes 3 8 hi) e)) (encoding-made hi lo b s c l))
+    encoded b s (subst (Encoding t word) (sym (f ∙ ap (add_bytes 3 8 hi) e)) (encoding-made hi lo b s c l))

@@ -22,8 +22,8 @@ use Rattle.algebra.proofs.Degree as D
 use Rattle.algebra.proofs.Factors as R
 use Rattle.algebra.proofs.Elements as E
 use Rattle.algebra.proofs.Series.{nought}
-use Rattle.field.proofs.Table.{bothTrue, bothTrue-left, bothTrue-right}
-use Rattle.corrector_code.specs.Word.{bit, wordValue, Codeword, DistinctPowers}
+use Rattle.field.proofs.Table.{both_true, both_true-left, both_true-right}
+use Rattle.corrector_code.specs.Word.{bit, word_value, Codeword, DistinctPowers}
 use Rattle.corrector_code.proofs.Check as Q
 
 -- e, 2e, 4e, .. modulo 2047
@@ -52,11 +52,11 @@ length-cosets (suc t) =
 
 fresh : ℕ → List ℕ → Bool
 fresh x [] = true
-fresh x (y ∷ l) = bothTrue (not (eqb x y)) (fresh x l)
+fresh x (y ∷ l) = both_true (not (eqb x y)) (fresh x l)
 
 spread : List ℕ → Bool
 spread [] = true
-spread (x ∷ l) = bothTrue (ltb x 2047) (bothTrue (fresh x l) (spread l))
+spread (x ∷ l) = both_true (ltb x 2047) (both_true (fresh x l) (spread l))
 
 spread-8 : T (spread (cosets 8))
 unfolding spread fresh cosets coset
@@ -66,24 +66,24 @@ fresh-all : (x : ℕ) (l : List ℕ) → T (fresh x l) → All (λ y. x ≢ y) l
 unfolding fresh
 fresh-all x [] t = tt
 fresh-all x (y ∷ l) t = (
-  λ e. T_not (eqb x y) (bothTrue-left (not (eqb x y)) (fresh x l) t) (subst (λ (z : ℕ). T (eqb x z)) e (eqb_refl x)),
-  fresh-all x l (bothTrue-right (not (eqb x y)) (fresh x l) t),
+  λ e. T_not (eqb x y) (both_true-left (not (eqb x y)) (fresh x l) t) (subst (λ (z : ℕ). T (eqb x z)) e (eqb_refl x)),
+  fresh-all x l (both_true-right (not (eqb x y)) (fresh x l) t),
 )
 
 spread-below : (l : List ℕ) → T (spread l) → All (λ x. x < 2047) l
 unfolding spread
 spread-below [] t = tt
 spread-below (x ∷ l) t = (
-  ltb→lt x 2047 (bothTrue-left (ltb x 2047) (bothTrue (fresh x l) (spread l)) t),
-  spread-below l (bothTrue-right (fresh x l) (spread l) (bothTrue-right (ltb x 2047) (bothTrue (fresh x l) (spread l)) t)),
+  ltb→lt x 2047 (both_true-left (ltb x 2047) (both_true (fresh x l) (spread l)) t),
+  spread-below l (both_true-right (fresh x l) (spread l) (both_true-right (ltb x 2047) (both_true (fresh x l) (spread l)) t)),
 )
 
 spread-distinct : (l : List ℕ) → T (spread l) → Distinct l
 unfolding spread
 spread-distinct [] t = tt
 spread-distinct (x ∷ l) t =
-    let u : T (bothTrue (fresh x l) (spread l)) = bothTrue-right (ltb x 2047) (bothTrue (fresh x l) (spread l)) t in
-    (fresh-all x l (bothTrue-left (fresh x l) (spread l) u), spread-distinct l (bothTrue-right (fresh x l) (spread l) u))
+    let u : T (both_true (fresh x l) (spread l)) = both_true-right (ltb x 2047) (both_true (fresh x l) (spread l)) t in
+    (fresh-all x l (both_true-left (fresh x l) (spread l) u), spread-distinct l (both_true-right (fresh x l) (spread l) u))
 
 -- what holds of the exponents of strength 8 holds of those of a lower strength, which stand behind
 all-behind : (P : ℕ → Type 0) (k l : List ℕ) → All P (k ++ l) → All P l
@@ -137,13 +137,13 @@ module _ {K : Type 0} {F : Ops K} (L : Laws F) (a : K) (o : DistinctPowers F a 2
   module _ (w : List Bool) where
     -- where the word is zero
     Zero : K → Type 0
-    Zero x = wordValue F w x ≡ 0#
+    Zero x = word_value F w x ≡ 0#
 
-    doubled : (e : ℕ) → wordValue F w (power F a e) ≡ 0# → wordValue F w (power F a (2 * e % 2047)) ≡ 0#
+    doubled : (e : ℕ) → word_value F w (power F a e) ≡ 0# → word_value F w (power F a (2 * e % 2047)) ≡ 0#
     doubled e h =
-        ap (wordValue F w) (power-mod (2 * e)) ∙ Q.syndrome-square L w a e ∙ ap (λ v. v ⊗ v) h ∙ E.mul-zero L 0#
+        ap (word_value F w) (power-mod (2 * e)) ∙ Q.syndrome-square L w a e ∙ ap (λ v. v ⊗ v) h ∙ E.mul-zero L 0#
 
-    coset-zero : (m e : ℕ) → wordValue F w (power F a e) ≡ 0#
+    coset-zero : (m e : ℕ) → word_value F w (power F a e) ≡ 0#
         → All (λ x. eval F (map (bit F) w) x ≡ 0#) (map (power F a) (coset m e))
     unfolding coset
     coset-zero zero e h = tt
@@ -155,7 +155,7 @@ module _ {K : Type 0} {F : Ops K} (L : Laws F) (a : K) (o : DistinctPowers F a 2
     both [] l h g = g
     both (x ∷ k) l h g = (h.0, both k l h.1 g)
 
-    cosets-zero : (t : ℕ) → ((k : ℕ) → k < t → wordValue F w (power F a (suc (2 * k))) ≡ 0#)
+    cosets-zero : (t : ℕ) → ((k : ℕ) → k < t → word_value F w (power F a (suc (2 * k))) ≡ 0#)
         → All (λ x. eval F (map (bit F) w) x ≡ 0#) (map (power F a) (cosets t))
     unfolding cosets
     cosets-zero zero h = tt

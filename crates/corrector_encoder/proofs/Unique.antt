@@ -24,7 +24,7 @@ use Rattle.corrector_code.specs.Eleven.{F11}
 use Rattle.corrector_code.proofs.Eleven.{gen11}
 use Rattle.corrector_code.proofs.Carry.{Carries}
 use Rattle.corrector_code.proofs.Carry as C
-use Rattle.corrector_code.proofs.Complete.{map-upFrom-at}
+use Rattle.corrector_code.proofs.Complete.{map-up_from-at}
 use Rattle.corrector_code.proofs.Words.{differ-nowhere}
 use Rattle.corrector_code.proofs.Words as X
 use Rattle.corrector.specs.Correcting.{bit_at, IsBlock, IsStrength, IsCodeword}
@@ -38,7 +38,7 @@ use Rattle.corrector_encoder.proofs.Cosets.{short-zero}
 pub bit-at : (word : List ℕ) (j : ℕ) → j < 2047 → get_or (bits_of word) j false ≡ eqb (bit_at word j) 1
 unfolding bits_of
 bit-at word j h =
-    map-upFrom-at false (λ j. eqb (bit_at word j) 1) 0 2047 j h ∙ ap (λ (i : ℕ). eqb (bit_at word i) 1) (zero-add j)
+    map-up_from-at false (λ j. eqb (bit_at word j) 1) 0 2047 j h ∙ ap (λ (i : ℕ). eqb (bit_at word i) 1) (zero-add j)
 
 -- and behind them
 pub bits-past : (word : List ℕ) (j : ℕ) → 2047 ≤ j → get_or (bits_of word) j false ≡ false

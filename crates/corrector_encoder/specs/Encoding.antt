@@ -3,7 +3,7 @@
 -- bits 0 to 11 t - 1 are its check bits.
 --   Encoding t word v   v is a codeword of strength t with the data of the word: there is exactly one
 --   Encodes             THE CONTRACT: the outcome for t and a word, and what the lent word holds afterwards
---   toldEncoded         the number and the value of an answer
+--   told_encoded         the number and the value of an answer
 -- Assumes nothing.
 use Rattle.std.specs.Prelude.{◌≡◌, List, [], ◌∷◌, ℕ, ◌*◌, ◌≤◌, ◌<◌}
 use Rattle.refusals.specs.Numbers.{number_of}
@@ -24,6 +24,6 @@ pub data Encodes (t : ℕ) (word : List ℕ) : ℕ × List ℕ → List ℕ → 
   encoded : {v : List ℕ} → IsBlock word → IsStrength t → Encoding t word v → Encodes t word (0, 11 * t ∷ []) v
 
 -- the number and the value of an answer
-abbrev pub toldEncoded : Encoded → ℕ × List ℕ
-toldEncoded (Checks n) = (0, n ∷ [])
-toldEncoded (NotEncoded k) = (number_of k, [])
+abbrev pub told_encoded : Encoded → ℕ × List ℕ
+told_encoded (Checks n) = (0, n ∷ [])
+told_encoded (NotEncoded k) = (number_of k, [])

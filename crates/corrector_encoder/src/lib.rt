@@ -3,8 +3,8 @@
 // has 11 t digits, so that the bits from 11 t on stay.
 ghost use Rattle.std.specs.Prelude.{◌≡◌, [], ◌∷◌, ◌+◌, ◌*◌, ◌≤◌, length};
 ghost use Rattle.corrector.specs.Correcting.{IsBlock, IsStrength};
-ghost use Rattle.corrector_encoder.specs.Bytes.{addBytes};
-ghost use Rattle.corrector_encoder.specs.Encoding.{Encodes, toldEncoded};
+ghost use Rattle.corrector_encoder.specs.Bytes.{add_bytes};
+ghost use Rattle.corrector_encoder.specs.Encoding.{Encodes, told_encoded};
 
 use corrector_code::{CHECKS, LAST, STRONGEST, WORD};
 use corrector_remainder::remainder_of;
@@ -20,7 +20,7 @@ pub enum Encoded {
 // Adds the n bytes of x to those of the word from byte q on.
 fn add_bytes(word: &mut [u8], q: usize, n: usize, x: u64)
     requires { q + n ≤ length word.old }
-    ensures { word.new ≡ addBytes n q x word.old }
+    ensures { word.new ≡ add_bytes n q x word.old }
 {
     let mut y = x;
     let mut i: usize = 0;
@@ -44,7 +44,7 @@ fn encode_block(strength: u16, word: &mut [u8])
 
 // Makes the word the codeword of this strength that has its bits from 11 t on, and tells how many check bits it has.
 pub fn encode(strength: u16, word: &mut [u8]) -> Encoded
-    ensures { Encodes strength word.old (toldEncoded result) word.new }
+    ensures { Encodes strength word.old (told_encoded result) word.new }
 {
     if word.len() != WORD {
         return Encoded::NotEncoded(Refusal::Block);

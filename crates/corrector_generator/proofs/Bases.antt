@@ -2,7 +2,7 @@
 -- those of 1, 2, 4, .. over the digits of c.
 --   NotBelow n c           c is none of 0 to n - 1;  none_left  then it is not below n
 --   multiples              the sum of two multiples of 2^k
---   backFromTop-additive   the remainder of a sum is the sum
+--   back_from_top-additive   the remainder of a sum is the sum
 --   by-sum                 what a basis tells of the remainder of c x^(d + k)
 -- Assumes nothing.
 use mathlib.Core.Path.{◌≡◌, sym, ap, ap₂, ◌∙◌}
@@ -14,9 +14,9 @@ use native.Mathlib.Omega.{arith}
 use lib.Bits.{bit_xor, xor_block}
 use lib.Pow.{pow_pos}
 use Rattle.field.specs.Field.{Field, reduce, size}
-use Rattle.field.proofs.Additive.{Additive, linearMap, basis, by-basis}
+use Rattle.field.proofs.Additive.{Additive, linear_map, basis, by-basis}
 use Rattle.field.proofs.Reduce.{reduce-xor}
-use Rattle.corrector_generator.specs.Generators.{backFromTop}
+use Rattle.corrector_generator.specs.Generators.{back_from_top}
 
 -- none of 0 to n - 1
 unfoldable pub NotBelow : ℕ → ℕ → Type 0
@@ -45,20 +45,20 @@ multiples k x y =
 
 module _ (G : Field) where
   -- the remainder of a sum is the sum
-  pub backFromTop-additive : Additive (backFromTop G)
-  unfolding backFromTop
-  backFromTop-additive x y =
+  pub back_from_top-additive : Additive (back_from_top G)
+  unfolding back_from_top
+  back_from_top-additive x y =
       ap (reduce G) (sym (multiples G.degree x y)) ∙ reduce-xor G (x * size G) (y * size G)
 
   -- and of the sum of two multiples
-  moved-additive : (k : ℕ) → Additive (λ c. backFromTop G (c * 2 ^ k))
+  moved-additive : (k : ℕ) → Additive (λ c. back_from_top G (c * 2 ^ k))
   moved-additive k x y =
-      ap (backFromTop G) (sym (multiples k x y)) ∙ backFromTop-additive (x * 2 ^ k) (y * 2 ^ k)
+      ap (back_from_top G) (sym (multiples k x y)) ∙ back_from_top-additive (x * 2 ^ k) (y * 2 ^ k)
 
   -- what a basis tells of its sums
-  pub by-sum : (k n : ℕ) (B : List ℕ) → basis (λ c. backFromTop G (c * 2 ^ k)) n ≡ B → {c m v : ℕ} → c < 2 ^ n → c ≡ m
-      → v ≡ linearMap B m
-      → v ≡ backFromTop G (c * 2 ^ k)
+  pub by-sum : (k n : ℕ) (B : List ℕ) → basis (λ c. back_from_top G (c * 2 ^ k)) n ≡ B → {c m v : ℕ} → c < 2 ^ n → c ≡ m
+      → v ≡ linear_map B m
+      → v ≡ back_from_top G (c * 2 ^ k)
   by-sum k n B e {c} {m} {v} h key f =
-      f ∙ ap (linearMap B) (sym key)
-      ∙ sym (by-basis n (λ x. backFromTop G (x * 2 ^ k)) (moved-additive k) c h ∙ ap (λ (l : List ℕ). linearMap l c) e)
+      f ∙ ap (linear_map B) (sym key)
+      ∙ sym (by-basis n (λ x. back_from_top G (x * 2 ^ k)) (moved-additive k) c h ∙ ap (λ (l : List ℕ). linear_map l c) e)

@@ -7,8 +7,8 @@ use mathlib.Core.Path.{◌≡◌, refl}
 use mathlib.Core.List.{List, [], ◌∷◌}
 use Prim.Native.Nat.{ℕ, ◌*◌, ◌<◌}
 use Rattle.field.specs.Field.{reduce, horner, cut}
-use Rattle.field.proofs.Additive.{linearMap, basis}
-use Rattle.corrector_generator.specs.Generators.{generatorOf, generatorAt, backFromTop}
+use Rattle.field.proofs.Additive.{linear_map, basis}
+use Rattle.corrector_generator.specs.Generators.{generator_of, generator_at, back_from_top}
 use Rattle.corrector_generator.proofs.Bases.{by-sum}
 
 -- the remainders of x^55, x^56, ..
@@ -18,13 +18,13 @@ basis0 = 23972119453998797 ∷ 35887561342886743 ∷ 12338290056550499 ∷ 24676
 
 -- their sum over the digits of a number
 unfoldable pub sum0 : ℕ → ℕ
-unfolding linearMap basis0
-sum0 c = linearMap basis0 c
+unfolding linear_map basis0
+sum0 c = linear_map basis0 c
 
 -- an arm of row0
-pub arm0 : {c m v : ℕ} → c < 128 → c ≡ m → v ≡ sum0 m → v ≡ backFromTop (generatorAt 5) (c * 1)
-unfolding sum0 basis0 basis backFromTop generatorOf reduce horner cut
-arm0 h key f = by-sum (generatorAt 5) 0 7 basis0 refl h key f
+pub arm0 : {c m v : ℕ} → c < 128 → c ≡ m → v ≡ sum0 m → v ≡ back_from_top (generator_at 5) (c * 1)
+unfolding sum0 basis0 basis back_from_top generator_of reduce horner cut
+arm0 h key f = by-sum (generator_at 5) 0 7 basis0 refl h key f
 
 -- the remainders of x^62, x^63, ..
 basis7 : List ℕ
@@ -33,13 +33,13 @@ basis7 = 23194423152091121 ∷ 32058378676183343 ∷ 15449641117211795 ∷ 30899
 
 -- their sum over the digits of a number
 unfoldable pub sum7 : ℕ → ℕ
-unfolding linearMap basis7
-sum7 c = linearMap basis7 c
+unfolding linear_map basis7
+sum7 c = linear_map basis7 c
 
 -- an arm of row7
-pub arm7 : {c m v : ℕ} → c < 128 → c ≡ m → v ≡ sum7 m → v ≡ backFromTop (generatorAt 5) (c * 128)
-unfolding sum7 basis7 basis backFromTop generatorOf reduce horner cut
-arm7 h key f = by-sum (generatorAt 5) 7 7 basis7 refl h key f
+pub arm7 : {c m v : ℕ} → c < 128 → c ≡ m → v ≡ sum7 m → v ≡ back_from_top (generator_at 5) (c * 128)
+unfolding sum7 basis7 basis back_from_top generator_of reduce horner cut
+arm7 h key f = by-sum (generator_at 5) 7 7 basis7 refl h key f
 
 -- the remainders of x^69, x^70, ..
 basis14 : List ℕ
@@ -48,13 +48,13 @@ basis14 = 33002512912442376 ∷ 17827192247375581 ∷ 35654384494751162 ∷ 1139
 
 -- their sum over the digits of a number
 unfoldable pub sum14 : ℕ → ℕ
-unfolding linearMap basis14
-sum14 c = linearMap basis14 c
+unfolding linear_map basis14
+sum14 c = linear_map basis14 c
 
 -- an arm of row14
-pub arm14 : {c m v : ℕ} → c < 64 → c ≡ m → v ≡ sum14 m → v ≡ backFromTop (generatorAt 5) (c * 16384)
-unfolding sum14 basis14 basis backFromTop generatorOf reduce horner cut
-arm14 h key f = by-sum (generatorAt 5) 14 6 basis14 refl h key f
+pub arm14 : {c m v : ℕ} → c < 64 → c ≡ m → v ≡ sum14 m → v ≡ back_from_top (generator_at 5) (c * 16384)
+unfolding sum14 basis14 basis back_from_top generator_of reduce horner cut
+arm14 h key f = by-sum (generator_at 5) 14 6 basis14 refl h key f
 
 -- the remainders of x^75, x^76, ..
 basis20 : List ℕ
@@ -63,13 +63,13 @@ basis20 = 17060265666580127 ∷ 34120531333160254 ∷ 11076920569734321 ∷ 2215
 
 -- their sum over the digits of a number
 unfoldable pub sum20 : ℕ → ℕ
-unfolding linearMap basis20
-sum20 c = linearMap basis20 c
+unfolding linear_map basis20
+sum20 c = linear_map basis20 c
 
 -- an arm of row20
-pub arm20 : {c m v : ℕ} → c < 64 → c ≡ m → v ≡ sum20 m → v ≡ backFromTop (generatorAt 5) (c * 1048576)
-unfolding sum20 basis20 basis backFromTop generatorOf reduce horner cut
-arm20 h key f = by-sum (generatorAt 5) 20 6 basis20 refl h key f
+pub arm20 : {c m v : ℕ} → c < 64 → c ≡ m → v ≡ sum20 m → v ≡ back_from_top (generator_at 5) (c * 1048576)
+unfolding sum20 basis20 basis back_from_top generator_of reduce horner cut
+arm20 h key f = by-sum (generator_at 5) 20 6 basis20 refl h key f
 
 -- the remainders of x^81, x^82, ..
 basis26 : List ℕ
@@ -78,10 +78,10 @@ basis26 = 26586142838002547 ∷ 29780742721288235 ∷ 1882771904065179 ∷ 37655
 
 -- their sum over the digits of a number
 unfoldable pub sum26 : ℕ → ℕ
-unfolding linearMap basis26
-sum26 c = linearMap basis26 c
+unfolding linear_map basis26
+sum26 c = linear_map basis26 c
 
 -- an arm of row26
-pub arm26 : {c m v : ℕ} → c < 64 → c ≡ m → v ≡ sum26 m → v ≡ backFromTop (generatorAt 5) (c * 67108864)
-unfolding sum26 basis26 basis backFromTop generatorOf reduce horner cut
-arm26 h key f = by-sum (generatorAt 5) 26 6 basis26 refl h key f
+pub arm26 : {c m v : ℕ} → c < 64 → c ≡ m → v ≡ sum26 m → v ≡ back_from_top (generator_at 5) (c * 67108864)
+unfolding sum26 basis26 basis back_from_top generator_of reduce horner cut
+arm26 h key f = by-sum (generator_at 5) 26 6 basis26 refl h key f

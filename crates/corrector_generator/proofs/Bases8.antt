@@ -7,8 +7,8 @@ use mathlib.Core.Path.{◌≡◌, refl}
 use mathlib.Core.List.{List, [], ◌∷◌}
 use Prim.Native.Nat.{ℕ, ◌*◌, ◌<◌}
 use Rattle.field.specs.Field.{reduce, horner, cut}
-use Rattle.field.proofs.Additive.{linearMap, basis}
-use Rattle.corrector_generator.specs.Generators.{generatorOf, generatorAt, backFromTop}
+use Rattle.field.proofs.Additive.{linear_map, basis}
+use Rattle.corrector_generator.specs.Generators.{generator_of, generator_at, back_from_top}
 use Rattle.corrector_generator.proofs.Bases.{by-sum}
 
 -- the remainders of x^88, x^89, ..
@@ -20,13 +20,13 @@ basis0 = 8160614335732087325027795 ∷ 16321228671464174650055590
 
 -- their sum over the digits of a number
 unfoldable pub sum0 : ℕ → ℕ
-unfolding linearMap basis0
-sum0 c = linearMap basis0 c
+unfolding linear_map basis0
+sum0 c = linear_map basis0 c
 
 -- an arm of row0
-pub arm0 : {c m v : ℕ} → c < 128 → c ≡ m → v ≡ sum0 m → v ≡ backFromTop (generatorAt 8) (c * 1)
-unfolding sum0 basis0 basis backFromTop generatorOf reduce horner cut
-arm0 h key f = by-sum (generatorAt 8) 0 7 basis0 refl h key f
+pub arm0 : {c m v : ℕ} → c < 128 → c ≡ m → v ≡ sum0 m → v ≡ back_from_top (generator_at 8) (c * 1)
+unfolding sum0 basis0 basis back_from_top generator_of reduce horner cut
+arm0 h key f = by-sum (generator_at 8) 0 7 basis0 refl h key f
 
 -- the remainders of x^95, x^96, ..
 basis7 : List ℕ
@@ -37,13 +37,13 @@ basis7 = 129703656486576579590316021 ∷ 259407312973153159180632042
 
 -- their sum over the digits of a number
 unfoldable pub sum7 : ℕ → ℕ
-unfolding linearMap basis7
-sum7 c = linearMap basis7 c
+unfolding linear_map basis7
+sum7 c = linear_map basis7 c
 
 -- an arm of row7
-pub arm7 : {c m v : ℕ} → c < 128 → c ≡ m → v ≡ sum7 m → v ≡ backFromTop (generatorAt 8) (c * 128)
-unfolding sum7 basis7 basis backFromTop generatorOf reduce horner cut
-arm7 h key f = by-sum (generatorAt 8) 7 7 basis7 refl h key f
+pub arm7 : {c m v : ℕ} → c < 128 → c ≡ m → v ≡ sum7 m → v ≡ back_from_top (generator_at 8) (c * 128)
+unfolding sum7 basis7 basis back_from_top generator_of reduce horner cut
+arm7 h key f = by-sum (generator_at 8) 7 7 basis7 refl h key f
 
 -- the remainders of x^102, x^103, ..
 basis14 : List ℕ
@@ -53,13 +53,13 @@ basis14 = 15922607744525810283595599 ∷ 31845215489051620567191198
 
 -- their sum over the digits of a number
 unfoldable pub sum14 : ℕ → ℕ
-unfolding linearMap basis14
-sum14 c = linearMap basis14 c
+unfolding linear_map basis14
+sum14 c = linear_map basis14 c
 
 -- an arm of row14
-pub arm14 : {c m v : ℕ} → c < 64 → c ≡ m → v ≡ sum14 m → v ≡ backFromTop (generatorAt 8) (c * 16384)
-unfolding sum14 basis14 basis backFromTop generatorOf reduce horner cut
-arm14 h key f = by-sum (generatorAt 8) 14 6 basis14 refl h key f
+pub arm14 : {c m v : ℕ} → c < 64 → c ≡ m → v ≡ sum14 m → v ≡ back_from_top (generator_at 8) (c * 16384)
+unfolding sum14 basis14 basis back_from_top generator_of reduce horner cut
+arm14 h key f = by-sum (generator_at 8) 14 6 basis14 refl h key f
 
 -- the remainders of x^108, x^109, ..
 basis20 : List ℕ
@@ -69,13 +69,13 @@ basis20 = 79409667713778073347712437 ∷ 158819335427556146695424874
 
 -- their sum over the digits of a number
 unfoldable pub sum20 : ℕ → ℕ
-unfolding linearMap basis20
-sum20 c = linearMap basis20 c
+unfolding linear_map basis20
+sum20 c = linear_map basis20 c
 
 -- an arm of row20
-pub arm20 : {c m v : ℕ} → c < 64 → c ≡ m → v ≡ sum20 m → v ≡ backFromTop (generatorAt 8) (c * 1048576)
-unfolding sum20 basis20 basis backFromTop generatorOf reduce horner cut
-arm20 h key f = by-sum (generatorAt 8) 20 6 basis20 refl h key f
+pub arm20 : {c m v : ℕ} → c < 64 → c ≡ m → v ≡ sum20 m → v ≡ back_from_top (generator_at 8) (c * 1048576)
+unfolding sum20 basis20 basis back_from_top generator_of reduce horner cut
+arm20 h key f = by-sum (generator_at 8) 20 6 basis20 refl h key f
 
 -- the remainders of x^114, x^115, ..
 basis26 : List ℕ
@@ -85,10 +85,10 @@ basis26 = 9560748642264419935432816 ∷ 19121497284528839870865632
 
 -- their sum over the digits of a number
 unfoldable pub sum26 : ℕ → ℕ
-unfolding linearMap basis26
-sum26 c = linearMap basis26 c
+unfolding linear_map basis26
+sum26 c = linear_map basis26 c
 
 -- an arm of row26
-pub arm26 : {c m v : ℕ} → c < 64 → c ≡ m → v ≡ sum26 m → v ≡ backFromTop (generatorAt 8) (c * 67108864)
-unfolding sum26 basis26 basis backFromTop generatorOf reduce horner cut
-arm26 h key f = by-sum (generatorAt 8) 26 6 basis26 refl h key f
+pub arm26 : {c m v : ℕ} → c < 64 → c ≡ m → v ≡ sum26 m → v ≡ back_from_top (generator_at 8) (c * 67108864)
+unfolding sum26 basis26 basis back_from_top generator_of reduce horner cut
+arm26 h key f = by-sum (generator_at 8) 26 6 basis26 refl h key f

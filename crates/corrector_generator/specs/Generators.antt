@@ -1,10 +1,10 @@
 -- The generators of the strengths 1 to 8, and the remainders of what leaves a register at the top.
 -- Inner contracts alone cite it: what corrector and encoder promise does not speak of generators.
---   generatorOf t     the generator of strength t as a number, its binary digits the coefficients
---   generatorAt t     the same with its degree, 11 t
---   backFromTop G t   the remainder by G of t x^d, d its degree
---   remainderOf r     the number that a row of strength 8 holds in two parts
---   oddPower k        a^(2k+1): the generator of strength t is zero at those with k below t
+--   generator_of t     the generator of strength t as a number, its binary digits the coefficients
+--   generator_at t     the same with its degree, 11 t
+--   back_from_top G t   the remainder by G of t x^d, d its degree
+--   remainder_of r     the number that a row of strength 8 holds in two parts
+--   odd_power k        a^(2k+1): the generator of strength t is zero at those with k below t
 -- Assumes nothing.
 use Rattle.std.specs.Prelude.{ℕ, suc, ◌+◌, ◌-◌, ◌*◌, ◌^◌, get_or}
 use Rattle.algebra.specs.Field.{power}
@@ -14,21 +14,21 @@ use Rattle.corrector_generator.specs.Polynomials.{polynomials}
 use Rattle.corrector_generator.specs.declared.Remainder.{Remainder}
 
 -- the generator of strength t, as a number
-unfoldable pub generatorOf : ℕ → ℕ
-generatorOf t = get_or polynomials (t - 1) 0
+unfoldable pub generator_of : ℕ → ℕ
+generator_of t = get_or polynomials (t - 1) 0
 
 -- degree and polynomial
-abbrev pub generatorAt : ℕ → Field
-generatorAt t = field_of (11 * t) (generatorOf t)
+abbrev pub generator_at : ℕ → Field
+generator_at t = field_of (11 * t) (generator_of t)
 
 -- the remainder of t x^d
-unfoldable pub backFromTop : Field → ℕ → ℕ
-backFromTop G t = reduce G (t * size G)
+unfoldable pub back_from_top : Field → ℕ → ℕ
+back_from_top G t = reduce G (t * size G)
 
 -- the number that a row holds
-abbrev pub remainderOf : Remainder → ℕ
-remainderOf r = r.1 * 2 ^ 64 + r.0
+abbrev pub remainder_of : Remainder → ℕ
+remainder_of r = r.1 * 2 ^ 64 + r.0
 
 -- a^(2k+1)
-unfoldable pub oddPower : ℕ → ℕ
-oddPower k = power F11 2 (suc (2 * k))
+unfoldable pub odd_power : ℕ → ℕ
+odd_power k = power F11 2 (suc (2 * k))

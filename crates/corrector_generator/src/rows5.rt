@@ -1,12 +1,12 @@
 // Remainders by the generator of strength 5, as constants in place: a match whose arms are numbers is a table in
 // the program's read-only part, and nothing is built at a call. Written by tools/generator_rows.py.
 ghost use Rattle.std.specs.Prelude.{◌≡◌, ◌*◌, ◌<◌};
-ghost use Rattle.corrector_generator.specs.Generators.{generatorAt, backFromTop};
+ghost use Rattle.corrector_generator.specs.Generators.{generator_at, back_from_top};
 
 // The remainder of c x^55: digits 0 to 6 of what leaves at the top.
 pub fn row0(c: u64) -> u64
     requires { c < 128 }
-    ensures { result ≡ backFromTop (generatorAt 5) (c * 1) }
+    ensures { result ≡ back_from_top (generator_at 5) (c * 1) }
 {
     match c {
         0 => 0,
@@ -144,7 +144,7 @@ pub fn row0(c: u64) -> u64
 // The remainder of c x^62: digits 7 to 13 of what leaves at the top.
 pub fn row7(c: u64) -> u64
     requires { c < 128 }
-    ensures { result ≡ backFromTop (generatorAt 5) (c * 128) }
+    ensures { result ≡ back_from_top (generator_at 5) (c * 128) }
 {
     match c {
         0 => 0,
@@ -282,7 +282,7 @@ pub fn row7(c: u64) -> u64
 // The remainder of c x^69: digits 14 to 19 of what leaves at the top.
 pub fn row14(c: u64) -> u64
     requires { c < 64 }
-    ensures { result ≡ backFromTop (generatorAt 5) (c * 16384) }
+    ensures { result ≡ back_from_top (generator_at 5) (c * 16384) }
 {
     match c {
         0 => 0,
@@ -356,7 +356,7 @@ pub fn row14(c: u64) -> u64
 // The remainder of c x^75: digits 20 to 25 of what leaves at the top.
 pub fn row20(c: u64) -> u64
     requires { c < 64 }
-    ensures { result ≡ backFromTop (generatorAt 5) (c * 1048576) }
+    ensures { result ≡ back_from_top (generator_at 5) (c * 1048576) }
 {
     match c {
         0 => 0,
@@ -430,7 +430,7 @@ pub fn row20(c: u64) -> u64
 // The remainder of c x^81: digits 26 to 31 of what leaves at the top.
 pub fn row26(c: u64) -> u64
     requires { c < 64 }
-    ensures { result ≡ backFromTop (generatorAt 5) (c * 67108864) }
+    ensures { result ≡ back_from_top (generator_at 5) (c * 67108864) }
 {
     match c {
         0 => 0,

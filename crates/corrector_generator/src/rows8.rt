@@ -1,14 +1,14 @@
 // Remainders by the generator of strength 8, as constants in place: a match whose arms are numbers is a table in
 // the program's read-only part, and nothing is built at a call. Written by tools/generator_rows.py.
 ghost use Rattle.std.specs.Prelude.{◌≡◌, ◌*◌, ◌<◌};
-ghost use Rattle.corrector_generator.specs.Generators.{generatorAt, backFromTop, remainderOf};
+ghost use Rattle.corrector_generator.specs.Generators.{generator_at, back_from_top, remainder_of};
 
 use crate::Remainder;
 
 // The remainder of c x^88: digits 0 to 6 of what leaves at the top.
 pub fn row0(c: u64) -> Remainder
     requires { c < 128 }
-    ensures { remainderOf result ≡ backFromTop (generatorAt 8) (c * 1) }
+    ensures { remainder_of result ≡ back_from_top (generator_at 8) (c * 1) }
 {
     match c {
         0 => Remainder(0, 0),
@@ -146,7 +146,7 @@ pub fn row0(c: u64) -> Remainder
 // The remainder of c x^95: digits 7 to 13 of what leaves at the top.
 pub fn row7(c: u64) -> Remainder
     requires { c < 128 }
-    ensures { remainderOf result ≡ backFromTop (generatorAt 8) (c * 128) }
+    ensures { remainder_of result ≡ back_from_top (generator_at 8) (c * 128) }
 {
     match c {
         0 => Remainder(0, 0),
@@ -284,7 +284,7 @@ pub fn row7(c: u64) -> Remainder
 // The remainder of c x^102: digits 14 to 19 of what leaves at the top.
 pub fn row14(c: u64) -> Remainder
     requires { c < 64 }
-    ensures { remainderOf result ≡ backFromTop (generatorAt 8) (c * 16384) }
+    ensures { remainder_of result ≡ back_from_top (generator_at 8) (c * 16384) }
 {
     match c {
         0 => Remainder(0, 0),
@@ -358,7 +358,7 @@ pub fn row14(c: u64) -> Remainder
 // The remainder of c x^108: digits 20 to 25 of what leaves at the top.
 pub fn row20(c: u64) -> Remainder
     requires { c < 64 }
-    ensures { remainderOf result ≡ backFromTop (generatorAt 8) (c * 1048576) }
+    ensures { remainder_of result ≡ back_from_top (generator_at 8) (c * 1048576) }
 {
     match c {
         0 => Remainder(0, 0),
@@ -432,7 +432,7 @@ pub fn row20(c: u64) -> Remainder
 // The remainder of c x^114: digits 26 to 31 of what leaves at the top.
 pub fn row26(c: u64) -> Remainder
     requires { c < 64 }
-    ensures { remainderOf result ≡ backFromTop (generatorAt 8) (c * 67108864) }
+    ensures { remainder_of result ≡ back_from_top (generator_at 8) (c * 67108864) }
 {
     match c {
         0 => Remainder(0, 0),

@@ -16,11 +16,11 @@ use Rattle.field.specs.Field.{field_at, mul, inverse}
 use Rattle.field.proofs.Ring.{mul-lt, ring}
 use Rattle.corrector_code.proofs.Eleven.{gen11}
 use Rattle.algebra.specs.Polynomial.{add}
-use Rattle.corrector_code.specs.Key.{Register, conv, shift, plusTimes, mend, turn, register}
+use Rattle.corrector_code.specs.Key.{Register, conv, shift, plus_times, mend, turn, register}
 use Rattle.corrector_code.specs.Eleven.{F11}
-use Rattle.corrector_locator.specs.Under.{Under, registerOf, Sound}
+use Rattle.corrector_locator.specs.Under.{Under, register_of, Sound}
 use Rattle.corrector_locator.specs.declared.State.{State}
-use Rattle.corrector_locator.proofs.Loops.{plusTimes-long, plusTimes-at}
+use Rattle.corrector_locator.proofs.Loops.{plus_times-long, plus_times-at}
 open ring (field_at 11) gen11.monic use {mul-zero-r}
 
 under-cons : (x : ℕ) (p : List ℕ) → x < 2048 → Under p → Under (x ∷ p)
@@ -79,23 +79,23 @@ module _ {m : ℕ} {r : Register ℕ} (w : Fine m r) where
   }
 
   mend-fine : (d : ℕ) → Fine (suc m) (mend F11 d r)
-  unfolding mend plusTimes
+  unfolding mend plus_times
   mend-fine d = go (ltb r.low r.high)
     where
-      under-new : Under (plusTimes F11 r.locator d r.spare)
+      under-new : Under (plus_times F11 r.locator d r.spare)
       under-new = under-add r.locator (map (mul (field_at 11) d) r.spare) w.below (under-map d r.spare)
 
-      long-new : length (plusTimes F11 r.locator d r.spare) ≡ 9
-      long-new = plusTimes-long r.locator d r.spare (w.long ∙ sym w.long-spare) ∙ w.long
+      long-new : length (plus_times F11 r.locator d r.spare) ≡ 9
+      long-new = plus_times-long r.locator d r.spare (w.long ∙ sym w.long-spare) ∙ w.long
 
-      first-new : get_or (plusTimes F11 r.locator d r.spare) 0 0 ≡ 1
+      first-new : get_or (plus_times F11 r.locator d r.spare) 0 0 ≡ 1
       first-new =
-          plusTimes-at r.locator d r.spare 0 (w.long ∙ sym w.long-spare) (let l = w.long in omega arith)
+          plus_times-at r.locator d r.spare 0 (w.long ∙ sym w.long-spare) (let l = w.long in omega arith)
           ∙ ap₂ bit_xor w.first (ap (mul (field_at 11) d) w.clear ∙ mul-zero-r d)
 
       go : (b : Bool) → Fine (suc m) (cond b
-          (record { locator = plusTimes F11 r.locator d r.spare; spare = shift F11 (map (mul (field_at 11) (inverse (field_at 11) d)) r.locator); low = r.high; high = suc (suc r.low) })
-          (record { locator = plusTimes F11 r.locator d r.spare; spare = shift F11 r.spare; low = r.low; high = suc (suc r.high) }))
+          (record { locator = plus_times F11 r.locator d r.spare; spare = shift F11 (map (mul (field_at 11) (inverse (field_at 11) d)) r.locator); low = r.high; high = suc (suc r.low) })
+          (record { locator = plus_times F11 r.locator d r.spare; spare = shift F11 r.spare; low = r.low; high = suc (suc r.high) }))
       go true = record {
         below = under-new;
         below-spare = under-shift (map (mul (field_at 11) (inverse (field_at 11) d)) r.locator) (under-map (inverse (field_at 11) d) r.locator);
@@ -147,14 +147,14 @@ register-fine s (suc m) = turn-fine (register-fine s m) s
 pub record Turning (s : ℕ → ℕ) (t : ℕ) (r : State) (m : ℕ) : Type 0 where
   pub within : m ≤ t
   pub few : t < 9
-  pub done : registerOf r ≡ register F11 8 s m
+  pub done : register_of r ≡ register F11 8 s m
 
 pub turning-sound : {s : ℕ → ℕ} {t : ℕ} {r : State} {m : ℕ} → Turning s t r m → Sound r
 turning-sound {s} {t} {r} {m} w =
-    let f : Fine m (registerOf r) = subst (Fine m) (sym w.done) (register-fine s m) in
+    let f : Fine m (register_of r) = subst (Fine m) (sym w.done) (register-fine s m) in
     (f.below, f.below-spare, omega (arith, f.balance, w.within, w.few), omega (arith, f.balance, w.within, w.few), f.long)
 
-pub turning-on : {s : ℕ → ℕ} {t : ℕ} {r : State} {m : ℕ} (n : State) → Turning s t r m → m < t → registerOf n ≡ turn F11 s m (registerOf r) → Turning s t n (m + 1)
+pub turning-on : {s : ℕ → ℕ} {t : ℕ} {r : State} {m : ℕ} (n : State) → Turning s t r m → m < t → register_of n ≡ turn F11 s m (register_of r) → Turning s t n (m + 1)
 unfolding register
 turning-on {s} {t} {r} {m} n w h e = record {
   within = omega arith;
@@ -162,5 +162,5 @@ turning-on {s} {t} {r} {m} n w h e = record {
   done = e ∙ ap (turn F11 s m) w.done ∙ ap (register F11 8 s) (sym (add-one m));
 }
 
-pub turning-end : {s : ℕ → ℕ} {t : ℕ} {r : State} {m : ℕ} → Turning s t r m → t ≤ m → registerOf r ≡ register F11 8 s t
+pub turning-end : {s : ℕ → ℕ} {t : ℕ} {r : State} {m : ℕ} → Turning s t r m → t ≤ m → register_of r ≡ register F11 8 s t
 turning-end {s} {t} {r} {m} w h = let e : m ≡ t = omega (arith, w.within) in w.done ∙ ap (register F11 8 s) e

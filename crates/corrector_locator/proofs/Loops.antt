@@ -1,5 +1,5 @@
 -- The loops of the register's functions.
---   plusTimes-at, plusTimes-long          p + d q, coefficient by coefficient
+--   plus_times-at, plus_times-long          p + d q, coefficient by coefficient
 --   Convolving, convolve-start, convolve-turn, convolve-end   the loop of a coefficient of a product
 --   shift_from, shift-start               z^2 p
 --   conv-lt                               a coefficient of a product is an element
@@ -22,22 +22,22 @@ use Rattle.corrector_code.proofs.Eleven.{gen11}
 use Rattle.field.proofs.Xor.{xor_assoc}
 use Rattle.algebra.specs.Polynomial.{add}
 use Rattle.algebra.proofs.Lengths.{length-add}
-use Rattle.corrector_code.specs.Key.{plusTimes, conv, shift}
+use Rattle.corrector_code.specs.Key.{plus_times, conv, shift}
 use Rattle.corrector_code.specs.Eleven.{F11}
 
 -- ---- plus_times: each coefficient of p + d q
 
-pub plusTimes-at : (p : List ℕ) (d : ℕ) (q : List ℕ) (i : ℕ) → length p ≡ length q → i < length p
-    → get_or (plusTimes F11 p d q) i 0 ≡ bit_xor (get_or p i 0) (mul (field_at 11) d (get_or q i 0))
-unfolding plusTimes add
-plusTimes-at [] d q i e h = absurd (not-suc-le-zero h)
-plusTimes-at (x ∷ p) d [] i e h = absurd (omega arith)
-plusTimes-at (x ∷ p) d (y ∷ q) zero e h = refl
-plusTimes-at (x ∷ p) d (y ∷ q) (suc i) e h = plusTimes-at p d q i (omega arith) (le_of_suc-le-suc h)
+pub plus_times-at : (p : List ℕ) (d : ℕ) (q : List ℕ) (i : ℕ) → length p ≡ length q → i < length p
+    → get_or (plus_times F11 p d q) i 0 ≡ bit_xor (get_or p i 0) (mul (field_at 11) d (get_or q i 0))
+unfolding plus_times add
+plus_times-at [] d q i e h = absurd (not-suc-le-zero h)
+plus_times-at (x ∷ p) d [] i e h = absurd (omega arith)
+plus_times-at (x ∷ p) d (y ∷ q) zero e h = refl
+plus_times-at (x ∷ p) d (y ∷ q) (suc i) e h = plus_times-at p d q i (omega arith) (le_of_suc-le-suc h)
 
-pub plusTimes-long : (p : List ℕ) (d : ℕ) (q : List ℕ) → length p ≡ length q → length (plusTimes F11 p d q) ≡ length p
-unfolding plusTimes
-plusTimes-long p d q e = length-add F11 p (map (mul (field_at 11) d) q) (omega (arith, length-map q (mul (field_at 11) d))) ∙ length-map q (mul (field_at 11) d) ∙ sym e
+pub plus_times-long : (p : List ℕ) (d : ℕ) (q : List ℕ) → length p ≡ length q → length (plus_times F11 p d q) ≡ length p
+unfolding plus_times
+plus_times-long p d q e = length-add F11 p (map (mul (field_at 11) d) q) (omega (arith, length-map q (mul (field_at 11) d))) ∙ length-map q (mul (field_at 11) d) ∙ sym e
 
 -- ---- product_at: d has the terms before i
 
@@ -124,6 +124,6 @@ zeros-add zero l e = refl
 zeros-add (suc n) [] e = absurd (omega arith)
 zeros-add (suc n) (x ∷ l) e = ap (λ r. x ∷ r) (zeros-add n l (omega arith))
 
-pub times-only : (v : ℕ) (p : List ℕ) → length p ≡ 9 → plusTimes F11 (replicate 9 0) v p ≡ map (mul (field_at 11) v) p
-unfolding plusTimes
+pub times-only : (v : ℕ) (p : List ℕ) → length p ≡ 9 → plus_times F11 (replicate 9 0) v p ≡ map (mul (field_at 11) v) p
+unfolding plus_times
 times-only v p e = zeros-add 9 (map (mul (field_at 11) v) p) (length-map p (mul (field_at 11) v) ∙ e)

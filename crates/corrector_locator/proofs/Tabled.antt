@@ -9,7 +9,7 @@ use native.Mathlib.Omega.{arith}
 use lib.ListN.{get_or}
 use Rattle.algebra.specs.Field.{power}
 use Rattle.field.specs.Field.{mul, inverse, position, field_at}
-use Rattle.field.specs.Tables.{antilogOf}
+use Rattle.field.specs.Tables.{antilog_of}
 use Rattle.field.proofs.Ring.{power-lt, power-add}
 use Rattle.field.proofs.Generator.{one_below, position-is, power-order, inverse-only}
 use Rattle.field.proofs.Logarithms.{log-position, log-lt, log-product, antilog-even}
@@ -31,7 +31,7 @@ module _ {ls ts : List ℕ} (t : Tables ls ts) where
     pub product_at : 0 < x → get_or ts (get_or ls x 0 + get_or ls y 0) 0 ≡ mul (field_at 11) x y
     product_at p =
         t.antilogs.entry (get_or ls x 0 + get_or ls y 0) sum_fits
-        ∙ ap₂ (λ (u v : ℕ). antilogOf (field_at 11) (u + v)) (t.logs.entry x l) (t.logs.entry y m)
+        ∙ ap₂ (λ (u v : ℕ). antilog_of (field_at 11) (u + v)) (t.logs.entry x l) (t.logs.entry y m)
         ∙ log-product (field_at 11) gen11 x y p l m
 
   module _ {x : ℕ} (p : 0 < x) (l : x < 2048) where
@@ -47,7 +47,7 @@ module _ {ls ts : List ℕ} (t : Tables ls ts) where
         let j : ℕ = 2047 - i in
         let at : 4094 - get_or ls x 0 ≡ 2 * j = omega arith in
         let whole : i + j ≡ 2047 = omega arith in
-        t.antilogs.entry (4094 - get_or ls x 0) (omega arith) ∙ ap (antilogOf (field_at 11)) at ∙ antilog-even (field_at 11) j
+        t.antilogs.entry (4094 - get_or ls x 0) (omega arith) ∙ ap (antilog_of (field_at 11)) at ∙ antilog-even (field_at 11) j
         ∙ sym (inverse-only (field_at 11) gen11 x (power F11 2 j) p l (power-lt (field_at 11) gen11.monic unit 2 j)
         (ap (λ (y : ℕ). mul (field_at 11) y (power F11 2 j)) (sym h.1)
         ∙ sym (power-add (field_at 11) gen11.monic unit 2 i j) ∙ ap (power F11 2) whole ∙ power-order (field_at 11) gen11))

@@ -13,7 +13,7 @@ use lib.Dec.{eqb, ltb}
 use lib.ListN.{length, replicate}
 use borrow.Author.Tests.{eq-eqb, ne_eqb, lt-ltb, le-ltb}
 use Rattle.field.specs.Field.{field_at, mul, inverse}
-use Rattle.corrector_code.specs.Key.{Register, conv, shift, plusTimes, mend, turn}
+use Rattle.corrector_code.specs.Key.{Register, conv, shift, plus_times, mend, turn}
 use Rattle.corrector_code.specs.Eleven.{F11}
 use Rattle.corrector_locator.proofs.Loops.{times-only}
 
@@ -34,18 +34,18 @@ module _ (s : ℕ → ℕ) (m : ℕ) (l p : List ℕ) (low high : ℕ) {d : ℕ}
   pub turn-quiet : {moved : List ℕ} → d ≡ 0 → moved ≡ shift F11 p → made l moved low (high + 2) ≡ turn F11 s m (made l p low high)
   turn-quiet z e = ap₂ (λ x n. made l x low n) e (add-two high) ∙ sym (by-test true (eq-eqb d 0 z))
 
-  module _ {mended : List ℕ} (some : d ≢ 0) (mends : mended ≡ plusTimes F11 l d p) where
+  module _ {mended : List ℕ} (some : d ≢ 0) (mends : mended ≡ plus_times F11 l d p) where
     -- the register grows no longer
     pub turn-short : {moved : List ℕ} → high ≤ low → moved ≡ shift F11 p → made mended moved low (high + 2) ≡ turn F11 s m (made l p low high)
     unfolding mend
     turn-short h e =
         ap₂ (λ x n. made mended x low n) e (add-two high) ∙ ap (λ x. made x (shift F11 p) low (suc (suc high))) mends
         ∙ sym (by-test false (ne_eqb d 0 some)
-        ∙ ap (λ b. cond b (made (plusTimes F11 l d p) (shift F11 (map (mul (field_at 11) (inverse (field_at 11) d)) l)) high (suc (suc low)))
-        (made (plusTimes F11 l d p) (shift F11 p) low (suc (suc high)))) (le-ltb low high h))
+        ∙ ap (λ b. cond b (made (plus_times F11 l d p) (shift F11 (map (mul (field_at 11) (inverse (field_at 11) d)) l)) high (suc (suc low)))
+        (made (plus_times F11 l d p) (shift F11 p) low (suc (suc high)))) (le-ltb low high h))
 
     -- it does, and the old locator is the new spare
-    pub turn-long : {v : ℕ} {old moved : List ℕ} → low < high → v ≡ inverse (field_at 11) d → length l ≡ 9 → old ≡ plusTimes F11 (replicate 9 0) v l
+    pub turn-long : {v : ℕ} {old moved : List ℕ} → low < high → v ≡ inverse (field_at 11) d → length l ≡ 9 → old ≡ plus_times F11 (replicate 9 0) v l
         → moved ≡ shift F11 old → made mended moved high (low + 2) ≡ turn F11 s m (made l p low high)
     unfolding mend
     turn-long {v} h i n o e =
@@ -53,5 +53,5 @@ module _ (s : ℕ → ℕ) (m : ℕ) (l p : List ℕ) (low high : ℕ) {d : ℕ}
         ap₂ (λ x n. made mended x high n) (e ∙ ap (shift F11) (o ∙ times-only v l n ∙ ap (λ x. map (mul (field_at 11) x) l) i)) (add-two low)
         ∙ ap (λ x. made x (shift F11 back) high (suc (suc low))) mends
         ∙ sym (by-test false (ne_eqb d 0 some)
-        ∙ ap (λ b. cond b (made (plusTimes F11 l d p) (shift F11 back) high (suc (suc low)))
-        (made (plusTimes F11 l d p) (shift F11 p) low (suc (suc high)))) (lt-ltb low high h))
+        ∙ ap (λ b. cond b (made (plus_times F11 l d p) (shift F11 back) high (suc (suc low)))
+        (made (plus_times F11 l d p) (shift F11 p) low (suc (suc high)))) (lt-ltb low high h))

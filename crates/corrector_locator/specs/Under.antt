@@ -2,7 +2,7 @@
 -- Laws and inner contracts alone cite it: what the corrector promises does not rest on it.
 --   Under           each number of a list is an element
 --   Tables          the tables of the products: logs and antilogs
---   registerOf      the register that a state holds;  Sound  a state of elements, early enough for two more
+--   register_of      the register that a state holds;  Sound  a state of elements, early enough for two more
 --   PowerSums       1, the odd power sums in their places, and even ones as squares
 -- Assumes nothing.
 use Rattle.std.specs.Prelude.{◌≡◌, List, ℕ, suc, ◌*◌, ◌<◌, get_or, length}
@@ -22,8 +22,8 @@ pub record Tables (ls ts : List ℕ) : Type 0 where
   pub antilogs : Antilogs (field_at 11) ts
 
 -- the register that a state holds
-abbrev pub registerOf : State → Register ℕ
-registerOf r = record { locator = r.locator; spare = r.spare; low = r.low; high = r.high }
+abbrev pub register_of : State → Register ℕ
+register_of r = record { locator = r.locator; spare = r.spare; low = r.low; high = r.high }
 
 -- a state of elements, early enough for two more
 abbrev pub Sound : State → Type 0

@@ -3,8 +3,8 @@
 ghost use Rattle.std.specs.Prelude.{◌≡◌, ◌+◌, ◌*◌, ◌<◌, length, get_or};
 ghost use Rattle.field.specs.Field.{field_at, mul, inverse};
 ghost use Rattle.corrector_code.specs.Eleven.{F11};
-ghost use Rattle.corrector_code.specs.Key.{plusTimes, conv, shift, turn, register};
-ghost use Rattle.corrector_locator.specs.Under.{Under, Tables, registerOf, Sound, PowerSums};
+ghost use Rattle.corrector_code.specs.Key.{plus_times, conv, shift, turn, register};
+ghost use Rattle.corrector_locator.specs.Under.{Under, Tables, register_of, Sound, PowerSums};
 
 use field_tables::constants::SIZE11;
 
@@ -33,7 +33,7 @@ pub fn inverse_of(logs: &[u16], antilogs: &[u16], a: u16) -> u16
 // p + d q.
 fn plus_times(logs: &[u16], antilogs: &[u16], p: [u16; 9], d: u16, q: [u16; 9]) -> [u16; 9]
     requires { Tables logs.now antilogs.now × (d < 2048) × Under q }
-    ensures { result ≡ plusTimes F11 p d q }
+    ensures { result ≡ plus_times F11 p d q }
 {
     let mut r = p;
     let mut i: usize = 0;
@@ -83,7 +83,7 @@ pub struct State {
 // One turn, on the power sums 2m + 1 and 2m + 2.
 fn turn_register(logs: &[u16], antilogs: &[u16], s: &[u16], m: usize, r: State) -> State
     requires { Tables logs.now antilogs.now × Under s.now × (2 * m + 1 < length s.now) × Sound r }
-    ensures { registerOf result ≡ turn F11 (λ j. get_or s.now j 0) m (registerOf r) }
+    ensures { register_of result ≡ turn F11 (λ j. get_or s.now j 0) m (register_of r) }
 {
     let locator = r.locator;
     let spare = r.spare;
@@ -124,7 +124,7 @@ fn turn_register(logs: &[u16], antilogs: &[u16], s: &[u16], m: usize, r: State) 
 // The register after t turns on the power sums s, s[0] = 1: its locator polynomial is the key equation's solution.
 pub fn key(logs: &[u16], antilogs: &[u16], s: &[u16], t: usize) -> State
     requires { Tables logs.now antilogs.now × Under s.now × (2 * t < length s.now) × (t < 9) }
-    ensures { registerOf result ≡ register F11 8 (λ j. get_or s.now j 0) t }
+    ensures { register_of result ≡ register F11 8 (λ j. get_or s.now j 0) t }
 {
     let one: [u16; 9] = [1, 0, 0, 0, 0, 0, 0, 0, 0];
     let z: [u16; 9] = [0, 1, 0, 0, 0, 0, 0, 0, 0];

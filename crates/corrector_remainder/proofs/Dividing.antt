@@ -2,7 +2,7 @@
 --   top_back                 t leaves a register of d digits at the top: its remainder is added to what stays
 --   Brought, brought         the rows at the five parts of what leaves, and their sum
 --   six                      a sum of six, from the left and from the right
---   fourAt word k            the number of the four bytes from place k on
+--   four_at word k            the number of the four bytes from place k on
 --   Resting, rest-start, rest-turn, rest_end   the loop: what is held is the remainder of the bytes from i on
 -- Assumes nothing.
 use mathlib.Core.Path.{◌≡◌, refl, sym, ap, ap₂, ◌∙◌}
@@ -16,9 +16,9 @@ use lib.Seq.{drop-cons, drop-length}
 use Rattle.field.specs.Field.{Field, size, cut, reduce}
 use Rattle.field.proofs.Xor.{xor_assoc}
 use Rattle.field.proofs.Reduce.{reduce-xor, reduce-below, reduce-again, reduce-double, reduce-zero}
-use Rattle.corrector_code.specs.Digits.{bytesNumber}
-use Rattle.corrector_generator.specs.Generators.{backFromTop}
-use Rattle.corrector_generator.proofs.Bases.{backFromTop-additive}
+use Rattle.corrector_code.specs.Digits.{bytes_number}
+use Rattle.corrector_generator.specs.Generators.{back_from_top}
+use Rattle.corrector_generator.proofs.Bases.{back_from_top-additive}
 
 -- a sum of six, from the left and from the right
 pub six : (x p q r s t : ℕ)
@@ -29,39 +29,39 @@ six x p q r s t =
 
 -- the rows at the five parts of what leaves
 pub record Brought (G : Field) (t c d e f g : ℕ) : Type 0 where
-  pub at0 : c ≡ backFromTop G (t % 128 * 1)
-  pub at7 : d ≡ backFromTop G (t / 128 % 128 * 128)
-  pub at14 : e ≡ backFromTop G (t / 16384 % 64 * 16384)
-  pub at20 : f ≡ backFromTop G (t / 1048576 % 64 * 1048576)
-  pub at26 : g ≡ backFromTop G (t / 67108864 % 64 * 67108864)
+  pub at0 : c ≡ back_from_top G (t % 128 * 1)
+  pub at7 : d ≡ back_from_top G (t / 128 % 128 * 128)
+  pub at14 : e ≡ back_from_top G (t / 16384 % 64 * 16384)
+  pub at20 : f ≡ back_from_top G (t / 1048576 % 64 * 1048576)
+  pub at26 : g ≡ back_from_top G (t / 67108864 % 64 * 67108864)
 
 -- what is held at byte i: the remainder of the bytes from there on
 pub record Resting (G : Field) (word : List ℕ) (n i : ℕ) : Type 0 where
   pub within : i ≤ 256
   pub fourth : i % 4 ≡ 0
-  pub done : n ≡ reduce G (bytesNumber (drop i word))
+  pub done : n ≡ reduce G (bytes_number (drop i word))
 
 -- four bytes as a number, the first lowest
-abbrev pub fourAt : List ℕ → ℕ → ℕ
-fourAt word k = get_or word k 0 + get_or word (k + 1) 0 * 256 + get_or word (k + 2) 0 * 65536 + get_or word (k + 3) 0 * 16777216
+abbrev pub four_at : List ℕ → ℕ → ℕ
+four_at word k = get_or word k 0 + get_or word (k + 1) 0 * 256 + get_or word (k + 2) 0 * 65536 + get_or word (k + 3) 0 * 16777216
 
 -- the number of a word from place k on, four bytes and the others
 four_bytes : (word : List ℕ) (k i : ℕ) → suc (suc (suc (suc k))) ≡ i → i ≤ length word
-    → bytesNumber (drop k word) ≡ bytesNumber (drop i word) * 2 ^ 32 + fourAt word k
-unfolding bytesNumber
+    → bytes_number (drop k word) ≡ bytes_number (drop i word) * 2 ^ 32 + four_at word k
+unfolding bytes_number
 four_bytes word k i back h =
     let e₁ : suc k ≡ k + 1 = omega arith in
     let e₂ : suc (suc k) ≡ k + 2 = omega arith in
     let e₃ : suc (suc (suc k)) ≡ k + 3 = omega arith in
     let at : ℕ → ℕ = λ j. get_or word j 0 in
-    ap bytesNumber (drop-cons word k 0 (omega arith))
-    ∙ ap (λ l. bytesNumber l * 256 + at k) (drop-cons word (suc k) 0 (omega arith))
-    ∙ ap (λ l. (bytesNumber l * 256 + at (suc k)) * 256 + at k) (drop-cons word (suc (suc k)) 0 (omega arith))
-    ∙ ap (λ l. ((bytesNumber l * 256 + at (suc (suc k))) * 256 + at (suc k)) * 256 + at k)
+    ap bytes_number (drop-cons word k 0 (omega arith))
+    ∙ ap (λ l. bytes_number l * 256 + at k) (drop-cons word (suc k) 0 (omega arith))
+    ∙ ap (λ l. (bytes_number l * 256 + at (suc k)) * 256 + at k) (drop-cons word (suc (suc k)) 0 (omega arith))
+    ∙ ap (λ l. ((bytes_number l * 256 + at (suc (suc k))) * 256 + at (suc k)) * 256 + at k)
     (drop-cons word (suc (suc (suc k))) 0 (omega arith))
-    ∙ ap (λ (j : ℕ). (((bytesNumber (drop j word) * 256 + at (suc (suc (suc k)))) * 256 + at (suc (suc k))) * 256
+    ∙ ap (λ (j : ℕ). (((bytes_number (drop j word) * 256 + at (suc (suc (suc k)))) * 256 + at (suc (suc k))) * 256
     + at (suc k)) * 256 + at k) back
-    ∙ joined (bytesNumber (drop i word)) (at k) (ap at e₁) (ap at e₂) (ap at e₃)
+    ∙ joined (bytes_number (drop i word)) (at k) (ap at e₁) (ap at e₂) (ap at e₃)
   where
     joined : (n a : ℕ) {b c d b' c' d' : ℕ} → b ≡ b' → c ≡ c' → d ≡ d'
         → (((n * 256 + d) * 256 + c) * 256 + b) * 256 + a ≡ n * 2 ^ 32 + (a + b' * 256 + c' * 65536 + d' * 16777216)
@@ -69,22 +69,22 @@ four_bytes word k i back h =
 
 module _ (G : Field) where
   -- WHAT LEAVES AT THE TOP COMES BACK
-  pub top_back : (t B : ℕ) → B < size G → bit_xor B (backFromTop G t) ≡ reduce G (t * size G + B)
-  unfolding backFromTop
+  pub top_back : (t B : ℕ) → B < size G → bit_xor B (back_from_top G t) ≡ reduce G (t * size G + B)
+  unfolding back_from_top
   top_back t B h =
       ap (λ (y : ℕ). bit_xor y (reduce G (t * size G))) (sym (reduce-below G B h)) ∙ sym (reduce-xor G B (t * size G))
       ∙ ap (reduce G) (xor_comm B (t * size G) ∙ xor_shifted t G.degree B h)
 
   -- the lowest digits of what is left, and those above
   part : (k t u v : ℕ) → u < 2 ^ k → v * 2 ^ k + u ≡ t
-      → backFromTop G t ≡ bit_xor (backFromTop G u) (backFromTop G (v * 2 ^ k))
+      → back_from_top G t ≡ bit_xor (back_from_top G u) (back_from_top G (v * 2 ^ k))
   part k t u v h e =
-      ap (backFromTop G) (sym e ∙ sym (xor_shifted v k u h) ∙ xor_comm (v * 2 ^ k) u)
-      ∙ backFromTop-additive G u (v * 2 ^ k)
+      ap (back_from_top G) (sym e ∙ sym (xor_shifted v k u h) ∙ xor_comm (v * 2 ^ k) u)
+      ∙ back_from_top-additive G u (v * 2 ^ k)
 
   -- 32 digits in five parts
   pub brought : {t c d e f g : ℕ} → t < 2 ^ 32 → Brought G t c d e f g
-      → bit_xor c (bit_xor d (bit_xor e (bit_xor f g))) ≡ backFromTop G t
+      → bit_xor c (bit_xor d (bit_xor e (bit_xor f g))) ≡ back_from_top G t
   brought {t} {c} {d} {e} {f} {g} h r =
       let p₀ = part 7 t (t % 128 * 1) (t / 128) (omega arith) (omega arith) in
       let p₁ = part 14 (t / 128 * 2 ^ 7) (t / 128 % 128 * 128) (t / 16384) (omega arith) (omega arith) in
@@ -92,24 +92,24 @@ module _ (G : Field) where
       let p₃ =
       part 26 (t / 1048576 * 2 ^ 20) (t / 1048576 % 64 * 1048576) (t / 67108864 % 64) (omega arith) (omega arith) in
       ap₂ bit_xor r.at0 (ap₂ bit_xor r.at7 (ap₂ bit_xor r.at14 (ap₂ bit_xor r.at20 r.at26)))
-      ∙ sym (p₀ ∙ ap (bit_xor (backFromTop G (t % 128 * 1))) (p₁ ∙ ap (bit_xor (backFromTop G (t / 128 % 128 * 128)))
-      (p₂ ∙ ap (bit_xor (backFromTop G (t / 16384 % 64 * 16384))) p₃)))
+      ∙ sym (p₀ ∙ ap (bit_xor (back_from_top G (t % 128 * 1))) (p₁ ∙ ap (bit_xor (back_from_top G (t / 128 % 128 * 128)))
+      (p₂ ∙ ap (bit_xor (back_from_top G (t / 16384 % 64 * 16384))) p₃)))
 
   -- no byte yet
   pub rest-start : (word : List ℕ) {n : ℕ} → length word ≡ 256 → n ≡ 0 → Resting G word n 256
-  unfolding bytesNumber
+  unfolding bytes_number
   rest-start word l z = record {
     within = omega arith;
     fourth = refl;
     done =
         let last : drop 256 word ≡ [] = ap (λ (k : ℕ). drop k word) (sym l) ∙ drop-length word in
-        z ∙ sym (ap (λ l. reduce G (bytesNumber l)) last ∙ reduce-zero G);
+        z ∙ sym (ap (λ l. reduce G (bytes_number l)) last ∙ reduce-zero G);
   }
 
   -- every byte
-  pub rest_end : {word : List ℕ} {n i : ℕ} → Resting G word n i → i ≤ 0 → n ≡ reduce G (bytesNumber word)
+  pub rest_end : {word : List ℕ} {n i : ℕ} → Resting G word n i → i ≤ 0 → n ≡ reduce G (bytes_number word)
   rest_end {word} {n} {i} w h =
-      let z : i ≡ 0 = omega arith in w.done ∙ ap (λ k. reduce G (bytesNumber (drop k word))) z
+      let z : i ≡ 0 = omega arith in w.done ∙ ap (λ k. reduce G (bytes_number (drop k word))) z
 
   module _ (monic : G.poly / size G ≡ 1) where
     -- the remainder may be taken before the next digits
@@ -131,18 +131,18 @@ module _ (G : Field) where
 
     -- four bytes more, those from j on
     pub rest-turn : {word : List ℕ} {n m i j b : ℕ} → length word ≡ 256 → Resting G word n i → j + 4 ≡ i
-        → (b ≡ fourAt word j) × (b < 2 ^ 32)
+        → (b ≡ four_at word j) × (b < 2 ^ 32)
         → m ≡ reduce G (n * 2 ^ 32 + b) → Resting G word m j
     rest-turn {word} {n} {m} {i} {j} {b} l w at u e =
         let p = w.within in
         let q = w.fourth in
-        let next : bytesNumber (drop j word) ≡ bytesNumber (drop i word) * 2 ^ 32 + b =
+        let next : bytes_number (drop j word) ≡ bytes_number (drop i word) * 2 ^ 32 + b =
         four_bytes word j i (omega arith) (omega arith)
-        ∙ ap (λ (x : ℕ). bytesNumber (drop i word) * 2 ^ 32 + x) (sym u.0) in
+        ∙ ap (λ (x : ℕ). bytes_number (drop i word) * 2 ^ 32 + x) (sym u.0) in
         record {
           within = omega arith;
           fourth = omega arith;
           done =
-              e ∙ ap (λ v. reduce G (v * 2 ^ 32 + b)) w.done ∙ bytes-before (bytesNumber (drop i word)) b u.1
+              e ∙ ap (λ v. reduce G (v * 2 ^ 32 + b)) w.done ∙ bytes-before (bytes_number (drop i word)) b u.1
               ∙ ap (reduce G) (sym next);
         }

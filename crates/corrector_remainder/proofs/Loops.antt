@@ -15,13 +15,13 @@ use native.Mathlib.Omega.{arith}
 use borrow.Author.Tests.{le-leb, lt-leb, leb-true, leb-false}
 use lib.Bits.{bit_xor, xor_block, shifted_half}
 use lib.Dec.{leb}
-use Rattle.corrector_generator.specs.Generators.{generatorOf}
+use Rattle.corrector_generator.specs.Generators.{generator_of}
 use Rattle.corrector_remainder.specs.Remainder.{cut_at, lowered, lesser, lessened}
 
 -- an arm of `raised8` and `raised5`
-pub raised-arm : (n : ℕ) {t m v : ℕ} → t ≡ m → v ≡ generatorOf m * 2 ^ (n - 11 * m) / 2
-    → v ≡ generatorOf t * 2 ^ (n - 11 * t) / 2
-raised-arm n {v = v} e f = subst (λ (m : ℕ). v ≡ generatorOf m * 2 ^ (n - 11 * m) / 2) (sym e) f
+pub raised-arm : (n : ℕ) {t m v : ℕ} → t ≡ m → v ≡ generator_of m * 2 ^ (n - 11 * m) / 2
+    → v ≡ generator_of t * 2 ^ (n - 11 * t) / 2
+raised-arm n {v = v} e f = subst (λ (m : ℕ). v ≡ generator_of m * 2 ^ (n - 11 * m) / 2) (sym e) f
 
 -- a strength that is at least n and not n; the last
 pub beyond : {t n : ℕ} → n ≤ t → (t ≡ n → ⊥) → suc n ≤ t

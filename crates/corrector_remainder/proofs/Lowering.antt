@@ -17,14 +17,14 @@ use lib.Pow.{pow_pos, shr-shr, shl-shr}
 use Rattle.field.specs.Field.{field_at, mul}
 use Rattle.field.proofs.Ring.{ring}
 use Rattle.field.proofs.Generator.{one_below}
-use Rattle.corrector_code.specs.Digits.{valueOfDigits}
+use Rattle.corrector_code.specs.Digits.{value_of_digits}
 use Rattle.corrector_code.proofs.Eleven.{gen11}
-use Rattle.corrector_code.proofs.Values.{valueOfDigits-zero, valueOfDigits-xor, valueOfDigits-join}
+use Rattle.corrector_code.proofs.Values.{value_of_digits-zero, value_of_digits-xor, value_of_digits-join}
 use Rattle.corrector_remainder.specs.Remainder.{cut_at, lowered, lesser, lessened}
 
 -- the value at z of the polynomial with the binary digits of n
 abbrev value_at : ℕ → ℕ → ℕ
-value_at z n = valueOfDigits (field_at 11) z n
+value_at z n = value_of_digits (field_at 11) z n
 
 -- ---- one digit
 
@@ -120,8 +120,8 @@ module _ (p d : ℕ) (monic : p / 2 ^ d ≡ 1) where
     moved-zero : (n : ℕ) → value_at z (p * 2 ^ n) ≡ 0
     moved-zero n =
         ap (value_at z) (sym (add-zero (p * 2 ^ n)))
-        ∙ valueOfDigits-join (field_at 11) gen11.monic (one_below (field_at 11) gen11) z n p 0 (pow_pos n)
-        ∙ ap₂ bit_xor (valueOfDigits-zero (field_at 11) gen11.monic (one_below (field_at 11) gen11) z)
+        ∙ value_of_digits-join (field_at 11) gen11.monic (one_below (field_at 11) gen11) z n p 0 (pow_pos n)
+        ∙ ap₂ bit_xor (value_of_digits-zero (field_at 11) gen11.monic (one_below (field_at 11) gen11) z)
         (ap (mul (field_at 11) _) root ∙ mul-zero-r _)
 
     cut-value : (n x : ℕ) → value_at z (cut_at (2 ^ (d + n)) (p * 2 ^ n) x) ≡ value_at z x
@@ -130,7 +130,7 @@ module _ (p d : ℕ) (monic : p / 2 ^ d ≡ 1) where
         go : Dec (2 ^ (d + n) ≤ x) → value_at z (cut_at (2 ^ (d + n)) (p * 2 ^ n) x) ≡ value_at z x
         go (yes l) =
             ap (value_at z) (cut-yes (2 ^ (d + n)) (p * 2 ^ n) x l)
-            ∙ valueOfDigits-xor (field_at 11) gen11.monic (one_below (field_at 11) gen11) z x (p * 2 ^ n)
+            ∙ value_of_digits-xor (field_at 11) gen11.monic (one_below (field_at 11) gen11) z x (p * 2 ^ n)
             ∙ ap (bit_xor (value_at z x)) (moved-zero n) ∙ xor_zero_r (value_at z x)
         go (no l) = ap (value_at z) (cut-no (2 ^ (d + n)) (p * 2 ^ n) x (omega arith))
 

@@ -10,8 +10,8 @@
 use Rattle.std.specs.Prelude.{◌≡◌, cond, ℕ, zero, suc, ◌+◌, ◌*◌, ◌/◌, ◌^◌, ◌<◌, leb, ltb}
 use Rattle.std.specs.Int.Bits.{bit_xor}
 use Rattle.field.specs.Field.{field_at}
-use Rattle.corrector_code.specs.Digits.{valueOfDigits}
-use Rattle.corrector_generator.specs.Generators.{oddPower}
+use Rattle.corrector_code.specs.Digits.{value_of_digits}
+use Rattle.corrector_generator.specs.Generators.{odd_power}
 use Rattle.corrector_remainder.specs.declared.Rest.{Rest}
 
 -- the number that a remainder holds in two parts
@@ -21,7 +21,7 @@ rest_of r = r.hi * 2 ^ 64 + r.lo
 -- fits 11 t digits, and has the values of W
 pub record RestAt (t W n : ℕ) : Type 0 where
   pub below : n < 2 ^ (11 * t)
-  pub values : (k : ℕ) → k < t → valueOfDigits (field_at 11) (oddPower k) n ≡ valueOfDigits (field_at 11) (oddPower k) W
+  pub values : (k : ℕ) → k < t → value_of_digits (field_at 11) (odd_power k) n ≡ value_of_digits (field_at 11) (odd_power k) W
 
 -- one digit cut
 unfoldable pub cut_at : ℕ → ℕ → ℕ → ℕ

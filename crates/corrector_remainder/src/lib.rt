@@ -4,8 +4,8 @@
 // in one number, at two thirds of the cost. Its digits from 11 t on are then cut one by one.
 ghost use Rattle.std.specs.Prelude.{◌≡◌, ◌+◌, ◌-◌, ◌*◌, ◌/◌, ◌^◌, ◌≤◌, ◌<◌, leb, length};
 ghost use Rattle.field.specs.Field.{reduce};
-ghost use Rattle.corrector_code.specs.Digits.{bytesNumber};
-ghost use Rattle.corrector_generator.specs.Generators.{generatorAt};
+ghost use Rattle.corrector_code.specs.Digits.{bytes_number};
+ghost use Rattle.corrector_generator.specs.Generators.{generator_at};
 ghost use Rattle.corrector_remainder.specs.Remainder.{rest_of, cut_at, lowered, lesser, lessened, RestAt};
 
 mod raised; // the generators, as constants in place
@@ -55,7 +55,7 @@ fn four(a: u8, b: u8, c: u8, d: u8) -> u64
 // Four bytes more: the remainder of r x^32 + b by the generator of strength 8.
 fn rest8_on(r: Rest, b: u64) -> Rest
     requires { (r.hi < 2 ^ 24) × (b < 2 ^ 32) }
-    ensures { rest_of result ≡ reduce (generatorAt 8) (rest_of r * 2 ^ 32 + b) }
+    ensures { rest_of result ≡ reduce (generator_at 8) (rest_of r * 2 ^ 32 + b) }
 {
     let t = r.hi as u64 * 256 + r.lo / LEAVING8;
     let c = rows8::row0(t % 128);
@@ -74,7 +74,7 @@ fn rest8_on(r: Rest, b: u64) -> Rest
 // The remainder of a word by the generator of strength 8, its last bytes first.
 pub fn rest8(word: &[u8]) -> Rest
     requires { length word.now ≡ 256 }
-    ensures { rest_of result ≡ reduce (generatorAt 8) (bytesNumber word.now) }
+    ensures { rest_of result ≡ reduce (generator_at 8) (bytes_number word.now) }
 {
     let mut r = Rest { lo: 0, hi: 0 };
     let mut i = WORD;
@@ -89,7 +89,7 @@ pub fn rest8(word: &[u8]) -> Rest
 // Four bytes more: the remainder of r x^32 + b by the generator of strength 5.
 fn rest5_on(r: u64, b: u64) -> u64
     requires { (r < 2 ^ 55) × (b < 2 ^ 32) }
-    ensures { result ≡ reduce (generatorAt 5) (r * 2 ^ 32 + b) }
+    ensures { result ≡ reduce (generator_at 5) (r * 2 ^ 32 + b) }
 {
     let t = r / LEAVING5;
     let c = rows5::row0(t % 128);
@@ -104,7 +104,7 @@ fn rest5_on(r: u64, b: u64) -> u64
 // compiler reads four bytes as one.
 fn rest5(word: &[u8]) -> u64
     requires { length word.now ≡ 256 }
-    ensures { result ≡ reduce (generatorAt 5) (bytesNumber word.now) }
+    ensures { result ≡ reduce (generator_at 5) (bytes_number word.now) }
 {
     let mut r: u64 = 0;
     let mut k = WORD / 4;
@@ -204,7 +204,7 @@ fn lower5(x: u64, g: u64, n: u16) -> u64
 // is 0 the word is a codeword of that strength.
 pub fn remainder_of(strength: u16, word: &[u8]) -> Rest
     requires { (length word.now ≡ 256) × (1 ≤ strength) × (strength ≤ 8) }
-    ensures { RestAt strength (bytesNumber word.now) (rest_of result) }
+    ensures { RestAt strength (bytes_number word.now) (rest_of result) }
 {
     if strength <= ONE_NUMBER {
         return Rest {

@@ -15,7 +15,7 @@ use lib.ListN.{length, get_or, drop, replicate, length-append, length-replicate,
 use lib.Seq.{drop_at, get_or-drop, get_or_at}
 use Rattle.corrector.specs.Correcting.{IsBlock, IsStrength}
 use Rattle.corrector.proofs.Blocks.{make-block}
-use Rattle.corrector_stream.specs.Words.{dataStart, capacity, endByte, mark_of, Fits, carried, content}
+use Rattle.corrector_stream.specs.Words.{data_start, capacity, end_byte, mark_of, Fits, carried, content}
 
 -- every element is a byte
 abbrev pub AreBytes : List ℕ → Type 0
@@ -36,11 +36,11 @@ bytes-cons x l h u zero = h
 bytes-cons x l h u (suc k) = u k
 
 -- the data start behind at least two bytes
-pub start-least : {t : ℕ} → IsStrength t → 2 ≤ dataStart t
+pub start-least : {t : ℕ} → IsStrength t → 2 ≤ data_start t
 start-least s = let a = s.least in omega arith
 
 -- and at most eleven
-pub start-most : {t : ℕ} → IsStrength t → dataStart t ≤ 11
+pub start-most : {t : ℕ} → IsStrength t → data_start t ≤ 11
 start-most s = let a = s.most in omega arith
 
 -- as many as a word carries
@@ -48,7 +48,7 @@ pub length-carried : {t : ℕ} {d : List ℕ} (last : Bool) → Fits t d last �
 unfolding carried
 length-carried {t} {d} true f =
     let h = f.fill in
-    length-append d (endByte ∷ replicate (capacity t - 1 - length d) 0)
+    length-append d (end_byte ∷ replicate (capacity t - 1 - length d) 0)
     ∙ (let e = length-replicate {A = ℕ} (capacity t - 1 - length d) 0 in omega arith)
 length-carried {t} {d} false f = f.fill
 
@@ -64,28 +64,28 @@ mark-small false = omega arith
 
 module _ (t : ℕ) (d : List ℕ) (last : Bool) where
   -- the bytes of the check bits
-  pub content-low : (k : ℕ) → k < dataStart t → get_or (content t d last) k 0 ≡ 0
+  pub content-low : (k : ℕ) → k < data_start t → get_or (content t d last) k 0 ≡ 0
   unfolding content
   content-low k h =
-      get_or-append (replicate (dataStart t) 0) _ 0 k
-      (let e = length-replicate {A = ℕ} (dataStart t) 0 in omega arith)
-      ∙ get_or-replicate (dataStart t) k 0 0 h
+      get_or-append (replicate (data_start t) 0) _ 0 k
+      (let e = length-replicate {A = ℕ} (data_start t) 0 in omega arith)
+      ∙ get_or-replicate (data_start t) k 0 0 h
 
   -- what stands behind them
-  pub content-tail : drop (dataStart t) (content t d last) ≡ carried t d last ++ mark_of last ∷ []
+  pub content-tail : drop (data_start t) (content t d last) ≡ carried t d last ++ mark_of last ∷ []
   unfolding content
-  content-tail = drop_at (replicate (dataStart t) 0) _ (dataStart t) (length-replicate {A = ℕ} (dataStart t) 0)
+  content-tail = drop_at (replicate (data_start t) 0) _ (data_start t) (length-replicate {A = ℕ} (data_start t) 0)
 
   -- byte by byte
   pub content-at : (i : ℕ)
-      → get_or (content t d last) (dataStart t + i) 0 ≡ get_or (carried t d last ++ mark_of last ∷ []) i 0
-  content-at i = sym (get_or-drop (dataStart t) (content t d last) i 0) ∙ ap (λ (l : List ℕ). get_or l i 0) content-tail
+      → get_or (content t d last) (data_start t + i) 0 ≡ get_or (carried t d last ++ mark_of last ∷ []) i 0
+  content-at i = sym (get_or-drop (data_start t) (content t d last) i 0) ∙ ap (λ (l : List ℕ). get_or l i 0) content-tail
 
 bytes-carried : {t : ℕ} {d : List ℕ} (last : Bool) → Fits t d last → AreBytes (carried t d last)
 unfolding carried
 bytes-carried {t} {d} true f =
-    bytes-append d (endByte ∷ replicate (capacity t - 1 - length d) 0) f.bytes
-    (bytes-cons endByte (replicate (capacity t - 1 - length d) 0) (omega arith)
+    bytes-append d (end_byte ∷ replicate (capacity t - 1 - length d) 0) f.bytes
+    (bytes-cons end_byte (replicate (capacity t - 1 - length d) 0) (omega arith)
     (bytes-zeros (capacity t - 1 - length d)))
 bytes-carried {t} {d} false f = f.bytes
 
@@ -95,17 +95,17 @@ unfolding content
 content-block {t} {d} {last} s f =
     let m = start-most s in
     let l = length-carried last f in
-    let z = length-replicate {A = ℕ} (dataStart t) 0 in
+    let z = length-replicate {A = ℕ} (data_start t) 0 in
     let w : List ℕ = carried t d last ++ mark_of last ∷ [] in
     let e : length w ≡ capacity t + 1 = length-append (carried t d last) (mark_of last ∷ []) ∙ ap (λ (n : ℕ). n + 1) l in
-    let g : length (replicate {A = ℕ} (dataStart t) 0 ++ w) ≡ 256 =
-    length-append (replicate (dataStart t) 0) w ∙ (omega arith) in
+    let g : length (replicate {A = ℕ} (data_start t) 0 ++ w) ≡ 256 =
+    length-append (replicate (data_start t) 0) w ∙ (omega arith) in
     let b : AreBytes w =
     bytes-append (carried t d last) (mark_of last ∷ []) (bytes-carried last f)
     (bytes-cons (mark_of last) [] (let x = mark-small last in omega arith) (λ k. omega arith)) in
-    let p : dataStart t + capacity t ≡ 255 = omega arith in
+    let p : data_start t + capacity t ≡ 255 = omega arith in
     let q : get_or (content t d last) 255 0 ≡ mark_of last =
     ap (λ (n : ℕ). get_or (content t d last) n 0) (sym p) ∙ content-at t d last (capacity t)
     ∙ get_or_at (carried t d last) (mark_of last) [] 0 (capacity t) l in
-    make-block g (bytes-append (replicate (dataStart t) 0) w (bytes-zeros (dataStart t)) b)
+    make-block g (bytes-append (replicate (data_start t) 0) w (bytes-zeros (data_start t)) b)
     (let x = mark-small last in omega arith)

@@ -12,7 +12,7 @@ use native.Mathlib.Decide.{dec_lt}
 use native.Mathlib.Omega.{arith}
 use lib.ListN.{length, get_or, take, drop, replicate, length-drop, length-replicate, get_or-replicate, get_or-eq_default}
 use lib.Seq.{length-take-le, split_at, take_at, get_or_at, get_or-drop, get_or-append-add, ext_get_or}
-use Rattle.corrector_stream.specs.Words.{endByte}
+use Rattle.corrector_stream.specs.Words.{end_byte}
 use Rattle.corrector_stream.specs.Parts.{Padded, EndsAt}
 use Rattle.corrector_stream.specs.Parts.EndsAt.{at, nowhere}
 use Rattle.corrector_stream.specs.declared.End.{End}
@@ -25,8 +25,8 @@ zeros-at (suc n) zero = refl
 zeros-at (suc n) (suc i) = zeros-at n i
 
 -- the end byte stands behind the data
-pub padded-end : {b d : List ℕ} → Padded b d → get_or b (length d) 0 ≡ endByte
-padded-end {b} {d} p = ap (λ (l : List ℕ). get_or l (length d) 0) p.is ∙ get_or_at d endByte _ 0 (length d) refl
+pub padded-end : {b d : List ℕ} → Padded b d → get_or b (length d) 0 ≡ end_byte
+padded-end {b} {d} p = ap (λ (l : List ℕ). get_or l (length d) 0) p.is ∙ get_or_at d end_byte _ 0 (length d) refl
 
 -- and zeros behind it
 pub padded-past : {b d : List ℕ} → Padded b d → (i : ℕ) → length d < i → get_or b i 0 ≡ 0
@@ -34,8 +34,8 @@ padded-past {b} {d} p i h =
     let k : ℕ = i - length d - 1 in
     let e : i ≡ length d + suc k = omega arith in
     let n : ℕ = length b - 1 - length d in
-    ap (λ (l : List ℕ). get_or l i 0) p.is ∙ ap (λ (j : ℕ). get_or (d ++ endByte ∷ replicate n 0) j 0) e
-    ∙ get_or-append-add d (endByte ∷ replicate n 0) (suc k) 0 ∙ zeros-at n k
+    ap (λ (l : List ℕ). get_or l i 0) p.is ∙ ap (λ (j : ℕ). get_or (d ++ end_byte ∷ replicate n 0) j 0) e
+    ∙ get_or-append-add d (end_byte ∷ replicate n 0) (suc k) 0 ∙ zeros-at n k
 
 -- the data are the front
 pub padded-front : {b d : List ℕ} → Padded b d → take (length d) b ≡ d
@@ -83,7 +83,7 @@ zeros-from b n h =
     (λ i l. get_or-drop n b i 0 ∙ h (n + i) (omega arith) ∙ sym (zeros-at (length b - n) i))
 
 -- the end byte is found
-pub ending-found : {b : List ℕ} {k : ℕ} → Ending b k → 0 < k → get_or b (k - 1) 0 ≡ endByte → EndsAt b (At (k - 1))
+pub ending-found : {b : List ℕ} {k : ℕ} → Ending b k → 0 < k → get_or b (k - 1) 0 ≡ end_byte → EndsAt b (At (k - 1))
 ending-found {b} {k} e p h =
     let w = e.within in
     let j : ℕ = k - 1 in
@@ -92,14 +92,14 @@ ending-found {b} {k} e p h =
     let s : length b - k ≡ length b - 1 - length (take j b) = omega arith in
     let z : drop (suc j) b ≡ replicate (length b - 1 - length (take j b)) 0 =
     ap (λ (i : ℕ). drop i b) r ∙ zeros-from b k e.zeros ∙ ap (λ (i : ℕ). replicate i 0) s in
-    let q : b ≡ take j b ++ endByte ∷ replicate (length b - 1 - length (take j b)) 0 =
+    let q : b ≡ take j b ++ end_byte ∷ replicate (length b - 1 - length (take j b)) 0 =
     split_at b j 0 (omega arith) ∙ ap (λ (x : ℕ). take j b ++ x ∷ drop (suc j) b) h
-    ∙ ap (λ (l : List ℕ). take j b ++ endByte ∷ l) z in
+    ∙ ap (λ (l : List ℕ). take j b ++ end_byte ∷ l) z in
     let a : Padded b (take j b) = record { shorter = omega arith; is = q } in
     subst (λ (i : ℕ). EndsAt b (At i)) n (at a)
 
 -- a byte that is neither 0 nor the end byte
-pub ending-other : {b : List ℕ} {k : ℕ} → Ending b k → 0 < k → (get_or b (k - 1) 0 ≡ endByte → ⊥)
+pub ending-other : {b : List ℕ} {k : ℕ} → Ending b k → 0 < k → (get_or b (k - 1) 0 ≡ end_byte → ⊥)
     → (get_or b (k - 1) 0 ≡ 0 → ⊥)
     → EndsAt b Nowhere
 ending-other {b} {k} e p x z = nowhere (λ d q. go d q (dec_lt (length d) (k - 1)) (dec_lt (k - 1) (length d)))

@@ -21,7 +21,7 @@ use Rattle.corrector.specs.Correcting.{IsStrength}
 use Rattle.corrector.specs.Places.{Tells}
 use Rattle.corrector_encoder.specs.Encoding.{Encodes}
 use Rattle.corrector_encoder.proofs.Contract.{encoded-exactly}
-use Rattle.corrector_stream.specs.Words.{dataStart, capacity, endByte, Fills, Fits, carried, content}
+use Rattle.corrector_stream.specs.Words.{data_start, capacity, end_byte, Fills, Fits, carried, content}
 use Rattle.corrector_stream.specs.Parts.{laid}
 use Rattle.corrector_stream.specs.Calls.{CapacityIs, Packs}
 use Rattle.corrector_stream.specs.Calls.CapacityIs.{of-strength, of_none}
@@ -56,13 +56,13 @@ laid_out c d {n} {z} {y} e f g h =
     ap₂ (λ (a b : List ℕ). a ++ b) p (ap₂ (λ (a b : List ℕ). a ++ b) r s ∙ append-nil _)
 
 -- where the data fill the word
-pub laid-full : {t : ℕ} {d : List ℕ} → IsStrength t → Fits t d false → laid (dataStart t) d ≡ content t d false
+pub laid-full : {t : ℕ} {d : List ℕ} → IsStrength t → Fits t d false → laid (data_start t) d ≡ content t d false
 unfolding content carried
 laid-full {t} {d} s f =
     let m = start-most s in
     let h = f.fill in
-    let e : 256 - dataStart t - length d ≡ 1 = omega arith in
-    ap (λ (k : ℕ). replicate (dataStart t) 0 ++ (d ++ replicate k 0)) e
+    let e : 256 - data_start t - length d ≡ 1 = omega arith in
+    ap (λ (k : ℕ). replicate (data_start t) 0 ++ (d ++ replicate k 0)) e
 
 -- the end byte and the mark over zeros
 marked : (p : List ℕ) (m x : ℕ) → length p + m ≡ 254
@@ -83,33 +83,33 @@ fronted z d {n} m e = sym (append_assoc z d (replicate n 0)) ∙ ap (λ (k : ℕ
 
 -- the last word
 pub laid-last : {t : ℕ} {d : List ℕ} → IsStrength t → Fits t d true
-    → set (set (laid (dataStart t) d) (dataStart t + length d) endByte) 255 1 ≡ content t d true
+    → set (set (laid (data_start t) d) (data_start t + length d) end_byte) 255 1 ≡ content t d true
 unfolding content carried
 laid-last {t} {d} s f =
     let m = start-most s in
     let h = f.fill in
-    let z = length-replicate {A = ℕ} (dataStart t) 0 in
-    let k : dataStart t + length d ≡ length (replicate {A = ℕ} (dataStart t) 0 ++ d) =
-    (let e = length-append (replicate (dataStart t) 0) d in omega arith) in
-    let e : 256 - dataStart t - length d ≡ suc (capacity t - 1 - length d + 1) = omega arith in
-    ap₂ (λ (w : List ℕ) (i : ℕ). set (set w i endByte) 255 1)
-    (fronted (replicate (dataStart t) 0) d (capacity t - 1 - length d) e) k
-    ∙ marked (replicate (dataStart t) 0 ++ d) (capacity t - 1 - length d) endByte (omega arith)
-    ∙ append_assoc (replicate (dataStart t) 0) d (endByte ∷ replicate (capacity t - 1 - length d) 0 ++ 1 ∷ [])
-    ∙ ap (λ (w : List ℕ). replicate (dataStart t) 0 ++ w)
-    (sym (append_assoc d (endByte ∷ replicate (capacity t - 1 - length d) 0) (1 ∷ [])))
+    let z = length-replicate {A = ℕ} (data_start t) 0 in
+    let k : data_start t + length d ≡ length (replicate {A = ℕ} (data_start t) 0 ++ d) =
+    (let e = length-append (replicate (data_start t) 0) d in omega arith) in
+    let e : 256 - data_start t - length d ≡ suc (capacity t - 1 - length d + 1) = omega arith in
+    ap₂ (λ (w : List ℕ) (i : ℕ). set (set w i end_byte) 255 1)
+    (fronted (replicate (data_start t) 0) d (capacity t - 1 - length d) e) k
+    ∙ marked (replicate (data_start t) 0 ++ d) (capacity t - 1 - length d) end_byte (omega arith)
+    ∙ append_assoc (replicate (data_start t) 0) d (end_byte ∷ replicate (capacity t - 1 - length d) 0 ++ 1 ∷ [])
+    ∙ ap (λ (w : List ℕ). replicate (data_start t) 0 ++ w)
+    (sym (append_assoc d (end_byte ∷ replicate (capacity t - 1 - length d) 0) (1 ∷ [])))
 
 -- a full word
-pub filled-full : {t c : ℕ} {d w : List ℕ} {last : Bool} → IsStrength t → Fits t d last → last ≡ false → c ≡ dataStart t
+pub filled-full : {t c : ℕ} {d w : List ℕ} {last : Bool} → IsStrength t → Fits t d last → last ≡ false → c ≡ data_start t
     → w ≡ laid c d → w ≡ content t d last
 filled-full {t} {c} {d} {w} s f l e h =
     h ∙ ap (λ (k : ℕ). laid k d) e ∙ laid-full s (subst (Fits t d) l f) ∙ ap (content t d) (sym l)
 
 -- the last one
-pub filled-last : {t c : ℕ} {d w : List ℕ} {last : Bool} → IsStrength t → Fits t d last → last ≡ true → c ≡ dataStart t
-    → w ≡ laid c d → set (set w (c + length d) endByte) 255 1 ≡ content t d last
+pub filled-last : {t c : ℕ} {d w : List ℕ} {last : Bool} → IsStrength t → Fits t d last → last ≡ true → c ≡ data_start t
+    → w ≡ laid c d → set (set w (c + length d) end_byte) 255 1 ≡ content t d last
 filled-last {t} {c} {d} {w} s f l e h =
-    ap₂ (λ (v : List ℕ) (k : ℕ). set (set v (k + length d) endByte) 255 1) (h ∙ ap (λ (k : ℕ). laid k d) e) e
+    ap₂ (λ (v : List ℕ) (k : ℕ). set (set v (k + length d) end_byte) 255 1) (h ∙ ap (λ (k : ℕ). laid k d) e) e
     ∙ laid-last s (subst (Fits t d) l f) ∙ ap (content t d) (sym l)
 
 -- the test of the length holds

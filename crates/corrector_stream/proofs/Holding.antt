@@ -19,7 +19,7 @@ use lib.ListN.{length, get_or, take, drop, length-drop}
 use lib.Seq.{length-take-le, take-length, get_or-drop}
 use Rattle.slices.specs.Lists.{copied}
 use Rattle.corrector.specs.Correcting.{IsBlock, IsStrength, Corrects}
-use Rattle.corrector_stream.specs.Words.{dataStart, capacity, mark_of, Fits, carried, Carries}
+use Rattle.corrector_stream.specs.Words.{data_start, capacity, mark_of, Fits, carried, Carries}
 use Rattle.corrector_stream.specs.Calls.{CapacityIs, Roomy, Unpacks}
 use Rattle.corrector_stream.specs.Parts.{Padded, EndsAt, Holds, TakesOut}
 use Rattle.corrector_stream.specs.Calls.CapacityIs.{of-strength, of_none}
@@ -35,7 +35,7 @@ use Rattle.corrector_stream.specs.declared.End.{End}
 use Rattle.corrector_stream.specs.declared.End.TheVariants.{At, Nowhere}
 use Rattle.corrector_stream.proofs.Contents.{AreBytes, start-most, mark-small, fits-short}
 use Rattle.corrector_stream.proofs.Ends.{padded-front}
-use Rattle.corrector_stream.proofs.Shapes.{checkBits, Shaped, carries-shape, shape-carries, shape-mark}
+use Rattle.corrector_stream.proofs.Shapes.{check_bits, Shaped, carries-shape, shape-carries, shape-mark}
 use Rattle.corrector_stream.proofs.Shapes.{shape-carried, shape-data, whole-shape, carried-padded}
 use Rattle.corrector_stream.proofs.Shapes.{padded-carried}
 
@@ -52,24 +52,24 @@ bytes_drop n l u k = let e = get_or-drop n l k 0 in let h = u (n + k) in omega a
 module _ {t : ℕ} {v : List ℕ} (s : IsStrength t) (b : IsBlock v) where
   -- the bytes between the check bits and the mark
   middle : List ℕ
-  middle = take (capacity t) (drop (dataStart t) v)
+  middle = take (capacity t) (drop (data_start t) v)
 
   length-middle : length middle ≡ capacity t
   unfolding middle
   length-middle =
-      length-take-le (capacity t) (drop (dataStart t) v)
-      (let m = start-most s in let a = length-drop (dataStart t) v in let c = b.long in omega arith)
+      length-take-le (capacity t) (drop (data_start t) v)
+      (let m = start-most s in let a = length-drop (data_start t) v in let c = b.long in omega arith)
 
   bytes-middle : AreBytes middle
   unfolding middle
-  bytes-middle = bytes_take (capacity t) (drop (dataStart t) v) (bytes_drop (dataStart t) v b.bytes)
+  bytes-middle = bytes_take (capacity t) (drop (data_start t) v) (bytes_drop (data_start t) v b.bytes)
 
   -- a bit between the check bits and the data
-  pub holds-spare : 2 ^ checkBits t ≤ get_or v (dataStart t - 1) 0 → Holds t v Nothing
+  pub holds-spare : 2 ^ check_bits t ≤ get_or v (data_start t - 1) 0 → Holds t v Nothing
   holds-spare h = nothing (λ d last c. let l = (carries-shape s b c).low in let z : ⊥ = omega arith in z)
 
   -- a full word
-  pub holds-full : get_or v (dataStart t - 1) 0 < 2 ^ checkBits t → get_or v 255 0 ≡ 0
+  pub holds-full : get_or v (data_start t - 1) 0 < 2 ^ check_bits t → get_or v 255 0 ≡ 0
       → Holds t v (Bytes (capacity t) false)
   unfolding carried middle
   holds-full l m =
@@ -84,8 +84,8 @@ module _ {t : ℕ} {v : List ℕ} (s : IsStrength t) (b : IsBlock v) where
       mark-small last in let z : ⊥ = omega arith in z)
 
   -- the last word
-  pub holds-last : {r : End} {n : ℕ} → get_or v (dataStart t - 1) 0 < 2 ^ checkBits t → get_or v 255 0 ≡ 1
-      → EndsAt (take (capacity t) (drop (dataStart t) v)) r → r ≡ At n → Holds t v (Bytes n true)
+  pub holds-last : {r : End} {n : ℕ} → get_or v (data_start t - 1) 0 < 2 ^ check_bits t → get_or v 255 0 ≡ 1
+      → EndsAt (take (capacity t) (drop (data_start t) v)) r → r ≡ At n → Holds t v (Bytes n true)
   unfolding middle
   holds-last {n = n} l m (at {d} p) e =
       let k : length d ≡ n = cc in
@@ -100,7 +100,7 @@ module _ {t : ℕ} {v : List ℕ} (s : IsStrength t) (b : IsBlock v) where
   holds-last l m (nowhere x) e = absurd (let z : ◌≡◌ {A = ℕ} 0 1 = cc in omega arith)
 
   -- its data end nowhere
-  pub holds-nowhere : {r : End} → get_or v 255 0 ≡ 1 → EndsAt (take (capacity t) (drop (dataStart t) v)) r → r ≡ Nowhere
+  pub holds-nowhere : {r : End} → get_or v 255 0 ≡ 1 → EndsAt (take (capacity t) (drop (data_start t) v)) r → r ≡ Nowhere
       → Holds t v Nothing
   unfolding middle
   holds-nowhere m (at p) e = absurd (let z : ◌≡◌ {A = ℕ} 0 1 = cc in omega arith)
@@ -113,8 +113,8 @@ module _ {t : ℕ} {v : List ℕ} (s : IsStrength t) (b : IsBlock v) where
 -- what a block holds, as data
 pub record Taken (t : ℕ) (v : List ℕ) (n : ℕ) (last : Bool) : Type 0 where
   pub short : n ≤ capacity t
-  pub carries : Carries t v (take n (drop (dataStart t) v)) last
-  pub long : length (take n (drop (dataStart t) v)) ≡ n
+  pub carries : Carries t v (take n (drop (data_start t) v)) last
+  pub long : length (take n (drop (data_start t) v)) ≡ n
 
 -- so many bytes behind the check bits
 pub held-carries : {t n : ℕ} {v : List ℕ} {last : Bool} {r : Held} → IsStrength t → IsBlock v → Holds t v r
@@ -123,8 +123,8 @@ pub held-carries : {t n : ℕ} {v : List ℕ} {last : Bool} {r : Held} → IsStr
 held-carries {t} {n} {v} {last} s b (bytes {d = d} {last = more} c) e =
     let k : length d ≡ n = cc in
     let m : more ≡ last = cc in
-    let x : take n (drop (dataStart t) v) ≡ d =
-    ap (λ (i : ℕ). take i (drop (dataStart t) v)) (sym k) ∙ shape-data more (carries-shape s b c) in
+    let x : take n (drop (data_start t) v) ≡ d =
+    ap (λ (i : ℕ). take i (drop (data_start t) v)) (sym k) ∙ shape-data more (carries-shape s b c) in
     record {
       short = (let h = fits-short more c.fits in omega arith);
       carries = rw (x, ← m) c;
@@ -139,13 +139,13 @@ held-nothing (bytes c) e = absurd (let z : ◌≡◌ {A = ℕ} 0 1 = cc in omega
 held-nothing (nothing x) e = x
 
 -- copied to the room
-pub taken_out : {t n k start : ℕ} {v room after : List ℕ} {last : Bool} → Taken t v n last → start ≡ dataStart t
+pub taken_out : {t n k start : ℕ} {v room after : List ℕ} {last : Bool} → Taken t v n last → start ≡ data_start t
     → (src : List ℕ) → src ≡ take (start + n - start) (drop start v)
     → after ≡ take (length src) src ++ drop (length src) room
     → TakesOut t k v room (Data n last k) after
 unfolding copied
 taken_out {t} {n} {k} {start} {v} {room} {after} {last} h e src s a =
-    let d : List ℕ = take n (drop (dataStart t) v) in
+    let d : List ℕ = take n (drop (data_start t) v) in
     let m : start + n - start ≡ n = omega arith in
     let q : src ≡ d = s ∙ ap₂ (λ (i j : ℕ). take i (drop j v)) m e in
     let p : after ≡ copied d room =

@@ -5,7 +5,7 @@
 -- Assumes nothing.
 use Rattle.std.specs.Prelude.{◌≡◌, Bool, List, ◌∷◌, ◌++◌, ℕ, ◌-◌, ◌<◌, length, replicate}
 use Rattle.slices.specs.Lists.{copied}
-use Rattle.corrector_stream.specs.Words.{endByte, Carries}
+use Rattle.corrector_stream.specs.Words.{end_byte, Carries}
 use Rattle.corrector_stream.specs.declared.Unpacked.{Unpacked}
 use Rattle.corrector_stream.specs.declared.Unpacked.TheVariants.{Data, Strange}
 use Rattle.corrector_stream.specs.declared.Held.{Held}
@@ -31,7 +31,7 @@ pub data TakesOut (t n : ℕ) (v room : List ℕ) : Unpacked → List ℕ → Ty
 -- d, the end byte and zeros
 pub record Padded (b d : List ℕ) : Type 0 where
   pub shorter : length d < length b
-  pub is : b ≡ d ++ endByte ∷ replicate (length b - 1 - length d) 0
+  pub is : b ≡ d ++ end_byte ∷ replicate (length b - 1 - length d) 0
 
 -- how long d is, if there is one
 pub data EndsAt (b : List ℕ) : End → Type 0 where

@@ -1,12 +1,12 @@
 -- A WORD OF A STREAM OF DATA (docs/RULES.md section 7.4): which bytes of a word of strength t carry data, and how the
 -- end of the data is marked.
---   dataStart t         how many bytes the check bits take, the last one filled up by bits that are 0
---   capacity t          how many bytes of data a word carries: those from dataStart t to 254
---   endByte             stands behind the data of the last word
+--   data_start t         how many bytes the check bits take, the last one filled up by bits that are 0
+--   capacity t          how many bytes of data a word carries: those from data_start t to 254
+--   end_byte             stands behind the data of the last word
 --   mark_of last         byte 255: 1 in the last word of a stream, 0 in any other
 --   Fills D n last      n bytes of data fill a word that carries D; those of the last word leave room for the end byte
 --   Fits t d last       d are bytes that fill a word of strength t
---   carried t d last    the bytes from dataStart t to 254: d; in the last word then the end byte, and zeros
+--   carried t d last    the bytes from data_start t to 254: d; in the last word then the end byte, and zeros
 --   content t d last    all 256 bytes, the check bits 0
 --   Carries t v d last  THE WORD v CARRIES d: d fills it, and its bits from 11 t on are those of the content
 -- Assumes nothing.
@@ -14,16 +14,16 @@ use Rattle.std.specs.Prelude.{◌≡◌, Bool, true, false, List, [], ◌∷◌,
 use Rattle.corrector.specs.Correcting.{bit_at}
 
 -- the bytes of 11 t check bits
-abbrev pub dataStart : ℕ → ℕ
-dataStart t = (11 * t + 7) / 8
+abbrev pub data_start : ℕ → ℕ
+data_start t = (11 * t + 7) / 8
 
 -- up to byte 254
 abbrev pub capacity : ℕ → ℕ
-capacity t = 255 - dataStart t
+capacity t = 255 - data_start t
 
 -- 80 in hex
-abbrev pub endByte : ℕ
-endByte = 128
+abbrev pub end_byte : ℕ
+end_byte = 128
 
 -- byte 255
 abbrev pub mark_of : Bool → ℕ
@@ -42,12 +42,12 @@ pub record Fits (t : ℕ) (d : List ℕ) (last : Bool) : Type 0 where
 
 -- the bytes between the check bits and the mark
 unfoldable pub carried : ℕ → List ℕ → Bool → List ℕ
-carried t d true = d ++ endByte ∷ replicate (capacity t - 1 - length d) 0
+carried t d true = d ++ end_byte ∷ replicate (capacity t - 1 - length d) 0
 carried t d false = d
 
 -- all 256 bytes, the check bits 0
 unfoldable pub content : ℕ → List ℕ → Bool → List ℕ
-content t d last = replicate (dataStart t) 0 ++ (carried t d last ++ mark_of last ∷ [])
+content t d last = replicate (data_start t) 0 ++ (carried t d last ++ mark_of last ∷ [])
 
 -- the data bits of a word are those of the content
 pub record Carries (t : ℕ) (v d : List ℕ) (last : Bool) : Type 0 where

@@ -4,7 +4,7 @@
 ghost use Rattle.std.specs.Prelude.{◌≡◌, ◌+◌, ◌-◌, ◌*◌, ◌^◌, ◌≤◌, length};
 ghost use Rattle.corrector.specs.Correcting.{IsBlock, IsStrength};
 ghost use Rattle.corrector.specs.Places.{Tells};
-ghost use Rattle.corrector_stream.specs.Words.{dataStart, Fills, Fits, content};
+ghost use Rattle.corrector_stream.specs.Words.{data_start, Fills, Fits, content};
 ghost use Rattle.corrector_stream.specs.Parts.{laid};
 ghost use Rattle.corrector_stream.specs.Calls.{CapacityIs, Packs, Unpacks};
 ghost use Rattle.corrector_stream.specs.Parts.{Holds, TakesOut, EndsAt};
@@ -58,7 +58,7 @@ const END: u8 = 128;
 // Where the data of a word start.
 fn data_start(t: u16) -> usize
     requires { IsStrength t }
-    ensures { result ≡ dataStart t }
+    ensures { result ≡ data_start t }
 {
     (11 * t as usize + 7) / 8
 }
@@ -131,7 +131,7 @@ pub fn pack(strength: u16, piece: &[u8], last: bool, word: &mut [u8]) -> Packed
 // One more than the highest value of the byte that holds the last check bits: those behind them are 0.
 fn check_limit(t: u16) -> u16
     requires { IsStrength t }
-    ensures { result ≡ 2 ^ (11 * t - 8 * (dataStart t - 1)) }
+    ensures { result ≡ 2 ^ (11 * t - 8 * (data_start t - 1)) }
 {
     match t {
         1 => 8,

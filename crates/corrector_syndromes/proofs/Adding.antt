@@ -20,24 +20,24 @@ use Rattle.algebra.specs.Field.{power}
 use Rattle.field.specs.Field.{field_at, mul}
 use Rattle.field.proofs.Ring.{ring, power-lt}
 use Rattle.field.proofs.Generator.{one_below}
-use Rattle.corrector_code.specs.Digits.{valueOfDigits}
+use Rattle.corrector_code.specs.Digits.{value_of_digits}
 use Rattle.corrector_code.specs.Eleven.{F11}
 use Rattle.corrector_code.proofs.Eleven.{gen11}
-use Rattle.corrector_code.proofs.Values.{digit-turn, valueOfDigits-join, valueOfDigits-lt, valueOfDigits-zero}
-use Rattle.corrector_generator.specs.Generators.{oddPower}
+use Rattle.corrector_code.proofs.Values.{digit-turn, value_of_digits-join, value_of_digits-lt, value_of_digits-zero}
+use Rattle.corrector_generator.specs.Generators.{odd_power}
 use Rattle.corrector_syndromes.specs.Syndromes.{RowTable, RowAdded, ValuesAdded, OddValues}
 use Rattle.corrector_syndromes.proofs.Entries.{power-next, power-none}
 open ring (field_at 11) gen11.monic use {mul_comm, mul-zero-r, mul-one-r, mul-lt}
 
-value-nought : (x : ℕ) → valueOfDigits (field_at 11) x 0 ≡ 0
-value-nought x = valueOfDigits-zero (field_at 11) gen11.monic (one_below (field_at 11) gen11) x
+value-nought : (x : ℕ) → value_of_digits (field_at 11) x 0 ≡ 0
+value-nought x = value_of_digits-zero (field_at 11) gen11.monic (one_below (field_at 11) gen11) x
 
 -- ---- one row
 
 pub record RowOn (s : List ℕ) (j k : ℕ) (r : List ℕ) : Type 0 where
   pub within : k ≤ 8
   pub long : length r ≡ 8
-  pub done : (i : ℕ) → i < k → get_or r i 0 ≡ bit_xor (get_or s i 0) (power F11 (oddPower i) j)
+  pub done : (i : ℕ) → i < k → get_or r i 0 ≡ bit_xor (get_or s i 0) (power F11 (odd_power i) j)
   pub rest : (i : ℕ) → k ≤ i → get_or r i 0 ≡ get_or s i 0
 
 pub row_from : (s : List ℕ) (j : ℕ) → length s ≡ 8 → RowOn s j 0 s
@@ -50,7 +50,7 @@ row_on rows {s} {r} {j} {k} table hj w h = record {
   long = length-set r k _ ∙ w.long;
   done = λ i l. ⊎_elim
       (λ e. let z : i ≡ k = omega (arith, e) in ap (λ (n : ℕ). get_or (set r k v) n 0) z ∙ get_or-set_same r k v 0 (let m = w.long in omega arith)
-      ∙ ap₂ bit_xor (w.rest k (omega arith)) (table.entry j k hj h) ∙ ap (λ (n : ℕ). bit_xor (get_or s n 0) (power F11 (oddPower n) j)) (sym z))
+      ∙ ap₂ bit_xor (w.rest k (omega arith)) (table.entry j k hj h) ∙ ap (λ (n : ℕ). bit_xor (get_or s n 0) (power F11 (odd_power n) j)) (sym z))
       (λ e. get_or-set_other r k i v 0 (omega (arith, e)) ∙ w.done i (omega (arith, e))) (eq-or-lt_of_le (let q : i ≤ k = omega arith in q));
   rest = λ i l. get_or-set_other r k i v 0 (omega arith) ∙ w.rest i (omega arith);
 }
@@ -67,8 +67,8 @@ pub record AddingDigits (s : List ℕ) (n j : ℕ) (r : List ℕ) (x i : ℕ) : 
   pub long : length r ≡ 8
   pub fits : x * 2 ^ i < 2 ^ 88
   pub value : (k : ℕ) → k < 8
-      → bit_xor (get_or r k 0) (mul (field_at 11) (power F11 (oddPower k) i) (valueOfDigits (field_at 11) (oddPower k) x))
-      ≡ bit_xor (get_or s k 0) (mul (field_at 11) (power F11 (oddPower k) j) (valueOfDigits (field_at 11) (oddPower k) n))
+      → bit_xor (get_or r k 0) (mul (field_at 11) (power F11 (odd_power k) i) (value_of_digits (field_at 11) (odd_power k) x))
+      ≡ bit_xor (get_or s k 0) (mul (field_at 11) (power F11 (odd_power k) j) (value_of_digits (field_at 11) (odd_power k) n))
 
 pub add-digits-from : (s : List ℕ) (n j : ℕ) → length s ≡ 8 → n * 2 ^ j < 2 ^ 88 → AddingDigits s n j s n j
 add-digits-from s n j l f = record { long = l; fits = f; value = λ k h. refl }
@@ -106,22 +106,22 @@ pub add-digits-on : {s r r' : List ℕ} {n j x i : ℕ} → AddingDigits s n j r
 add-digits-on {s} {r} {r'} {n} {j} {x} {i} w c = record {
   long = ⊎_elim (λ a. a.0.long) (λ a. ap length a.0 ∙ w.long) c;
   fits = half-fits x i w.fits;
-  value = λ k h. ap₂ bit_xor (added k h c) (ap (λ (p : ℕ). mul (field_at 11) p (valueOfDigits (field_at 11) (oddPower k) (x / 2))) (next k))
-      ∙ digit-turn (field_at 11) gen11.monic (one_below (field_at 11) gen11) (oddPower k) (get_or r k 0) (power F11 (oddPower k) i) x (power-lt (field_at 11) gen11.monic (one_below (field_at 11) gen11) (oddPower k) i)
+  value = λ k h. ap₂ bit_xor (added k h c) (ap (λ (p : ℕ). mul (field_at 11) p (value_of_digits (field_at 11) (odd_power k) (x / 2))) (next k))
+      ∙ digit-turn (field_at 11) gen11.monic (one_below (field_at 11) gen11) (odd_power k) (get_or r k 0) (power F11 (odd_power k) i) x (power-lt (field_at 11) gen11.monic (one_below (field_at 11) gen11) (odd_power k) i)
       ∙ w.value k h;
 }
   where
-    next : (k : ℕ) → power F11 (oddPower k) (i + 1) ≡ mul (field_at 11) (oddPower k) (power F11 (oddPower k) i)
-    next k = ap (power F11 (oddPower k)) (add-one i) ∙ power-next (oddPower k) i
+    next : (k : ℕ) → power F11 (odd_power k) (i + 1) ≡ mul (field_at 11) (odd_power k) (power F11 (odd_power k) i)
+    next k = ap (power F11 (odd_power k)) (add-one i) ∙ power-next (odd_power k) i
 
-    added : (k : ℕ) → k < 8 → (RowAdded r i r' × (x % 2 ≡ 1)) ⊎ ((r' ≡ r) × (x % 2 ≡ 0)) → get_or r' k 0 ≡ bit_xor (get_or r k 0) (x % 2 * power F11 (oddPower k) i)
-    added k h (inl a) = a.0.value k h ∙ ap (bit_xor (get_or r k 0)) (let p : ℕ = power F11 (oddPower k) i in let e : 1 * p ≡ p = omega arith in sym (ap (λ (d : ℕ). d * p) a.1 ∙ e))
-    added k h (inr a) = ap (λ (l : List ℕ). get_or l k 0) a.0 ∙ sym (ap (bit_xor (get_or r k 0)) (let p : ℕ = power F11 (oddPower k) i in let e : 0 * p ≡ 0 = omega arith in ap (λ (d : ℕ). d * p) a.1 ∙ e) ∙ xor_zero_r (get_or r k 0))
+    added : (k : ℕ) → k < 8 → (RowAdded r i r' × (x % 2 ≡ 1)) ⊎ ((r' ≡ r) × (x % 2 ≡ 0)) → get_or r' k 0 ≡ bit_xor (get_or r k 0) (x % 2 * power F11 (odd_power k) i)
+    added k h (inl a) = a.0.value k h ∙ ap (bit_xor (get_or r k 0)) (let p : ℕ = power F11 (odd_power k) i in let e : 1 * p ≡ p = omega arith in sym (ap (λ (d : ℕ). d * p) a.1 ∙ e))
+    added k h (inr a) = ap (λ (l : List ℕ). get_or l k 0) a.0 ∙ sym (ap (bit_xor (get_or r k 0)) (let p : ℕ = power F11 (odd_power k) i in let e : 0 * p ≡ 0 = omega arith in ap (λ (d : ℕ). d * p) a.1 ∙ e) ∙ xor_zero_r (get_or r k 0))
 
 pub add-digits-end : {s r : List ℕ} {n j x i : ℕ} → AddingDigits s n j r x i → x ≡ 0 → ValuesAdded s n j r
 add-digits-end {s} {r} {n} {j} {x} {i} w e = record {
   long = w.long;
-  value = λ k h. sym (ap (bit_xor (get_or r k 0)) (ap (mul (field_at 11) (power F11 (oddPower k) i)) (ap (valueOfDigits (field_at 11) (oddPower k)) e ∙ value-nought (oddPower k)) ∙ mul-zero-r (power F11 (oddPower k) i)) ∙ xor_zero_r (get_or r k 0)) ∙ w.value k h;
+  value = λ k h. sym (ap (bit_xor (get_or r k 0)) (ap (mul (field_at 11) (power F11 (odd_power k) i)) (ap (value_of_digits (field_at 11) (odd_power k)) e ∙ value-nought (odd_power k)) ∙ mul-zero-r (power F11 (odd_power k) i)) ∙ xor_zero_r (get_or r k 0)) ∙ w.value k h;
 }
 
 -- both parts of a remainder
@@ -129,12 +129,12 @@ pub both-parts : {none s r : List ℕ} (lo hi : ℕ) → lo < 2 ^ 64 → ((k : �
 both-parts {none} {s} {r} lo hi b z p q = record {
   long = q.long;
   value = λ k h. q.value k h
-      ∙ ap (λ (v : ℕ). bit_xor v (mul (field_at 11) (power F11 (oddPower k) 64) (valueOfDigits (field_at 11) (oddPower k) hi))) (p.value k h ∙ ap₂ bit_xor (z k) (first k))
-      ∙ sym (valueOfDigits-join (field_at 11) gen11.monic (one_below (field_at 11) gen11) (oddPower k) 64 hi lo b);
+      ∙ ap (λ (v : ℕ). bit_xor v (mul (field_at 11) (power F11 (odd_power k) 64) (value_of_digits (field_at 11) (odd_power k) hi))) (p.value k h ∙ ap₂ bit_xor (z k) (first k))
+      ∙ sym (value_of_digits-join (field_at 11) gen11.monic (one_below (field_at 11) gen11) (odd_power k) 64 hi lo b);
 }
   where
-    first : (k : ℕ) → mul (field_at 11) (power F11 (oddPower k) 0) (valueOfDigits (field_at 11) (oddPower k) lo) ≡ valueOfDigits (field_at 11) (oddPower k) lo
-    first k = ap (λ (p : ℕ). mul (field_at 11) p (valueOfDigits (field_at 11) (oddPower k) lo)) (power-none (oddPower k)) ∙ mul_comm 1 _ ∙ mul-one-r _ (valueOfDigits-lt (field_at 11) gen11.monic (one_below (field_at 11) gen11) (oddPower k) lo)
+    first : (k : ℕ) → mul (field_at 11) (power F11 (odd_power k) 0) (value_of_digits (field_at 11) (odd_power k) lo) ≡ value_of_digits (field_at 11) (odd_power k) lo
+    first k = ap (λ (p : ℕ). mul (field_at 11) p (value_of_digits (field_at 11) (odd_power k) lo)) (power-none (odd_power k)) ∙ mul_comm 1 _ ∙ mul-one-r _ (value_of_digits-lt (field_at 11) gen11.monic (one_below (field_at 11) gen11) (odd_power k) lo)
 
 -- eight zeros
 pub zeros-at : (k : ℕ) → ◌≡◌ {A = ℕ} (get_or (replicate 8 0) k 0) 0

@@ -1,5 +1,5 @@
 -- The constant table of powers, by one test that antt computes: each row by multiplication from the one before.
---   rowsTest   the test
+--   rows_test   the test
 --   rows_at    what it says of the table
 --   power-next, power-none   a power by the one below it; the power 0
 -- Assumes nothing.
@@ -14,10 +14,10 @@ use lib.ListN.{length, get_or}
 use lib.Seq.{get_or-append-add}
 use lib.ListN.{get_or-append}
 use Rattle.algebra.specs.Field.{power}
-use Rattle.field.specs.Field.{field_at, reduce, cut, horner, mul, carryFree}
-use Rattle.field.proofs.Table.{bothTrue, bothTrue-left, bothTrue-right}
+use Rattle.field.specs.Field.{field_at, reduce, cut, horner, mul, carry_free}
+use Rattle.field.proofs.Table.{both_true, both_true-left, both_true-right}
 use Rattle.corrector_code.specs.Eleven.{F11}
-use Rattle.corrector_generator.specs.Generators.{oddPower}
+use Rattle.corrector_generator.specs.Generators.{odd_power}
 use Rattle.corrector_syndromes.specs.Syndromes.{RowTable}
 
 -- a power, by the one below it
@@ -30,46 +30,46 @@ unfolding power
 power-none x = refl
 
 -- products, place by place
-timesEach : List ℕ → List ℕ → List ℕ
-timesEach [] ps = []
-timesEach (x ∷ xs) [] = []
-timesEach (x ∷ xs) (p ∷ ps) = mul (field_at 11) x p ∷ timesEach xs ps
+times_each : List ℕ → List ℕ → List ℕ
+times_each [] ps = []
+times_each (x ∷ xs) [] = []
+times_each (x ∷ xs) (p ∷ ps) = mul (field_at 11) x p ∷ times_each xs ps
 
 rows_from : List ℕ → ℕ → List ℕ → List ℕ
 rows_from xs zero ps = []
-rows_from xs (suc n) ps = ps ++ rows_from xs n (timesEach xs ps)
+rows_from xs (suc n) ps = ps ++ rows_from xs n (times_each xs ps)
 
 same_list : List ℕ → List ℕ → Bool
 same_list [] [] = true
 same_list [] (y ∷ m) = false
 same_list (x ∷ l) [] = false
-same_list (x ∷ l) (y ∷ m) = bothTrue (eqb x y) (same_list l m)
+same_list (x ∷ l) (y ∷ m) = both_true (eqb x y) (same_list l m)
 
 same-is : (l m : List ℕ) → T (same_list l m) → l ≡ m
 unfolding same_list
 same-is [] [] t = refl
 same-is [] (y ∷ m) t = absurd t
 same-is (x ∷ l) [] t = absurd t
-same-is (x ∷ l) (y ∷ m) t = ap₂ (λ a r. a ∷ r) (eqb→eq x y (bothTrue-left (eqb x y) (same_list l m) t)) (same-is l m (bothTrue-right (eqb x y) (same_list l m) t))
+same-is (x ∷ l) (y ∷ m) t = ap₂ (λ a r. a ∷ r) (eqb→eq x y (both_true-left (eqb x y) (same_list l m) t)) (same-is l m (both_true-right (eqb x y) (same_list l m) t))
 
 odds : List ℕ
-odds = oddPower 0 ∷ oddPower 1 ∷ oddPower 2 ∷ oddPower 3 ∷ oddPower 4 ∷ oddPower 5 ∷ oddPower 6 ∷ oddPower 7 ∷ []
+odds = odd_power 0 ∷ odd_power 1 ∷ odd_power 2 ∷ odd_power 3 ∷ odd_power 4 ∷ odd_power 5 ∷ odd_power 6 ∷ odd_power 7 ∷ []
 
 ones : List ℕ
 ones = 1 ∷ 1 ∷ 1 ∷ 1 ∷ 1 ∷ 1 ∷ 1 ∷ 1 ∷ []
 
-unfoldable pub rowsTest : List ℕ → Bool
-unfolding same_list rows_from timesEach odds ones oddPower power mul carryFree reduce cut horner
-rowsTest rows = same_list rows (rows_from odds 88 ones)
+unfoldable pub rows_test : List ℕ → Bool
+unfolding same_list rows_from times_each odds ones odd_power power mul carry_free reduce cut horner
+rows_test rows = same_list rows (rows_from odds 88 ones)
 
-length-each : (xs ps : List ℕ) → length ps ≡ length xs → length (timesEach xs ps) ≡ length xs
-unfolding timesEach
+length-each : (xs ps : List ℕ) → length ps ≡ length xs → length (times_each xs ps) ≡ length xs
+unfolding times_each
 length-each [] ps e = refl
 length-each (x ∷ xs) [] e = absurd (omega arith)
 length-each (x ∷ xs) (p ∷ ps) e = ap suc (length-each xs ps (omega arith))
 
-each_at : (xs ps : List ℕ) (k : ℕ) → length ps ≡ length xs → k < length xs → get_or (timesEach xs ps) k 0 ≡ mul (field_at 11) (get_or xs k 0) (get_or ps k 0)
-unfolding timesEach
+each_at : (xs ps : List ℕ) (k : ℕ) → length ps ≡ length xs → k < length xs → get_or (times_each xs ps) k 0 ≡ mul (field_at 11) (get_or xs k 0) (get_or ps k 0)
+unfolding times_each
 each_at [] ps k e h = absurd (not-suc-le-zero h)
 each_at (x ∷ xs) [] k e h = absurd (omega arith)
 each_at (x ∷ xs) (p ∷ ps) zero e h = refl
@@ -82,17 +82,17 @@ unfolding rows_from
 row_at xs k lx hk zero j i ps lp h e = absurd (not-suc-le-zero h)
 row_at xs k lx hk (suc n) zero i ps lp h e =
     let z : 8 * 0 + k ≡ k = omega arith in
-    ap (λ (m : ℕ). get_or (ps ++ rows_from xs n (timesEach xs ps)) m 0) z ∙ get_or-append ps (rows_from xs n (timesEach xs ps)) 0 k (omega arith) ∙ e ∙ ap (power F11 (get_or xs k 0)) (sym (zero-add i))
+    ap (λ (m : ℕ). get_or (ps ++ rows_from xs n (times_each xs ps)) m 0) z ∙ get_or-append ps (rows_from xs n (times_each xs ps)) 0 k (omega arith) ∙ e ∙ ap (power F11 (get_or xs k 0)) (sym (zero-add i))
 row_at xs k lx hk (suc n) (suc j) i ps lp h e =
     let z : 8 * suc j + k ≡ length ps + (8 * j + k) = omega arith in
-    ap (λ (m : ℕ). get_or (ps ++ rows_from xs n (timesEach xs ps)) m 0) z ∙ get_or-append-add ps (rows_from xs n (timesEach xs ps)) (8 * j + k) 0
-    ∙ row_at xs k lx hk n j (suc i) (timesEach xs ps) (length-each xs ps (lp ∙ sym lx) ∙ lx) (omega arith) (each_at xs ps k (lp ∙ sym lx) (omega arith) ∙ next)
+    ap (λ (m : ℕ). get_or (ps ++ rows_from xs n (times_each xs ps)) m 0) z ∙ get_or-append-add ps (rows_from xs n (times_each xs ps)) (8 * j + k) 0
+    ∙ row_at xs k lx hk n j (suc i) (times_each xs ps) (length-each xs ps (lp ∙ sym lx) ∙ lx) (omega arith) (each_at xs ps k (lp ∙ sym lx) (omega arith) ∙ next)
     ∙ ap (power F11 (get_or xs k 0)) (add-suc j i ∙ sym (suc-add j i))
   where
     next : mul (field_at 11) (get_or xs k 0) (get_or ps k 0) ≡ power F11 (get_or xs k 0) (suc i)
     next = ap (mul (field_at 11) (get_or xs k 0)) e ∙ sym (power-next (get_or xs k 0) i)
 
-odd-at : (k : ℕ) → k < 8 → (get_or odds k 0 ≡ oddPower k) × (get_or ones k 0 ≡ 1)
+odd-at : (k : ℕ) → k < 8 → (get_or odds k 0 ≡ odd_power k) × (get_or ones k 0 ≡ 1)
 unfolding odds ones
 odd-at zero h = (refl, refl)
 odd-at (suc zero) h = (refl, refl)
@@ -104,11 +104,11 @@ odd-at (suc (suc (suc (suc (suc (suc zero)))))) h = (refl, refl)
 odd-at (suc (suc (suc (suc (suc (suc (suc zero))))))) h = (refl, refl)
 odd-at (suc (suc (suc (suc (suc (suc (suc (suc k)))))))) h = absurd (omega arith)
 
-pub rows_at : (rows : List ℕ) → T (rowsTest rows) → RowTable rows
-unfolding rowsTest odds ones
+pub rows_at : (rows : List ℕ) → T (rows_test rows) → RowTable rows
+unfolding rows_test odds ones
 rows_at rows t = record { entry = λ j k hj hk. at j k hj hk }
   where
-    at : (j k : ℕ) → j < 88 → k < 8 → get_or rows (8 * j + k) 0 ≡ power F11 (oddPower k) j
+    at : (j k : ℕ) → j < 88 → k < 8 → get_or rows (8 * j + k) 0 ≡ power F11 (odd_power k) j
     at j k hj hk =
         ap (λ (l : List ℕ). get_or l (8 * j + k) 0) (same-is rows (rows_from odds 88 ones) t)
         ∙ row_at odds k refl hk 88 j 0 ones refl hj ((odd-at k hk).1 ∙ sym (power-none (get_or odds k 0)))

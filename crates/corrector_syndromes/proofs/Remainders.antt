@@ -9,20 +9,20 @@ use lib.ListN.{get_or}
 use Rattle.algebra.specs.Field.{power}
 use Rattle.field.specs.Field.{field_at}
 use Rattle.field.proofs.Generator.{one_below}
-use Rattle.corrector_code.specs.Word.{wordValue}
+use Rattle.corrector_code.specs.Word.{word_value}
 use Rattle.corrector_code.specs.Digits.{digits}
 use Rattle.corrector_code.specs.Eleven.{F11}
 use Rattle.corrector_code.proofs.Eleven.{gen11}
 use Rattle.corrector_code.proofs.Values.{value-digits}
-use Rattle.corrector_generator.specs.Generators.{oddPower}
+use Rattle.corrector_generator.specs.Generators.{odd_power}
 use Rattle.corrector_remainder.specs.Remainder.{RestAt}
 use Rattle.corrector_syndromes.specs.Syndromes.{OddValues}
 
 -- THE ODD SYNDROMES OF A WORD ARE THOSE OF ITS REMAINDER, as many as the strength
 pub odd-syndromes : {t n : ℕ} {odd : List ℕ} (W : ℕ) → t ≤ 8 → W < 2 ^ 2047 → RestAt t W n → OddValues n odd
     → (k : ℕ) → k < t
-    → get_or odd k 0 ≡ wordValue F11 (digits 2047 W) (power F11 2 (suc (2 * k)))
-unfolding oddPower
+    → get_or odd k 0 ≡ word_value F11 (digits 2047 W) (power F11 2 (suc (2 * k)))
+unfolding odd_power
 odd-syndromes W most l r v k h =
     v.value k (omega arith) ∙ r.values k h
-    ∙ sym (value-digits (field_at 11) gen11.monic (one_below (field_at 11) gen11) (oddPower k) 2047 W l)
+    ∙ sym (value-digits (field_at 11) gen11.monic (one_below (field_at 11) gen11) (odd_power k) 2047 W l)

@@ -8,13 +8,13 @@ use Rattle.std.specs.Prelude.{◌≡◌, List, ℕ, ◌+◌, ◌*◌, ◌<◌, g
 use Rattle.std.specs.Int.Bits.{bit_xor}
 use Rattle.algebra.specs.Field.{power}
 use Rattle.field.specs.Field.{field_at, mul}
-use Rattle.corrector_code.specs.Digits.{valueOfDigits}
+use Rattle.corrector_code.specs.Digits.{value_of_digits}
 use Rattle.corrector_code.specs.Eleven.{F11}
-use Rattle.corrector_generator.specs.Generators.{oddPower}
+use Rattle.corrector_generator.specs.Generators.{odd_power}
 
 -- the powers of a, a^3, .., a^15, eight in a row
 pub record RowTable (rows : List ℕ) : Type 0 where
-  pub entry : (j k : ℕ) → j < 88 → k < 8 → get_or rows (8 * j + k) 0 ≡ power F11 (oddPower k) j
+  pub entry : (j k : ℕ) → j < 88 → k < 8 → get_or rows (8 * j + k) 0 ≡ power F11 (odd_power k) j
 
 -- r is s, with the values of n x^j added
 pub record ValuesAdded (s : List ℕ) (n j : ℕ) (r : List ℕ) : Type 0 where
@@ -22,14 +22,14 @@ pub record ValuesAdded (s : List ℕ) (n j : ℕ) (r : List ℕ) : Type 0 where
   pub value : (k : ℕ) → k < 8
       → get_or r k 0
       ≡ bit_xor (get_or s k 0)
-      (mul (field_at 11) (power F11 (oddPower k) j) (valueOfDigits (field_at 11) (oddPower k) n))
+      (mul (field_at 11) (power F11 (odd_power k) j) (value_of_digits (field_at 11) (odd_power k) n))
 
 -- r is s, with the values of x^j added
 pub record RowAdded (s : List ℕ) (j : ℕ) (r : List ℕ) : Type 0 where
   pub long : length r ≡ 8
-  pub value : (k : ℕ) → k < 8 → get_or r k 0 ≡ bit_xor (get_or s k 0) (power F11 (oddPower k) j)
+  pub value : (k : ℕ) → k < 8 → get_or r k 0 ≡ bit_xor (get_or s k 0) (power F11 (odd_power k) j)
 
 -- the values of the polynomial with the binary digits of n
 pub record OddValues (n : ℕ) (s : List ℕ) : Type 0 where
   pub long : length s ≡ 8
-  pub value : (k : ℕ) → k < 8 → get_or s k 0 ≡ valueOfDigits (field_at 11) (oddPower k) n
+  pub value : (k : ℕ) → k < 8 → get_or s k 0 ≡ value_of_digits (field_at 11) (odd_power k) n

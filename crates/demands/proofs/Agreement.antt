@@ -11,13 +11,13 @@ use Prim.Native.Nat.{ℕ, ◌≤◌}
 use borrow.Author.Tests.{le-ltb}
 use lib.ListN.{length}
 use Rattle.refusals.specs.Order.{decide, outcome}
-use Rattle.input.specs.Cutoff.{highestCutoff}
-use Rattle.input.specs.Polynomials.{polynomialTests}
-use Rattle.input.specs.RootMemory.{rootMemory, multiplicityMemory, roomTests}
-use Rattle.field.specs.Field.{rootsAt}
-use Rattle.table_rules.specs.Demand.{stepsAt}
-use Rattle.find_solve.specs.Calls.{solveTests, solveOutcome}
-use Rattle.find_search.specs.Calls.{searchTests, searchOutcome}
+use Rattle.input.specs.Cutoff.{highest_cutoff}
+use Rattle.input.specs.Polynomials.{polynomial_tests}
+use Rattle.input.specs.RootMemory.{root_memory, multiplicity_memory, room_tests}
+use Rattle.field.specs.Field.{roots_at}
+use Rattle.table_rules.specs.Demand.{steps_at}
+use Rattle.find_solve.specs.Calls.{solve_tests, solve_outcome}
+use Rattle.find_search.specs.Calls.{search_tests, search_outcome}
 
 skipped : {A : Type 0} (ts : List (ℕ × Bool)) (k : ℕ) (us : List (ℕ × Bool)) (refuse : ℕ → A) (accept : A)
     → decide (ts ++ (k, false) ∷ us) refuse accept ≡ decide (ts ++ us) refuse accept
@@ -35,23 +35,23 @@ number_is (t ∷ ts) values = go t.1 (number_is ts values)
     go true e = refl
     go false e = e
 
-module _ (m c : ℕ) (cs list mults : List ℕ) (h : c ≤ highestCutoff) where
+module _ (m c : ℕ) (cs list mults : List ℕ) (h : c ≤ highest_cutoff) where
   -- the cutoff's test does not hold
-  without : {A : Type 0} (refuse : ℕ → A) (accept : A) → decide (solveTests m c cs list mults) refuse accept ≡ decide (searchTests m cs list mults) refuse accept
+  without : {A : Type 0} (refuse : ℕ → A) (accept : A) → decide (solve_tests m c cs list mults) refuse accept ≡ decide (search_tests m cs list mults) refuse accept
   without refuse accept =
-      ap (λ (b : Bool). decide (polynomialTests m cs ((6, b) ∷ roomTests list mults)) refuse accept) (le-ltb highestCutoff c h)
-      ∙ skipped (polynomialTests m cs []) 6 (roomTests list mults) refuse accept
+      ap (λ (b : Bool). decide (polynomial_tests m cs ((6, b) ∷ room_tests list mults)) refuse accept) (le-ltb highest_cutoff c h)
+      ∙ skipped (polynomial_tests m cs []) 6 (room_tests list mults) refuse accept
 
   -- the same number
-  pub agree-number : (solveOutcome m c cs list mults).0 ≡ (searchOutcome m cs list mults).0
+  pub agree-number : (solve_outcome m c cs list mults).0 ≡ (search_outcome m cs list mults).0
   agree-number =
-      number_is (solveTests m c cs list mults) (length (rootsAt m cs) ∷ stepsAt m c cs ∷ []) ∙ without (λ k. k) 0
-      ∙ sym (number_is (searchTests m cs list mults) (length (rootsAt m cs) ∷ []))
+      number_is (solve_tests m c cs list mults) (length (roots_at m cs) ∷ steps_at m c cs ∷ []) ∙ without (λ k. k) 0
+      ∙ sym (number_is (search_tests m cs list mults) (length (roots_at m cs) ∷ []))
 
   -- the same list
-  pub agree-list : rootMemory (solveTests m c cs list mults) m cs list ≡ rootMemory (searchTests m cs list mults) m cs list
+  pub agree-list : root_memory (solve_tests m c cs list mults) m cs list ≡ root_memory (search_tests m cs list mults) m cs list
   agree-list = without (λ k. list) _
 
   -- and the same second list
-  pub agree-beside : multiplicityMemory (solveTests m c cs list mults) m cs mults ≡ multiplicityMemory (searchTests m cs list mults) m cs mults
+  pub agree-beside : multiplicity_memory (solve_tests m c cs list mults) m cs mults ≡ multiplicity_memory (search_tests m cs list mults) m cs mults
   agree-beside = without (λ k. mults) _

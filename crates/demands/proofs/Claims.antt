@@ -13,14 +13,14 @@ use Rattle.refusals.specs.declared.Refusal.{Refusal}
 use Rattle.refusals.proofs.Numbers.{accepted-back, by_number, refused-back}
 use Rattle.refusals.proofs.Order.{exactly, written}
 use Rattle.claim_rules.specs.Claims.{Claim}
-use Rattle.claim_rules.specs.Admitting.{claimTests}
-use Rattle.claims.specs.Calls.{Checks, toldChecked}
+use Rattle.claim_rules.specs.Admitting.{claim_tests}
+use Rattle.claims.specs.Calls.{Checks, told_checked}
 use Rattle.claims.specs.declared.Checked.{Checked}
 use Rattle.claims.specs.declared.Checked.TheVariants.{Accepted}
 use Rattle.claims.proofs.Coincide.{check-coincide, check-outcome, exclusive}
 use Rattle.claims.proofs.Contract.{check-complete, check-exists, check-same}
 use Rattle.demands.specs.Demand2.{Holds}
-use Rattle.claim_maker.specs.Calls.{Proves, proveTests, toldProved}
+use Rattle.claim_maker.specs.Calls.{Proves, prove_tests, told_proved}
 use Rattle.claim_maker.specs.declared.Proved.{Proved}
 use Rattle.claim_maker.specs.declared.Proved.TheVariants.{Proven, NotProven}
 use Rattle.claim_maker.proofs.Coincide.{prove-coincide, prove-outcome}
@@ -29,10 +29,10 @@ use Rattle.demands.specs.Claims.{Claims, Proofs}
 use Rattle.demands.proofs.Demand2.{demand-2, holds}
 
 -- refused under k exactly if test k is the first that holds
-by-test : (m : ℕ) (f : List ℕ) (c : Claim) (r : Checked) (k : ℕ) → Checks m f c r → ((toldChecked r).0 ≡ suc k) ↔ Given (suc k) (claimTests m f c)
+by-test : (m : ℕ) (f : List ℕ) (c : Claim) (r : Checked) (k : ℕ) → Checks m f c r → ((told_checked r).0 ≡ suc k) ↔ Given (suc k) (claim_tests m f c)
 by-test m f c r k h =
     let e = check-outcome m f c r h in
-    let i = exactly k (claimTests m f c) (toldChecked r).1 in
+    let i = exactly k (claim_tests m f c) (told_checked r).1 in
     (λ t. i.0 (sym (ap (λ o. o.0) e) ∙ t), λ g. ap (λ o. o.0) e ∙ i.1 g)
 
 pub claims : Claims
@@ -52,10 +52,10 @@ claims = record {
 -- ---- the making
 
 -- refused under k exactly if test k is the first that holds
-made-by-test : (m : ℕ) (f : List ℕ) (b : Claim) (r : Proved) (x : Claim) (k : ℕ) → Proves m f b r x → ((toldProved r).0 ≡ suc k) ↔ Given (suc k) (proveTests m f b)
+made-by-test : (m : ℕ) (f : List ℕ) (b : Claim) (r : Proved) (x : Claim) (k : ℕ) → Proves m f b r x → ((told_proved r).0 ≡ suc k) ↔ Given (suc k) (prove_tests m f b)
 made-by-test m f b r x k h =
     let e = prove-outcome m f b r x h in
-    let i = exactly k (proveTests m f b) (toldProved r).1 in
+    let i = exactly k (prove_tests m f b) (told_proved r).1 in
     (λ t. i.0 (sym (ap (λ o. o.0) e) ∙ t), λ g. ap (λ o. o.0) e ∙ i.1 g)
 
 -- no refusal has the number 0
@@ -65,12 +65,12 @@ number-some k e =
     omega arith
 
 -- made exactly if no test holds
-made-passed : (m : ℕ) (f : List ℕ) (b : Claim) (r : Proved) (x : Claim) → Proves m f b r x → ((toldProved r).0 ≡ 0) ↔ Passed (proveTests m f b)
+made-passed : (m : ℕ) (f : List ℕ) (b : Claim) (r : Proved) (x : Claim) → Proves m f b r x → ((told_proved r).0 ≡ 0) ↔ Passed (prove_tests m f b)
 made-passed m f b (Proven n) x h = (λ e. h.0, λ p. refl)
 made-passed m f b (NotProven k) x h = (λ e. absurd (number-some k e), λ p. absurd (exclusive p h.0))
 
 -- a refusal writes nothing
-made-unwritten : (m : ℕ) (f : List ℕ) (b : Claim) (r : Proved) (x : Claim) (k : ℕ) → Proves m f b r x → Given k (proveTests m f b) → x ≡ b
+made-unwritten : (m : ℕ) (f : List ℕ) (b : Claim) (r : Proved) (x : Claim) (k : ℕ) → Proves m f b r x → Given k (prove_tests m f b) → x ≡ b
 made-unwritten m f b (Proven n) x k h g = absurd (exclusive h.0 g)
 made-unwritten m f b (NotProven j) x k h g = h.1
 

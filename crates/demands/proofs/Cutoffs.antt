@@ -9,32 +9,32 @@ use Prim.Native.Nat.{ℕ, ◌≤◌}
 use native.Mathlib.Omega.{arith}
 use borrow.Author.Tests.{le-ltb}
 use lib.Dec.{ltb}
-use Rattle.field.specs.Field.{rootsAt}
-use Rattle.input.specs.Cutoff.{highestCutoff, inForceBy, inForce}
-use Rattle.input.specs.Polynomials.{polynomialTests}
-use Rattle.input.specs.RootMemory.{roomTests, rootMemory, multiplicityMemory}
-use Rattle.table_rules.specs.Splitting.{traceBitAt}
+use Rattle.field.specs.Field.{roots_at}
+use Rattle.input.specs.Cutoff.{highest_cutoff, in_force_by, in_force}
+use Rattle.input.specs.Polynomials.{polynomial_tests}
+use Rattle.input.specs.RootMemory.{room_tests, root_memory, multiplicity_memory}
+use Rattle.table_rules.specs.Splitting.{trace_bit_at}
 use Rattle.table_rules.proofs.Counting.{count-falls}
-use Rattle.find_solve.specs.Calls.{solveTests}
+use Rattle.find_solve.specs.Calls.{solve_tests}
 use Rattle.demands.specs.Cutoffs.{Higher}
 
 -- THE LAW: neither is refused for its cutoff, and the second is no lower
-pub higher : (m c d : ℕ) (f list mults : List ℕ) → c ≤ highestCutoff → d ≤ highestCutoff → inForce c ≤ inForce d
+pub higher : (m c d : ℕ) (f list mults : List ℕ) → c ≤ highest_cutoff → d ≤ highest_cutoff → in_force c ≤ in_force d
     → Higher m c d f list mults
 higher m c d f list mults hc hd h = record {
   lists = λ r s x y u v p q. (
-    p.list ∙ ap (λ t. rootMemory t m f list) same ∙ sym q.list,
-    p.beside ∙ ap (λ t. multiplicityMemory t m f mults) same ∙ sym q.beside,
+    p.list ∙ ap (λ t. root_memory t m f list) same ∙ sym q.list,
+    p.beside ∙ ap (λ t. multiplicity_memory t m f mults) same ∙ sym q.beside,
   );
-  steps = count-falls (traceBitAt m) (inForce c) (inForce d) m (rootsAt m f) h;
+  steps = count-falls (trace_bit_at m) (in_force c) (in_force d) m (roots_at m f) h;
 }
   where
-    same : solveTests m c f list mults ≡ solveTests m d f list mults
-    same = ap (λ (b : Bool). polynomialTests m f ((6, b) ∷ roomTests list mults)) (le-ltb highestCutoff c hc ∙ sym (le-ltb highestCutoff d hd))
+    same : solve_tests m c f list mults ≡ solve_tests m d f list mults
+    same = ap (λ (b : Bool). polynomial_tests m f ((6, b) ∷ room_tests list mults)) (le-ltb highest_cutoff c hc ∙ sym (le-ltb highest_cutoff d hd))
 
 -- what 0 stands for is no lower than 2
-house-above : inForce 2 ≤ inForce 0
-unfolding inForceBy
+house-above : in_force 2 ≤ in_force 0
+unfolding in_force_by
 house-above = omega arith
 
 -- THE HOUSE DEFAULT beside 2

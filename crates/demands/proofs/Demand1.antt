@@ -15,20 +15,20 @@ use Rattle.refusals.specs.Order.{outcome, memory, Answers, Given, Passed}
 use Rattle.refusals.specs.Order.Given.{here, later}
 use Rattle.refusals.proofs.Order as order
 use Rattle.algebra.specs.Trial.{All}
-use Rattle.field_elements.specs.Calls.{pairTests, nonzeroTests, positionTests}
+use Rattle.field_elements.specs.Calls.{pair_tests, nonzero_tests, position_tests}
 use Rattle.field_elements.proofs.Coincide.{product-coincide, inverse-coincide, position-coincide, quadratic-coincide}
-use Rattle.table_begin.specs.Calls.{beginTests}
-use Rattle.table_step.specs.Calls.{stepTests}
+use Rattle.table_begin.specs.Calls.{begin_tests}
+use Rattle.table_step.specs.Calls.{step_tests}
 use Rattle.table_begin.proofs.Coincide.{begin-coincide}
 use Rattle.table_step.proofs.Coincide.{step-coincide}
-use Rattle.table_finish.specs.Calls.{finishTests}
+use Rattle.table_finish.specs.Calls.{finish_tests}
 use Rattle.table_finish.proofs.Coincide.{finish-coincide}
 use Rattle.slices.specs.Lists.{copied}
-use Rattle.field.specs.Field.{rootsAt, multiplicitiesAt}
+use Rattle.field.specs.Field.{roots_at, multiplicities_at}
 use Rattle.input.specs.RootMemory.{ListsRoots}
 use Rattle.find_solve.proofs.Coincide.{solve-coincide}
 use Rattle.find_search.proofs.Coincide.{search-coincide}
-use Rattle.find_affine.specs.Calls.{affineTests}
+use Rattle.find_affine.specs.Calls.{affine_tests}
 use Rattle.find_affine.proofs.Coincide.{affine-coincide}
 use Rattle.job_lines.proofs.Coincide.{turned-once}
 use Rattle.corrector.specs.Correcting.{distance, Corrects}
@@ -37,11 +37,11 @@ use Rattle.corrector.proofs.Coincide.{correct-coincide}
 use Rattle.corrector_encoder.specs.Encoding.{Encodes}
 use Rattle.corrector_encoder.specs.Encoding.Encodes.{no_block as no_word, no-strength as unknown, encoded}
 use Rattle.corrector_encoder.proofs.Coincide.{encode-coincide}
-use Rattle.job_salvage.specs.Calls.{salvageTests}
+use Rattle.job_salvage.specs.Calls.{salvage_tests}
 use Rattle.job_salvage.proofs.Coincide.{salvage-coincide, next-coincide}
-use Rattle.job_writer.specs.Calls.{writeTests}
+use Rattle.job_writer.specs.Calls.{write_tests}
 use Rattle.job_writer.proofs.Coincide.{write-coincide}
-use Rattle.job_records.specs.Reading.{Outcome, startTests, recordTests, HandsBack}
+use Rattle.job_records.specs.Reading.{Outcome, start_tests, record_tests, HandsBack}
 use Rattle.job_records.proofs.Coincide.{read-coincide}
 use Rattle.job_records.proofs.Exactly.{ends-exactly, stops-exactly, refuses-exactly, accepts-exactly}
 use Rattle.demands.specs.Demand1.{Decides, Spares, Settles, Fixes, Demand1}
@@ -89,11 +89,11 @@ answered ts values new old n h = (decided ts values n h.0, subst (Spares ts new 
 -- an outcome and two lists that one contract admits
 listed : {ts : List (ℕ × Bool)} {values : List ℕ} {m : ℕ} {cs roots mults : List ℕ} {o : ℕ × List ℕ} {after beside : List ℕ} → Numbered ts
     → ListsRoots ts values m cs roots mults o after beside
-    → Decides ts values o × Spares ts (copied (rootsAt m cs) roots) roots after × Spares ts (copied (multiplicitiesAt m cs) mults) mults beside
+    → Decides ts values o × Spares ts (copied (roots_at m cs) roots) roots after × Spares ts (copied (multiplicities_at m cs) mults) mults beside
 listed {ts} {values} {m} {cs} {roots} {mults} n h = (
   decided ts values n h.answer,
-  subst (Spares ts (copied (rootsAt m cs) roots) roots) (sym h.list) (spares ts (copied (rootsAt m cs) roots) roots),
-  subst (Spares ts (copied (multiplicitiesAt m cs) mults) mults) (sym h.beside) (spares ts (copied (multiplicitiesAt m cs) mults) mults),
+  subst (Spares ts (copied (roots_at m cs) roots) roots) (sym h.list) (spares ts (copied (roots_at m cs) roots) roots),
+  subst (Spares ts (copied (multiplicities_at m cs) mults) mults) (sym h.beside) (spares ts (copied (multiplicities_at m cs) mults) mults),
 )
 
 -- what holds exactly of an outcome holds exactly of what an answer tells
@@ -168,24 +168,24 @@ six = (omega arith, (omega arith, (omega arith, (omega arith, (omega arith, (ome
 
 pub demand-1 : Demand1
 demand-1 = record {
-  product = λ m a b r h. decided (pairTests m a b) _ (omega arith, (omega arith, tt)) h;
-  quadratic = λ m a b r h. decided (pairTests m a b) _ (omega arith, (omega arith, tt)) h;
-  inverse = λ m a r h. decided (nonzeroTests m a) _ (omega arith, (omega arith, (omega arith, tt))) h;
-  position = λ m x v r h. decided (positionTests m x v) _ (omega arith, (omega arith, (omega arith, (omega arith, tt)))) h;
-  begin = λ m c cs table r after h. answered (beginTests m c cs table) _ _ table seven h;
-  step = λ table r after h. answered (stepTests table) _ _ table (omega arith, (omega arith, (omega arith, tt))) h;
-  finish = λ table list r after h. answered (finishTests table list) _ _ list (omega arith, (omega arith, (omega arith, tt))) h;
+  product = λ m a b r h. decided (pair_tests m a b) _ (omega arith, (omega arith, tt)) h;
+  quadratic = λ m a b r h. decided (pair_tests m a b) _ (omega arith, (omega arith, tt)) h;
+  inverse = λ m a r h. decided (nonzero_tests m a) _ (omega arith, (omega arith, (omega arith, tt))) h;
+  position = λ m x v r h. decided (position_tests m x v) _ (omega arith, (omega arith, (omega arith, (omega arith, tt)))) h;
+  begin = λ m c cs table r after h. answered (begin_tests m c cs table) _ _ table seven h;
+  step = λ table r after h. answered (step_tests table) _ _ table (omega arith, (omega arith, (omega arith, tt))) h;
+  finish = λ table list r after h. answered (finish_tests table list) _ _ list (omega arith, (omega arith, (omega arith, tt))) h;
   solve = λ m c cs roots mults r after beside h. listed eight h;
   search = λ m cs roots mults r after beside h. listed (omega arith, (omega arith, (omega arith, (omega arith, (omega arith, (omega arith, (omega arith, tt))))))) h;
-  affine = λ m cs constant list r after h. answered (affineTests m cs constant (length list)) _ _ list (omega arith, (omega arith, (omega arith, (omega arith, tt)))) h;
+  affine = λ m cs constant list r after h. answered (affine_tests m cs constant (length list)) _ _ list (omega arith, (omega arith, (omega arith, (omega arith, tt)))) h;
   correct = λ t word o after h. settles h;
   encode = λ t word o after h. fixes h;
-  salvage = λ file room r after h. answered (salvageTests file room) _ _ room (omega arith, tt) h;
-  write = λ m c roots room r after h. answered (writeTests m c roots (length room)) _ _ room six h;
+  salvage = λ file room r after h. answered (salvage_tests file room) _ _ room (omega arith, tt) h;
+  write = λ m c roots room r after h. answered (write_tests m c roots (length room)) _ _ room six h;
   ends = λ file at r h. of-told h (ends-exactly file at);
   stops = λ file at k r h. of-told h (stops-exactly file at k);
   refuses = λ file at k r h. of-told h (refuses-exactly file at k);
-  accepts = λ file at r h. subst (λ (o : Outcome). HandsBack file at o ↔ (Passed (startTests (drop at file)) × Passed (recordTests (drop at file)))) (sym h) (accepts-exactly file at);
+  accepts = λ file at r h. subst (λ (o : Outcome). HandsBack file at o ↔ (Passed (start_tests (drop at file)) × Passed (record_tests (drop at file)))) (sym h) (accepts-exactly file at);
   product-one = product-coincide;
   quadratic-one = quadratic-coincide;
   inverse-one = inverse-coincide;

@@ -9,17 +9,17 @@
 use Rattle.std.specs.Prelude.{◌≡◌, ◌↔◌, List, ℕ, suc, ◌≤◌, length}
 use Rattle.refusals.specs.Order.{Given, Passed}
 use Rattle.algebra.specs.Trial.{All}
-use Rattle.field.specs.Field.{rootsAt, multiplicitiesAt}
+use Rattle.field.specs.Field.{roots_at, multiplicities_at}
 use Rattle.input.specs.Limit.{limit}
 use Rattle.input.specs.Polynomials.{PolynomialIn}
-use Rattle.find_solve.specs.Calls.{Solves, solveTests}
+use Rattle.find_solve.specs.Calls.{Solves, solve_tests}
 use Rattle.find_solve.specs.declared.Solved.{Solved}
 use Rattle.claim_rules.specs.Claims.{Acceptable, Claim, SameClaim}
-use Rattle.claim_rules.specs.Admitting.{ClaimIn, claimTests}
-use Rattle.claims.specs.Calls.{Checks, toldChecked}
+use Rattle.claim_rules.specs.Admitting.{ClaimIn, claim_tests}
+use Rattle.claims.specs.Calls.{Checks, told_checked}
 use Rattle.claims.specs.declared.Checked.{Checked}
 use Rattle.claims.specs.declared.Checked.TheVariants.{Accepted}
-use Rattle.claim_maker.specs.Calls.{Proves, proveTests, sentClaim, toldProved}
+use Rattle.claim_maker.specs.Calls.{Proves, prove_tests, sent_claim, told_proved}
 use Rattle.claim_maker.specs.declared.Proved.{Proved}
 use Rattle.claim_maker.specs.declared.Proved.TheVariants.{Proven}
 use Rattle.demands.specs.Demand2.{Holds}
@@ -29,16 +29,16 @@ pub record Claims : Type 0 where
   pub check-one : (m : ℕ) (f : List ℕ) (c : Claim) (r s : Checked) → Checks m f c r → Checks m f c s → r ≡ s
   -- refused under k exactly if test k is the first that holds
   pub refused : (m : ℕ) (f : List ℕ) (c : Claim) (r : Checked) (k : ℕ) → Checks m f c r
-      → ((toldChecked r).0 ≡ suc k) ↔ Given (suc k) (claimTests m f c)
+      → ((told_checked r).0 ≡ suc k) ↔ Given (suc k) (claim_tests m f c)
   -- accepted exactly if no test holds and the claim is acceptable
   pub accepted : (m : ℕ) (f : List ℕ) (c : Claim) (r : Checked) → Checks m f c r
-      → (r ≡ Accepted) ↔ (Passed (claimTests m f c) × Acceptable m f c)
+      → (r ≡ Accepted) ↔ (Passed (claim_tests m f c) × Acceptable m f c)
   -- an accepted list is the complete list, with its multiplicities
   pub complete : (m : ℕ) (f : List ℕ) (c : Claim) → Checks m f c Accepted
-      → (c.roots ≡ rootsAt m f) × (c.times ≡ multiplicitiesAt m f)
+      → (c.roots ≡ roots_at m f) × (c.times ≡ multiplicities_at m f)
   -- so it is what the whole call lists
   pub solved : (m cutoff : ℕ) (f : List ℕ) (c : Claim) (list mults : List ℕ) (r : Solved) (x u : List ℕ)
-      → Checks m f c Accepted → Passed (solveTests m cutoff f list mults) → Solves m cutoff f list mults r x u
+      → Checks m f c Accepted → Passed (solve_tests m cutoff f list mults) → Solves m cutoff f list mults r x u
       → Holds c.roots list x × Holds c.times mults u
   -- every nonzero polynomial within the limit has a claim that is accepted; the numbers beside its roots are small
   pub exists : (m : ℕ) (f : List ℕ) → PolynomialIn m f
@@ -54,21 +54,21 @@ pub record Proofs : Type 0 where
       → (r ≡ s) × (x ≡ y)
   -- refused under k exactly if test k is the first that holds
   pub refused : (m : ℕ) (f : List ℕ) (b : Claim) (r : Proved) (x : Claim) (k : ℕ) → Proves m f b r x
-      → ((toldProved r).0 ≡ suc k) ↔ Given (suc k) (proveTests m f b)
+      → ((told_proved r).0 ≡ suc k) ↔ Given (suc k) (prove_tests m f b)
   -- made exactly if no test holds
   pub made : (m : ℕ) (f : List ℕ) (b : Claim) (r : Proved) (x : Claim) → Proves m f b r x
-      → ((toldProved r).0 ≡ 0) ↔ Passed (proveTests m f b)
+      → ((told_proved r).0 ≡ 0) ↔ Passed (prove_tests m f b)
   -- a refusal writes nothing
   pub unwritten : (m : ℕ) (f : List ℕ) (b : Claim) (r : Proved) (x : Claim) (k : ℕ) → Proves m f b r x
-      → Given k (proveTests m f b) → x ≡ b
+      → Given k (prove_tests m f b) → x ≡ b
   -- what was made is accepted by the check, which gives no other answer
   pub accepted : (m : ℕ) (f : List ℕ) (n : ℕ) (b x : Claim) → Proves m f b (Proven n) x
-      → Checks m f (sentClaim n x) Accepted × ((r : Checked) → Checks m f (sentClaim n x) r → r ≡ Accepted)
+      → Checks m f (sent_claim n x) Accepted × ((r : Checked) → Checks m f (sent_claim n x) r → r ≡ Accepted)
   -- its roots and multiplicities are those of the polynomial, and its lists stay as they were behind them
   pub roots : (m : ℕ) (f : List ℕ) (n : ℕ) (b x : Claim) → Proves m f b (Proven n) x
-      → (n ≡ length (rootsAt m f)) × Holds (rootsAt m f) b.roots x.roots
-      × Holds (multiplicitiesAt m f) b.times x.times
+      → (n ≡ length (roots_at m f)) × Holds (roots_at m f) b.roots x.roots
+      × Holds (multiplicities_at m f) b.times x.times
   -- so they are what the whole call lists in the same lists
   pub solved : (m cutoff : ℕ) (f : List ℕ) (n : ℕ) (b x : Claim) (r : Solved) (y u : List ℕ)
-      → Proves m f b (Proven n) x → Passed (solveTests m cutoff f b.roots b.times)
+      → Proves m f b (Proven n) x → Passed (solve_tests m cutoff f b.roots b.times)
       → Solves m cutoff f b.roots b.times r y u → (x.roots ≡ y) × (x.times ≡ u)

@@ -3,7 +3,7 @@
 --   Higher   of two cutoffs, what the whole call's contract admits at the one and at the other
 -- Assumes nothing.
 use Rattle.std.specs.Prelude.{◌≡◌, List, ℕ, ◌≤◌}
-use Rattle.table_rules.specs.Demand.{stepsAt}
+use Rattle.table_rules.specs.Demand.{steps_at}
 use Rattle.find_solve.specs.Calls.{Solves}
 use Rattle.find_solve.specs.declared.Solved.{Solved}
 
@@ -11,4 +11,4 @@ pub record Higher (m c d : ℕ) (f list mults : List ℕ) : Type 0 where
   -- both lists, accepted or refused
   pub lists : (r s : Solved) (x y u v : List ℕ) → Solves m c f list mults r x u → Solves m d f list mults s y v
       → (x ≡ y) × (u ≡ v)
-  pub steps : stepsAt m d f ≤ stepsAt m c f
+  pub steps : steps_at m d f ≤ steps_at m c f

@@ -13,45 +13,45 @@
 use Rattle.std.specs.Prelude.{◌≡◌, Bool, cond, List, [], ◌∷◌, ◌↔◌, ℕ, suc, ◌+◌, ◌*◌, ◌≤◌, ◌<◌, length, drop}
 use Rattle.refusals.specs.Order.{Given, Passed}
 use Rattle.slices.specs.Lists.{copied}
-use Rattle.field.specs.Field.{field_at, mul, inverse, rootsAt, multiplicitiesAt}
+use Rattle.field.specs.Field.{field_at, mul, inverse, roots_at, multiplicities_at}
 use Rattle.field_elements.specs.declared.Roots.{Roots}
 use Rattle.field_elements.specs.declared.Answer.{Answer}
-use Rattle.field_elements.specs.Calls.{toldAnswer, toldQuadratic, pairTests, quadraticValues}
-use Rattle.field_elements.specs.Calls.{nonzeroTests, positionTests, positionUnder}
+use Rattle.field_elements.specs.Calls.{told_answer, told_quadratic, pair_tests, quadratic_values}
+use Rattle.field_elements.specs.Calls.{nonzero_tests, position_tests, position_under}
 use Rattle.field_elements.specs.Calls.{TellsProduct, TellsInverse, TellsPosition, TellsQuadratic}
-use Rattle.input.specs.Cutoff.{inForce}
-use Rattle.table_rules.specs.Demand.{stepsAt}
-use Rattle.table_rules.specs.Layout.{byFactor}
+use Rattle.input.specs.Cutoff.{in_force}
+use Rattle.table_rules.specs.Demand.{steps_at}
+use Rattle.table_rules.specs.Layout.{by_factor}
 use Rattle.table_rules.specs.Sizes.{slots}
-use Rattle.table_rules.specs.Splitting.{slotsDone, slotsStepped, slotsBegun, slotsRoots}
-use Rattle.table_begin.specs.Calls.{beginTests, toldBegun, Begins}
+use Rattle.table_rules.specs.Splitting.{slots_done, slots_stepped, slots_begun, slots_roots}
+use Rattle.table_begin.specs.Calls.{begin_tests, told_begun, Begins}
 use Rattle.table_begin.specs.declared.Begun.{Begun}
-use Rattle.table_step.specs.Calls.{stepTests, toldStepped, Steps}
+use Rattle.table_step.specs.Calls.{step_tests, told_stepped, Steps}
 use Rattle.table_step.specs.declared.Stepped.{Stepped}
-use Rattle.table_finish.specs.Calls.{finishTests, toldFinished, Finishes}
+use Rattle.table_finish.specs.Calls.{finish_tests, told_finished, Finishes}
 use Rattle.table_finish.specs.declared.Finished.{Finished}
-use Rattle.find_solve.specs.Calls.{solveTests, toldSolved, Solves}
+use Rattle.find_solve.specs.Calls.{solve_tests, told_solved, Solves}
 use Rattle.find_solve.specs.declared.Solved.{Solved}
-use Rattle.find_search.specs.Calls.{searchTests, toldSearched, Searches}
+use Rattle.find_search.specs.Calls.{search_tests, told_searched, Searches}
 use Rattle.find_search.specs.declared.Searched.{Searched}
-use Rattle.find_affine.specs.Affine.{affineRoots, spaceValues}
-use Rattle.find_affine.specs.Calls.{affineTests, toldSpanned, Spans}
+use Rattle.find_affine.specs.Affine.{affine_roots, space_values}
+use Rattle.find_affine.specs.Calls.{affine_tests, told_spanned, Spans}
 use Rattle.find_affine.specs.declared.Spanned.{Spanned}
-use Rattle.job_records.specs.Layout.{recordLength}
-use Rattle.job_records.specs.Reading.{Outcome, startTests, recordTests, ReadsAt, HandsBack, Stands}
-use Rattle.job_records.specs.Reading.{toldRead}
+use Rattle.job_records.specs.Layout.{record_length}
+use Rattle.job_records.specs.Reading.{Outcome, start_tests, record_tests, ReadsAt, HandsBack, Stands}
+use Rattle.job_records.specs.Reading.{told_read}
 use Rattle.job_records.specs.declared.Read.{Read}
 use Rattle.job_lines.specs.Printing.{TurnedBy}
 use Rattle.job_lines.specs.declared.Turn.{Turn}
-use Rattle.corrector.specs.Correcting.{IsBlock, IsStrength, Within, distance, Corrects, toldCorrected}
+use Rattle.corrector.specs.Correcting.{IsBlock, IsStrength, Within, distance, Corrects, told_corrected}
 use Rattle.corrector.specs.declared.Corrected.{Corrected}
-use Rattle.corrector_encoder.specs.Encoding.{toldEncoded, Encoding, Encodes}
+use Rattle.corrector_encoder.specs.Encoding.{told_encoded, Encoding, Encodes}
 use Rattle.corrector_encoder.specs.declared.Encoded.{Encoded}
-use Rattle.job_salvage.specs.Pieces.{keptRecords, keptFile}
-use Rattle.job_salvage.specs.Calls.{NextIs, salvageTests, toldSalvaged, Salvages}
+use Rattle.job_salvage.specs.Pieces.{kept_records, kept_file}
+use Rattle.job_salvage.specs.Calls.{NextIs, salvage_tests, told_salvaged, Salvages}
 use Rattle.job_salvage.specs.declared.Salvaged.{Salvaged}
-use Rattle.job_writer.specs.Records.{recordOf, lengthFor}
-use Rattle.job_writer.specs.Calls.{writeTests, toldWritten, Writes}
+use Rattle.job_writer.specs.Records.{record_of, length_for}
+use Rattle.job_writer.specs.Calls.{write_tests, told_written, Writes}
 use Rattle.job_writer.specs.declared.Written.{Written}
 
 pub record Decides (tests : List (ℕ × Bool)) (values : List ℕ) (outcome : ℕ × List ℕ) : Type 0 where
@@ -82,39 +82,39 @@ pub record Fixes (t : ℕ) (word : List ℕ) (outcome : ℕ × List ℕ) (after 
 pub record Demand1 : Type 0 where
   -- element calls: 1, 4, 13;  position: 1, 21, 4, 13
   pub product : (m a b : ℕ) (r : Answer) → TellsProduct m a b r
-      → Decides (pairTests m a b) (mul (field_at m) a b ∷ []) (toldAnswer r)
+      → Decides (pair_tests m a b) (mul (field_at m) a b ∷ []) (told_answer r)
   pub quadratic : (m a b : ℕ) (r : Roots) → TellsQuadratic m a b r
-      → Decides (pairTests m a b) (quadraticValues (field_at m) a b) (toldQuadratic r)
+      → Decides (pair_tests m a b) (quadratic_values (field_at m) a b) (told_quadratic r)
   pub inverse : (m a : ℕ) (r : Answer) → TellsInverse m a r
-      → Decides (nonzeroTests m a) (inverse (field_at m) a ∷ []) (toldAnswer r)
+      → Decides (nonzero_tests m a) (inverse (field_at m) a ∷ []) (told_answer r)
   pub position : (m x convention : ℕ) (r : Answer) → TellsPosition m x convention r
-      → Decides (positionTests m x convention) (positionUnder convention (field_at m) x ∷ []) (toldAnswer r)
+      → Decides (position_tests m x convention) (position_under convention (field_at m) x ∷ []) (told_answer r)
   -- begin: 1 to 7;  step: 7, 8, 9;  finish: 7, 8, 10
   pub begin : (m c : ℕ) (cs table : List ℕ) (r : Begun) (after : List ℕ) → Begins m c cs table r after
-      → Decides (beginTests m c cs table) [] (toldBegun r)
-      × Spares (beginTests m c cs table) (slotsBegun byFactor slots m (inForce c) cs) table after
+      → Decides (begin_tests m c cs table) [] (told_begun r)
+      × Spares (begin_tests m c cs table) (slots_begun by_factor slots m (in_force c) cs) table after
   pub step : (table : List ℕ) (r : Stepped) (after : List ℕ) → Steps table r after
-      → Decides (stepTests table) (cond (slotsDone byFactor table) 1 0 ∷ []) (toldStepped r)
-      × Spares (stepTests table) (cond (slotsDone byFactor table) table (slotsStepped byFactor table)) table after
+      → Decides (step_tests table) (cond (slots_done by_factor table) 1 0 ∷ []) (told_stepped r)
+      × Spares (step_tests table) (cond (slots_done by_factor table) table (slots_stepped by_factor table)) table after
   pub finish : (table list : List ℕ) (r : Finished) (after : List ℕ) → Finishes table list r after
-      → Decides (finishTests table list) (length (slotsRoots byFactor table) ∷ []) (toldFinished r)
-      × Spares (finishTests table list) (copied (slotsRoots byFactor table) list) list after
+      → Decides (finish_tests table list) (length (slots_roots by_factor table) ∷ []) (told_finished r)
+      × Spares (finish_tests table list) (copied (slots_roots by_factor table) list) list after
   -- whole call: 1 to 7, the last of the root list and then of the second list;  plain search: likewise without 6
   pub solve : (m c : ℕ) (cs roots mults : List ℕ) (r : Solved) (after beside : List ℕ)
       → Solves m c cs roots mults r after beside
-      → Decides (solveTests m c cs roots mults) (length (rootsAt m cs) ∷ stepsAt m c cs ∷ []) (toldSolved r)
-      × Spares (solveTests m c cs roots mults) (copied (rootsAt m cs) roots) roots after
-      × Spares (solveTests m c cs roots mults) (copied (multiplicitiesAt m cs) mults) mults beside
+      → Decides (solve_tests m c cs roots mults) (length (roots_at m cs) ∷ steps_at m c cs ∷ []) (told_solved r)
+      × Spares (solve_tests m c cs roots mults) (copied (roots_at m cs) roots) roots after
+      × Spares (solve_tests m c cs roots mults) (copied (multiplicities_at m cs) mults) mults beside
   pub search : (m : ℕ) (cs roots mults : List ℕ) (r : Searched) (after beside : List ℕ)
       → Searches m cs roots mults r after beside
-      → Decides (searchTests m cs roots mults) (length (rootsAt m cs) ∷ []) (toldSearched r)
-      × Spares (searchTests m cs roots mults) (copied (rootsAt m cs) roots) roots after
-      × Spares (searchTests m cs roots mults) (copied (multiplicitiesAt m cs) mults) mults beside
+      → Decides (search_tests m cs roots mults) (length (roots_at m cs) ∷ []) (told_searched r)
+      × Spares (search_tests m cs roots mults) (copied (roots_at m cs) roots) roots after
+      × Spares (search_tests m cs roots mults) (copied (multiplicities_at m cs) mults) mults beside
   -- affine call: 1, 20, 4, 7
   pub affine : (m : ℕ) (cs : List ℕ) (constant : ℕ) (list : List ℕ) (r : Spanned) (after : List ℕ)
       → Spans m cs constant list r after
-      → Decides (affineTests m cs constant (length list)) (spaceValues m (affineRoots m cs constant)) (toldSpanned r)
-      × Spares (affineTests m cs constant (length list)) (copied (affineRoots m cs constant) list) list after
+      → Decides (affine_tests m cs constant (length list)) (space_values m (affine_roots m cs constant)) (told_spanned r)
+      × Spares (affine_tests m cs constant (length list)) (copied (affine_roots m cs constant) list) list after
   -- correct: 22, 23, 24
   pub correct : (t : ℕ) (word : List ℕ) (outcome : ℕ × List ℕ) (after : List ℕ)
       → Corrects t word outcome after → Settles t word outcome after
@@ -123,25 +123,25 @@ pub record Demand1 : Type 0 where
       → Encodes t word outcome after → Fixes t word outcome after
   -- salvage: 7
   pub salvage : (file room : List ℕ) (r : Salvaged) (after : List ℕ) → Salvages file room r after
-      → Decides (salvageTests file room) (length (keptFile file) ∷ length (keptRecords file) ∷ []) (toldSalvaged r)
-      × Spares (salvageTests file room) (copied (keptFile file) room) room after
+      → Decides (salvage_tests file room) (length (kept_file file) ∷ length (kept_records file) ∷ []) (told_salvaged r)
+      × Spares (salvage_tests file room) (copied (kept_file file) room) room after
   -- write: 1, 3, 4, 25, 6, 7
   pub write : (m c : ℕ) (roots room : List ℕ) (r : Written) (after : List ℕ) → Writes m c roots room r after
-      → Decides (writeTests m c roots (length room)) (lengthFor (length roots) ∷ []) (toldWritten r)
-      × Spares (writeTests m c roots (length room)) (copied (recordOf m c roots) room) room after
+      → Decides (write_tests m c roots (length room)) (length_for (length roots) ∷ []) (told_written r)
+      × Spares (write_tests m c roots (length room)) (copied (record_of m c roots) room) room after
   -- the reader at a place of a file: it ends where no byte remains, stops under 12 or 11, and refuses a complete
   -- record under 1 to 6 with the place behind it
   pub ends : (file : List ℕ) (at : ℕ) (r : Read) → ReadsAt file at r
-      → (toldRead r ≡ Outcome.ends) ↔ (length file ≤ at)
+      → (told_read r ≡ Outcome.ends) ↔ (length file ≤ at)
   pub stops : (file : List ℕ) (at k : ℕ) (r : Read) → ReadsAt file at r
-      → (toldRead r ≡ Outcome.gives k []) ↔ ((at < length file) × Given k (startTests (drop at file)))
+      → (told_read r ≡ Outcome.gives k []) ↔ ((at < length file) × Given k (start_tests (drop at file)))
   pub refuses : (file : List ℕ) (at k : ℕ) (r : Read) → ReadsAt file at r
-      → (toldRead r ≡ Outcome.gives (suc k) ((at + recordLength (drop at file)) ∷ []))
-      ↔ (Passed (startTests (drop at file)) × Given (suc k) (recordTests (drop at file)))
+      → (told_read r ≡ Outcome.gives (suc k) ((at + record_length (drop at file)) ∷ []))
+      ↔ (Passed (start_tests (drop at file)) × Given (suc k) (record_tests (drop at file)))
   -- and exactly where no test holds it hands back m, the cutoff as stated, the coefficient bytes as that part of the
   -- file, and the place behind
   pub accepts : (file : List ℕ) (at : ℕ) (r : Read) → ReadsAt file at r
-      → HandsBack file at (toldRead r) ↔ (Passed (startTests (drop at file)) × Passed (recordTests (drop at file)))
+      → HandsBack file at (told_read r) ↔ (Passed (start_tests (drop at file)) × Passed (record_tests (drop at file)))
   -- each contract admits one answer, and one content of lent memory
   pub product-one : (m a b : ℕ) (r s : Answer) → TellsProduct m a b r → TellsProduct m a b s → r ≡ s
   pub quadratic-one : (m a b : ℕ) (r s : Roots) → TellsQuadratic m a b r → TellsQuadratic m a b s → r ≡ s
@@ -161,9 +161,9 @@ pub record Demand1 : Type 0 where
   pub affine-one : (m : ℕ) (cs : List ℕ) (constant : ℕ) (list : List ℕ) (r s : Spanned) (x y : List ℕ)
       → Spans m cs constant list r x → Spans m cs constant list s y → (r ≡ s) × (x ≡ y)
   pub correct-one : (t : ℕ) (word : List ℕ) (r s : Corrected) (x y : List ℕ)
-      → Corrects t word (toldCorrected r) x → Corrects t word (toldCorrected s) y → (r ≡ s) × (x ≡ y)
+      → Corrects t word (told_corrected r) x → Corrects t word (told_corrected s) y → (r ≡ s) × (x ≡ y)
   pub encode_one : (t : ℕ) (word : List ℕ) (r s : Encoded) (x y : List ℕ)
-      → Encodes t word (toldEncoded r) x → Encodes t word (toldEncoded s) y → (r ≡ s) × (x ≡ y)
+      → Encodes t word (told_encoded r) x → Encodes t word (told_encoded s) y → (r ≡ s) × (x ≡ y)
   pub salvage-one : (file room : List ℕ) (r s : Salvaged) (x y : List ℕ)
       → Salvages file room r x → Salvages file room s y → (r ≡ s) × (x ≡ y)
   pub write-one : (m c : ℕ) (roots room : List ℕ) (r s : Written) (x y : List ℕ)

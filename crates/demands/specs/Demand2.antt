@@ -11,11 +11,11 @@
 use Rattle.std.specs.Prelude.{◌≡◌, ◌↔◌, ◌≢◌, ℕ, ◌^◌, ◌<◌, ◌≤◌, length, get_or, take, drop}
 use mathlib.Core.List.{List, Memᴰ, []}
 use Rattle.algebra.specs.Trial.{All, Ascending, Distinct}
-use Rattle.algebra.specs.Polynomial.{eval, DividesBelow, fromRoots}
+use Rattle.algebra.specs.Polynomial.{eval, DividesBelow, from_roots}
 use Rattle.algebra.specs.Multiplicity.{IsMultiplicityBelow, multiplicity, spread, total}
-use Rattle.field.specs.Field.{rootsAt, multiplicitiesAt, G}
+use Rattle.field.specs.Field.{roots_at, multiplicities_at, G}
 use Rattle.input.specs.Limit.{limit}
-use Rattle.table_rules.specs.Demand.{stepsAt}
+use Rattle.table_rules.specs.Demand.{steps_at}
 use Rattle.find_solve.specs.Calls.{Solves}
 use Rattle.find_solve.specs.declared.Solved.{Solved}
 use Rattle.find_solve.specs.declared.Solved.TheVariants.{Found}
@@ -51,7 +51,7 @@ pub record MultiplicityList (m : ℕ) (f roots mults : List ℕ) : Type 0 where
   -- they add up to at most the degree n
   pub sum : (n : ℕ) → get_or f n 0 ≢ 0 → ((k : ℕ) → n < k → get_or f k 0 ≡ 0) → total mults ≤ n
   -- the product of (z + r)^e over the roots divides f, and the cofactor has no root
-  pub whole : DividesBelow (G m) (2 ^ m) (fromRoots (G m) (spread (multiplicity (G m) f) roots)) f
+  pub whole : DividesBelow (G m) (2 ^ m) (from_roots (G m) (spread (multiplicity (G m) f) roots)) f
   pub rest : (x : ℕ) → x < 2 ^ m → value_at m whole.quotient x ≢ 0
 
 pub record Holds (roots list after : List ℕ) : Type 0 where
@@ -59,16 +59,16 @@ pub record Holds (roots list after : List ℕ) : Type 0 where
   pub behind : drop (length roots) after ≡ drop (length roots) list
 
 pub record Demand2 (m c : ℕ) (f list mults : List ℕ) : Type 0 where
-  pub roots : RootList m f (rootsAt m f)
-  pub multiplicities : MultiplicityList m f (rootsAt m f) (multiplicitiesAt m f)
-  pub few : length (rootsAt m f) ≤ limit
+  pub roots : RootList m f (roots_at m f)
+  pub multiplicities : MultiplicityList m f (roots_at m f) (multiplicities_at m f)
+  pub few : length (roots_at m f) ≤ limit
   -- the trace engine: whatever the whole call's contract admits
   pub solve-gives : (r : Solved) (after beside : List ℕ) → Solves m c f list mults r after beside
-      → (r ≡ Found (length (rootsAt m f)) (stepsAt m c f)) × Holds (rootsAt m f) list after
-      × Holds (multiplicitiesAt m f) mults beside
+      → (r ≡ Found (length (roots_at m f)) (steps_at m c f)) × Holds (roots_at m f) list after
+      × Holds (multiplicities_at m f) mults beside
   -- the plain trial: whatever the search's contract admits
   pub search-gives : (r : Searched) (after beside : List ℕ) → Searches m f list mults r after beside
-      → (r ≡ Seen (length (rootsAt m f))) × Holds (rootsAt m f) list after × Holds (multiplicitiesAt m f) mults beside
+      → (r ≡ Seen (length (roots_at m f))) × Holds (roots_at m f) list after × Holds (multiplicities_at m f) mults beside
   -- they agree on both lists
   pub agree : (r : Solved) (s : Searched) (x y u v : List ℕ)
       → Solves m c f list mults r x u → Searches m f list mults s y v → (x ≡ y) × (u ≡ v)

@@ -4,8 +4,8 @@
 --   Demand2Affine   on an affine polynomial that the call accepts: whatever its contract admits
 -- Assumes nothing.
 use Rattle.std.specs.Prelude.{◌≡◌, List, [], ◌++◌, ◌⊎◌, ℕ, ◌^◌, ◌≤◌, length, replicate}
-use Rattle.field.specs.Field.{rootsAt}
-use Rattle.find_affine.specs.Affine.{value_at, affineRoots, dense}
+use Rattle.field.specs.Field.{roots_at}
+use Rattle.find_affine.specs.Affine.{value_at, affine_roots, dense}
 use Rattle.find_affine.specs.Calls.{Spans}
 use Rattle.find_affine.specs.declared.Spanned.{Spanned}
 use Rattle.find_affine.specs.declared.Spanned.TheVariants.{NoRoot, Space}
@@ -26,11 +26,11 @@ pub record ToldSpace (m : ℕ) (roots list : List ℕ) (r : Spanned) (after : Li
   pub memory : Holds roots list after
 
 pub record Demand2Affine (m : ℕ) (cs : List ℕ) (constant : ℕ) (list : List ℕ) : Type 0 where
-  pub roots : RootsBy m (value_at m cs constant) (affineRoots m cs constant)
+  pub roots : RootsBy m (value_at m cs constant) (affine_roots m cs constant)
   -- whatever the call's contract admits
   pub gives : (r : Spanned) (after : List ℕ) → Spans m cs constant list r after
-      → ToldNone m (affineRoots m cs constant) list r after ⊎ ToldSpace m (affineRoots m cs constant) list r after
+      → ToldNone m (affine_roots m cs constant) list r after ⊎ ToldSpace m (affine_roots m cs constant) list r after
   -- where the coefficients behind some are 0, the roots are those of a polynomial of a lower degree: within the limit
   -- those of the whole call and the search (demand 2)
   pub within : (low : List ℕ) (n : ℕ) → cs ≡ low ++ replicate n 0
-      → rootsAt m (dense low constant) ≡ affineRoots m cs constant
+      → roots_at m (dense low constant) ≡ affine_roots m cs constant

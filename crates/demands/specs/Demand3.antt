@@ -5,15 +5,15 @@
 --   After       a table is what so many calls of step leave of another, each admitted by the contract of step
 --   Followed    step and finish from a table under a limit, begun by a polynomial that begin accepts, at the cutoff c:
 --               whatever their contracts admit
---   storedBegun the table of 100 slots that begin left of a polynomial before the limit rose
+--   stored_begun the table of 100 slots that begin left of a polynomial before the limit rose
 -- Assumes nothing.
 use Rattle.std.specs.Prelude.{◌≡◌, List, ℕ, suc, ◌*◌, ◌/◌, ◌<◌, ◌≤◌, length}
 use Rattle.slices.specs.Lists.{copied}
-use Rattle.input.specs.Cutoff.{inForce}
+use Rattle.input.specs.Cutoff.{in_force}
 use Rattle.input.specs.Limit.{limit as highest}
-use Rattle.table_rules.specs.Sizes.{storedLimit}
-use Rattle.field.specs.Field.{rootsAt}
-use Rattle.table_rules.specs.Demand.{Demand3, groupsUnder, stepsAt}
+use Rattle.table_rules.specs.Sizes.{stored_limit}
+use Rattle.field.specs.Field.{roots_at}
+use Rattle.table_rules.specs.Demand.{Demand3, groups_under, steps_at}
 use Rattle.table_step.specs.Calls.{Steps}
 use Rattle.table_step.specs.declared.Stepped.{Stepped}
 use Rattle.table_step.specs.declared.Stepped.TheVariants.{Taken, Done}
@@ -30,31 +30,31 @@ pub data After (table : List ℕ) : ℕ → List ℕ → Type 0 where
   call : {n : ℕ} {t : List ℕ} (u : List ℕ) (r : Stepped) → After table n t → Steps t r u → After table (suc n) u
 
 -- by the groups of all roots: no step is taken yet
-abbrev pub storedBegun : ℕ → ℕ → List ℕ → List ℕ
-storedBegun m c f = groupsUnder storedLimit m (inForce c) f 0
+abbrev pub stored_begun : ℕ → ℕ → List ℕ → List ℕ
+stored_begun m c f = groups_under stored_limit m (in_force c) f 0
 
 -- begun is a table that begin leaves, or left when the limit was lower
 pub record Followed (limit m c : ℕ) (f begun : List ℕ) : Type 0 where
   -- what the groups do: each step parts the first group above the cutoff by its next trace bit, their order, their
   -- count, the bound
-  pub groups : Demand3 m (inForce c) (rootsAt m f)
+  pub groups : Demand3 m (in_force c) (roots_at m f)
   -- the table after each step is that of the groups
-  pub each : (n : ℕ) (t : List ℕ) → n ≤ stepsAt m c f → After begun n t → t ≡ groupsUnder limit m (inForce c) f n
+  pub each : (n : ℕ) (t : List ℕ) → n ≤ steps_at m c f → After begun n t → t ≡ groups_under limit m (in_force c) f n
   -- as many steps are taken as there are groups above the cutoff; then the answer is "done", and nothing is written
   -- any more
-  pub taken : (n : ℕ) (t u : List ℕ) (r : Stepped) → n < stepsAt m c f → After begun n t → Steps t r u → r ≡ Taken
-  pub done : (n : ℕ) (t u : List ℕ) (r : Stepped) → stepsAt m c f ≤ n → After begun n t → Steps t r u
+  pub taken : (n : ℕ) (t u : List ℕ) (r : Stepped) → n < steps_at m c f → After begun n t → Steps t r u → r ≡ Taken
+  pub done : (n : ℕ) (t u : List ℕ) (r : Stepped) → steps_at m c f ≤ n → After begun n t → Steps t r u
       → (r ≡ Done) × (u ≡ t)
-  pub still : (n : ℕ) (t : List ℕ) → stepsAt m c f ≤ n → After begun n t
-      → t ≡ groupsUnder limit m (inForce c) f (stepsAt m c f)
+  pub still : (n : ℕ) (t : List ℕ) → steps_at m c f ≤ n → After begun n t
+      → t ≡ groups_under limit m (in_force c) f (steps_at m c f)
   -- never more than the bound
-  pub bound : stepsAt m c f ≤ m * (length (rootsAt m f) / suc (inForce c))
+  pub bound : steps_at m c f ≤ m * (length (roots_at m f) / suc (in_force c))
   -- finish lists the roots, and the whole call gives the roots and steps of begin, steps until done, finish
-  pub finish-gives : (t list : List ℕ) (r : Finished) (after : List ℕ) → After begun (stepsAt m c f) t
+  pub finish-gives : (t list : List ℕ) (r : Finished) (after : List ℕ) → After begun (steps_at m c f) t
       → highest ≤ length list
-      → Finishes t list r after → (r ≡ Listed (length (rootsAt m f))) × (after ≡ copied (rootsAt m f) list)
+      → Finishes t list r after → (r ≡ Listed (length (roots_at m f))) × (after ≡ copied (roots_at m f) list)
   pub whole-gives : (t list mults : List ℕ) (r : Finished) (s : Solved) (x y u : List ℕ)
-      → After begun (stepsAt m c f) t
+      → After begun (steps_at m c f) t
       → highest ≤ length list → highest ≤ length mults
       → Finishes t list r x → Solves m c f list mults s y u
-      → (s ≡ Found (length (rootsAt m f)) (stepsAt m c f)) × (y ≡ x)
+      → (s ≡ Found (length (roots_at m f)) (steps_at m c f)) × (y ≡ x)

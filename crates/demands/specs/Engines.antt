@@ -3,10 +3,10 @@
 --   Engines   on a polynomial that the whole call accepts, at the cutoff c
 -- Assumes nothing.
 use Rattle.std.specs.Prelude.{◌≡◌, List, ℕ, ◌≤◌, length}
-use Rattle.field.specs.Field.{rootsAt}
+use Rattle.field.specs.Field.{roots_at}
 use Rattle.input.specs.Limit.{limit}
 use Rattle.input.specs.Polynomials.{PolynomialIn}
-use Rattle.table_rules.specs.Demand.{stepsAt}
+use Rattle.table_rules.specs.Demand.{steps_at}
 use Rattle.find_solve.specs.Calls.{Solves}
 use Rattle.find_solve.specs.declared.Solved.{Solved}
 use Rattle.find_solve.specs.declared.Solved.TheVariants.{Found}
@@ -20,8 +20,8 @@ pub record Engines (m c : ℕ) (f list mults : List ℕ) : Type 0 where
   -- what successive resultants ask (find_resultants `find_in`) holds
   pub asked : PolynomialIn m f × (limit ≤ length list)
   -- successive resultants: whatever that contract admits
-  pub resultants-give : (k : ℕ) (after : List ℕ) → SearchedOut m f list k after → (k ≡ length (rootsAt m f)) × Holds (rootsAt m f) list after
+  pub resultants-give : (k : ℕ) (after : List ℕ) → SearchedOut m f list k after → (k ≡ length (roots_at m f)) × Holds (roots_at m f) list after
   -- all three tell the same number of roots, and leave the same list
   pub agree : (r : Solved) (s : Searched) (k : ℕ) (x y z u v : List ℕ)
       → Solves m c f list mults r x u → Searches m f list mults s y v → SearchedOut m f list k z
-      → (r ≡ Found k (stepsAt m c f)) × (s ≡ Seen k) × (x ≡ y) × (y ≡ z)
+      → (r ≡ Found k (steps_at m c f)) × (s ≡ Seen k) × (x ≡ y) × (y ≡ z)

@@ -4,10 +4,10 @@
 use Rattle.std.specs.Prelude.{◌≡◌, true, false, List, [], ◌∷◌, ◌↔◌, ℕ, ◌+◌, ◌≤◌, length, take, drop}
 use Rattle.refusals.specs.Order.{Passed}
 use Rattle.slices.specs.Lists.{copied}
-use Rattle.job_records.specs.Layout.{recordLength}
-use Rattle.job_records.specs.Reading.{startTests, recordTests}
-use Rattle.job_records.specs.Files.{joinedFile}
-use Rattle.job_salvage.specs.Pieces.{keeps, frontRecord, Piece, pieces, bytes_of, keptRecords}
+use Rattle.job_records.specs.Layout.{record_length}
+use Rattle.job_records.specs.Reading.{start_tests, record_tests}
+use Rattle.job_records.specs.Files.{joined_file}
+use Rattle.job_salvage.specs.Pieces.{keeps, front_record, Piece, pieces, bytes_of, kept_records}
 use Rattle.job_salvage.specs.Pieces.{stretches, total, AllAcceptable}
 use Rattle.job_salvage.specs.Calls.{Salvages}
 use Rattle.job_salvage.specs.declared.Salvaged.{Salvaged}
@@ -16,24 +16,24 @@ use Rattle.job_salvage.specs.declared.Salvaged.TheVariants.{Kept}
 pub record Salvage : Type 0 where
   -- a record is kept exactly where its mark is, it is complete, and the whole call would not refuse its field,
   -- coefficients or cutoff
-  pub exactly : (bytes : List ℕ) → (keeps bytes ≡ true) ↔ (Passed (startTests bytes) × Passed (recordTests bytes))
+  pub exactly : (bytes : List ℕ) → (keeps bytes ≡ true) ↔ (Passed (start_tests bytes) × Passed (record_tests bytes))
   -- behind a kept record it goes on; else one byte is dropped
   pub on : (bytes : List ℕ) → keeps bytes ≡ true
-      → pieces bytes ≡ Piece.kept (frontRecord bytes) ∷ pieces (drop (recordLength bytes) bytes)
+      → pieces bytes ≡ Piece.kept (front_record bytes) ∷ pieces (drop (record_length bytes) bytes)
   pub off : (b : ℕ) (bs : List ℕ) → keeps (b ∷ bs) ≡ false → pieces (b ∷ bs) ≡ Piece.dropped b ∷ pieces bs
   -- the pieces, one after the other, are the file
   pub whole : (file : List ℕ) → bytes_of (pieces file) ≡ file
   -- the records kept stand at the front of the room, unaltered and in order; nothing is written behind them
   pub front : (file room after : List ℕ) (records bytes : ℕ) → Salvages file room (Kept records bytes) after
-      → (take bytes after ≡ joinedFile (keptRecords file)) × (drop bytes after ≡ drop bytes room)
+      → (take bytes after ≡ joined_file (kept_records file)) × (drop bytes after ≡ drop bytes room)
   -- the lengths of what is kept and what is dropped add up to that of the file
   pub lengths : (file room after : List ℕ) (records bytes : ℕ) → Salvages file room (Kept records bytes) after
       → bytes + total (stretches file) ≡ length file
   -- a file of acceptable records comes back unchanged, and nothing of it is dropped
   pub back : (rs : List (List ℕ)) (room after : List ℕ) (r : Salvaged) → AllAcceptable rs
-      → length (joinedFile rs) ≤ length room → Salvages (joinedFile rs) room r after
-      → (r ≡ Kept (length rs) (length (joinedFile rs))) × (after ≡ copied (joinedFile rs) room)
-  pub all : (rs : List (List ℕ)) → AllAcceptable rs → stretches (joinedFile rs) ≡ []
+      → length (joined_file rs) ≤ length room → Salvages (joined_file rs) room r after
+      → (r ≡ Kept (length rs) (length (joined_file rs))) × (after ≡ copied (joined_file rs) room)
+  pub all : (rs : List (List ℕ)) → AllAcceptable rs → stretches (joined_file rs) ≡ []
   -- salvaging what was kept changes nothing
   pub again : (file room after : List ℕ) (records bytes : ℕ) (room' after' : List ℕ) (r : Salvaged)
       → Salvages file room (Kept records bytes) after → bytes ≤ length room'

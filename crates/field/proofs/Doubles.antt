@@ -10,7 +10,7 @@ use Rattle.algebra.specs.Field.{OnNumbers}
 use Rattle.algebra.specs.Multiplicity.{multiplicity}
 use Rattle.algebra.proofs.NumberMultiplicity.{roots-simple, square-double}
 use Rattle.field.specs.Field.{Field, size, mul, numbers}
-use Rattle.field.specs.Quadratics.{rootsOfQuadratic, SolvesQuadratic}
+use Rattle.field.specs.Quadratics.{roots_of_quadratic, SolvesQuadratic}
 use Rattle.field.specs.declared.solver.Quadratic.{Quadratic}
 use Rattle.field.specs.declared.solver.Quadratic.TheVariants.{NoRoot, Double, Two}
 use Rattle.field.proofs.Generator.{Generated, one_below}
@@ -22,19 +22,19 @@ module _ (F : Field) (gen : Generated F) where
   times : ℕ → ℕ → ℕ → ℕ
   times a b x = multiplicity (numbers F) (b ∷ a ∷ 1 ∷ []) x
 
-  pub solved-none : {a b : ℕ} → rootsOfQuadratic F a b ≡ [] → SolvesQuadratic F a b NoRoot
+  pub solved-none : {a b : ℕ} → roots_of_quadratic F a b ≡ [] → SolvesQuadratic F a b NoRoot
   solved-none {a} {b} e = record { roots = sym e; times = sym (ap (map (multiplicity (numbers F) (b ∷ a ∷ 1 ∷ []))) e) }
 
   -- the square root
   pub solved-double : {a b s : ℕ} → a ≡ 0 → b < size F → s < size F → mul F s s ≡ b → SolvesQuadratic F a b (Double s)
   unfolding times
   solved-double {a} {b} {s} z hb hs e =
-      let one : rootsOfQuadratic F a b ≡ s ∷ [] = one-root F gen z hb hs e in
+      let one : roots_of_quadratic F a b ≡ s ∷ [] = one-root F gen z hb hs e in
       let two : times a b s ≡ 2 = ap (λ c. times c b s) z ∙ square-double (on-numbers F gen) s b hs hb e in
       record { roots = sym one; times = sym (ap (map (times a b)) one ∙ ap (λ n. n ∷ []) two) }
 
   -- as many as the degree
-  pub solved-two : {a b x y : ℕ} → a < size F → b < size F → rootsOfQuadratic F a b ≡ x ∷ y ∷ [] → SolvesQuadratic F a b (Two x y)
+  pub solved-two : {a b x y : ℕ} → a < size F → b < size F → roots_of_quadratic F a b ≡ x ∷ y ∷ [] → SolvesQuadratic F a b (Two x y)
   solved-two {a} {b} {x} {y} ha hb e = record {
     roots = sym e;
     times = sym (roots-simple (on-numbers F gen) (b ∷ a ∷ 1 ∷ []) (hb, (ha, (one_below F gen, tt))) 2 (omega arith)

@@ -1,7 +1,7 @@
 -- The powers of 2 run through every nonzero element, each once in 2^m - 1 steps. So each nonzero element has an
 -- inverse, and a product is 0 only where a factor is. What a field must pass for this is one test that antt computes:
 -- 2, 4, 8, .. come to 1 first at the power 2^m - 1.
---   firstOne        x, 2x, 4x, .. are not 1 for n steps, and 1 at the next
+--   first_one        x, 2x, 4x, .. are not 1 for n steps, and 1 at the next
 --   Generated       what antt computes of a field: its polynomial has its degree, and 2 comes to 1 first at the power
 --                   2^m - 1
 --   power-order     2^(2^m - 1) is 1;  power-full  so is each x^(2^m - 1) but 0's;  power_size  x^(2^m) is x
@@ -23,26 +23,26 @@ use native.Mathlib.Omega.{arith}
 use lib.Dec.{T, T_not, eqb, eqb→eq, eqb_refl, lit<, lit≤}
 use lib.Pow.{pow_pos}
 use Rattle.algebra.specs.Field.{power}
-use Rattle.algebra.specs.Trial.{firstFrom}
+use Rattle.algebra.specs.Trial.{first_from}
 use Rattle.algebra.proofs.Trial.{first-only}
 use Rattle.field.specs.Rows.{ListedRow}
 use Rattle.field.proofs.Known.{by_row}
 use Rattle.field.specs.Field.{cut, Field, size, order, mul, numbers, inverse, position, field_of}
-use Rattle.field.proofs.Table.{bothTrue, bothTrue-left, bothTrue-right}
+use Rattle.field.proofs.Table.{both_true, both_true-left, both_true-right}
 use Rattle.field.proofs.Pigeonhole.{onto}
 use Rattle.field.proofs.Ring.{ring, FullDegree, power-lt, power-add, power-of-power}
 
 -- x, 2x, 4x, .. are not 1 for n steps, and 1 at the next
-unfoldable pub firstOne : Field → ℕ → ℕ → Bool
+unfoldable pub first_one : Field → ℕ → ℕ → Bool
 unfolding cut
-firstOne F zero x = eqb x 1
-firstOne F (suc n) x = bothTrue (not (eqb x 1)) (firstOne F n (cut F (x * 2)))
+first_one F zero x = eqb x 1
+first_one F (suc n) x = both_true (not (eqb x 1)) (first_one F n (cut F (x * 2)))
 
 -- what antt computes of a field: its polynomial has its degree, and 2, 4, 8, .. come to 1 first at the power 2^m - 1
 pub record Generated (F : Field) : Type 0 where
   pub monic : FullDegree F
   pub two : 2 < size F
-  pub cycle : T (firstOne F (size F - 2) 2)
+  pub cycle : T (first_one F (size F - 2) 2)
 
 module _ (F : Field) (gen : Generated F) where
   open ring F gen.monic use {mul_comm, mul_assoc, mul-zero-l, mul-zero-r, mul-one-l, mul-one-r, mul-two}
@@ -63,22 +63,22 @@ module _ (F : Field) (gen : Generated F) where
       here zero hk e = h (ap (power (numbers F) 2) (sym (add-zero i)) ∙ e)
       here (suc k) hk e = r.0 k (omega arith) (ap (power (numbers F) 2) (suc-add i k ∙ sym (add-suc i k)) ∙ e)
 
-  walk : (n i : ℕ) → T (firstOne F n (power (numbers F) 2 i)) → FirstOne n i
-  unfolding firstOne FirstOne power
+  walk : (n i : ℕ) → T (first_one F n (power (numbers F) 2 i)) → FirstOne n i
+  unfolding first_one FirstOne power
   walk zero i t = (λ k h. absurd (not-suc-le-zero h), ap (power (numbers F) 2) (add-zero i) ∙ eqb→eq (power (numbers F) 2 i) 1 t)
   walk (suc n) i t =
       step n i
-      (λ e. T_not (eqb (power (numbers F) 2 i) 1) (bothTrue-left (not (eqb (power (numbers F) 2 i) 1)) (firstOne F n next) t) (subst (λ (x : ℕ). T (eqb x 1)) (sym e) tt))
+      (λ e. T_not (eqb (power (numbers F) 2 i) 1) (both_true-left (not (eqb (power (numbers F) 2 i) 1)) (first_one F n next) t) (subst (λ (x : ℕ). T (eqb x 1)) (sym e) tt))
       (walk n (suc i)
-      (subst (λ (x : ℕ). T (firstOne F n x)) (sym (mul-two (power (numbers F) 2 i) (power-lt F gen.monic one_below 2 i)))
-      (bothTrue-right (not (eqb (power (numbers F) 2 i) 1)) (firstOne F n next) t)))
+      (subst (λ (x : ℕ). T (first_one F n x)) (sym (mul-two (power (numbers F) 2 i) (power-lt F gen.monic one_below 2 i)))
+      (both_true-right (not (eqb (power (numbers F) 2 i) 1)) (first_one F n next) t)))
     where
       next : ℕ
       next = cut F (power (numbers F) 2 i * 2)
 
   cycle : FirstOne (size F - 2) 1
   unfolding power
-  cycle = walk (size F - 2) 1 (subst (λ (x : ℕ). T (firstOne F (size F - 2) x)) (sym (mul-one-r 2 gen.two)) gen.cycle)
+  cycle = walk (size F - 2) 1 (subst (λ (x : ℕ). T (first_one F (size F - 2) x)) (sym (mul-one-r 2 gen.two)) gen.cycle)
 
   pub power-order : power (numbers F) 2 (order F) ≡ 1
   unfolding FirstOne
@@ -171,7 +171,7 @@ module _ (F : Field) (gen : Generated F) where
 
   pub inverse-lt : (x : ℕ) → inverse F x < size F
   unfolding inverse
-  inverse-lt x = mod-lt (firstFrom (λ y. eqb (mul F x y) 1) 0 (size F)) (pow_pos F.degree)
+  inverse-lt x = mod-lt (first_from (λ y. eqb (mul F x y) 1) 0 (size F)) (pow_pos F.degree)
 
   -- the inverse is the one element with x y = 1
   pub inverse-only : (x y : ℕ) → 0 < x → x < size F → y < size F → mul F x y ≡ 1 → inverse F x ≡ y
@@ -224,15 +224,15 @@ module _ (F : Field) (gen : Generated F) where
 
 -- each known field passes the test
 generated4 : Generated (field_of 4 19)
-unfolding firstOne
+unfolding first_one
 generated4 = record { monic = refl; two = lit< tt; cycle = tt }
 
 generated8 : Generated (field_of 8 285)
-unfolding firstOne
+unfolding first_one
 generated8 = record { monic = refl; two = lit< tt; cycle = tt }
 
 generated11 : Generated (field_of 11 2053)
-unfolding firstOne
+unfolding first_one
 generated11 = record { monic = refl; two = lit< tt; cycle = tt }
 
 pub generated : {m p : ℕ} → ListedRow m p → Generated (field_of m p)

@@ -1,8 +1,8 @@
 -- The quadratic table's rule, for any field: one test over the table, and the law that turns it into the rule at each
 -- entry. The test goes by the values of j^2 + j and of the trace at 1, 2, 4, .. alone.
 --   quad            j^2 + j;  quad-xor  it is additive
---   entryIf, entry  whether j may stand at i, by the values of j^2 + j and of the trace at 1, 2, 4, ..
---   halfRoots       the test of a whole table: as many entries as elements, and each is right
+--   entry_if, entry  whether j may stand at i, by the values of j^2 + j and of the trace at 1, 2, 4, ..
+--   half_roots       the test of a whole table: as many entries as elements, and each is right
 --   half-root-at    where the test passes, the rule holds at each entry;  halves-hold  the list is the quadratic table
 -- Assumes nothing.
 use mathlib.Core.Path.{◌≡◌, refl, sym, ap, ◌∙◌, subst}
@@ -16,9 +16,9 @@ use lib.ListN.{length, get_or}
 use Rattle.algebra.specs.Field.{trace}
 use Rattle.field.specs.Field.{Field, size, mul, Tr}
 use Rattle.field.specs.Tables.{HalfRoot, Halves}
-use Rattle.field.proofs.Table.{bothTrue, bothTrue-left, bothTrue-right, everyFrom, everyFrom-at}
+use Rattle.field.proofs.Table.{both_true, both_true-left, both_true-right, every_from, every_from-at}
 use Rattle.field.proofs.Xor.{xor-swap}
-use Rattle.field.proofs.Additive.{Additive, linearMap, basis, by-basis}
+use Rattle.field.proofs.Additive.{Additive, linear_map, basis, by-basis}
 use Rattle.field.proofs.Ring.{square-xor}
 use Rattle.field.proofs.Generator.{Generated}
 use Rattle.field.proofs.Trace.{trace-xor}
@@ -30,19 +30,19 @@ quad F j = bit_xor (mul F j j) j
 
 -- whether j may stand at i, by the values `qs` of j^2 + j and `ts` of the trace at 1, 2, 4, .. ; the first argument
 -- says whether j is 65535
-unfoldable pub entryIf : Bool → ℕ → List ℕ → List ℕ → ℕ → ℕ → Bool
-unfolding linearMap
-entryIf true n qs ts i j = eqb (linearMap ts i) 1
-entryIf false n qs ts i j = bothTrue (ltb j n) (bothTrue (eqb (j % 2) 0) (eqb (linearMap qs j) i))
+unfoldable pub entry_if : Bool → ℕ → List ℕ → List ℕ → ℕ → ℕ → Bool
+unfolding linear_map
+entry_if true n qs ts i j = eqb (linear_map ts i) 1
+entry_if false n qs ts i j = both_true (ltb j n) (both_true (eqb (j % 2) 0) (eqb (linear_map qs j) i))
 
 unfoldable pub entry : ℕ → List ℕ → List ℕ → ℕ → ℕ → Bool
-unfolding entryIf
-entry n qs ts i j = entryIf (eqb j 65535) n qs ts i j
+unfolding entry_if
+entry n qs ts i j = entry_if (eqb j 65535) n qs ts i j
 
 -- the test of a whole table: as many entries as elements, and each is right
-unfoldable pub halfRoots : Field → List ℕ → Bool
+unfoldable pub half_roots : Field → List ℕ → Bool
 unfolding entry basis quad trace
-halfRoots F xs = bothTrue (eqb (length xs) (size F)) (everyFrom (entry (size F) (basis (quad F) F.degree) (basis (Tr F) F.degree)) 0 xs)
+half_roots F xs = both_true (eqb (length xs) (size F)) (every_from (entry (size F) (basis (quad F) F.degree) (basis (Tr F) F.degree)) 0 xs)
 
 module _ (F : Field) (gen : Generated F) where
   pub quad-xor : Additive (quad F)
@@ -59,36 +59,36 @@ module _ (F : Field) (gen : Generated F) where
   unfolding entry quad qs ts
   entry-right i j hi = go (eqb j 65535) refl
     where
-      go : (b : Bool) → eqb j 65535 ≡ b → T (entryIf b (size F) qs ts i j) → HalfRoot F i j
+      go : (b : Bool) → eqb j 65535 ≡ b → T (entry_if b (size F) qs ts i j) → HalfRoot F i j
       go true e t =
-          inl (by-basis F.degree (Tr F) (trace-xor F gen) i hi ∙ eqb→eq (linearMap ts i) 1 t, eqb→eq j 65535 (subst T (sym e) tt))
+          inl (by-basis F.degree (Tr F) (trace-xor F gen) i hi ∙ eqb→eq (linear_map ts i) 1 t, eqb→eq j 65535 (subst T (sym e) tt))
       go false e t = inr (below, even, root)
         where
           below : j < size F
-          below = ltb→lt j (size F) (bothTrue-left (ltb j (size F)) (bothTrue (eqb (j % 2) 0) (eqb (linearMap qs j) i)) t)
+          below = ltb→lt j (size F) (both_true-left (ltb j (size F)) (both_true (eqb (j % 2) 0) (eqb (linear_map qs j) i)) t)
 
-          rest : T (bothTrue (eqb (j % 2) 0) (eqb (linearMap qs j) i))
-          rest = bothTrue-right (ltb j (size F)) (bothTrue (eqb (j % 2) 0) (eqb (linearMap qs j) i)) t
+          rest : T (both_true (eqb (j % 2) 0) (eqb (linear_map qs j) i))
+          rest = both_true-right (ltb j (size F)) (both_true (eqb (j % 2) 0) (eqb (linear_map qs j) i)) t
 
           even : j % 2 ≡ 0
-          even = eqb→eq (j % 2) 0 (bothTrue-left (eqb (j % 2) 0) (eqb (linearMap qs j) i) rest)
+          even = eqb→eq (j % 2) 0 (both_true-left (eqb (j % 2) 0) (eqb (linear_map qs j) i) rest)
 
           root : bit_xor (mul F j j) j ≡ i
           root =
               by-basis F.degree (quad F) quad-xor j below
-              ∙ eqb→eq (linearMap qs j) i (bothTrue-right (eqb (j % 2) 0) (eqb (linearMap qs j) i) rest)
+              ∙ eqb→eq (linear_map qs j) i (both_true-right (eqb (j % 2) 0) (eqb (linear_map qs j) i) rest)
 
   -- the rule at each entry
-  pub half-root-at : (xs : List ℕ) → T (halfRoots F xs) → (i : ℕ) → i < size F → HalfRoot F i (get_or xs i 0)
-  unfolding halfRoots qs ts
+  pub half-root-at : (xs : List ℕ) → T (half_roots F xs) → (i : ℕ) → i < size F → HalfRoot F i (get_or xs i 0)
+  unfolding half_roots qs ts
   half-root-at xs t i hi =
-      entry-right i (get_or xs i 0) hi (everyFrom-at (entry (size F) qs ts) xs (bothTrue-right (eqb (length xs) (size F)) (everyFrom (entry (size F) qs ts) 0 xs) t) i
-      (subst (λ (n : ℕ). i < n) (sym (eqb→eq (length xs) (size F) (bothTrue-left (eqb (length xs) (size F)) (everyFrom (entry (size F) qs ts) 0 xs) t))) hi))
+      entry-right i (get_or xs i 0) hi (every_from-at (entry (size F) qs ts) xs (both_true-right (eqb (length xs) (size F)) (every_from (entry (size F) qs ts) 0 xs) t) i
+      (subst (λ (n : ℕ). i < n) (sym (eqb→eq (length xs) (size F) (both_true-left (eqb (length xs) (size F)) (every_from (entry (size F) qs ts) 0 xs) t))) hi))
 
-  pub halves-hold : (xs : List ℕ) → T (halfRoots F xs) → Halves F xs
-  unfolding halfRoots qs ts
+  pub halves-hold : (xs : List ℕ) → T (half_roots F xs) → Halves F xs
+  unfolding half_roots qs ts
   halves-hold xs t =
       record {
-        entries = eqb→eq (length xs) (size F) (bothTrue-left (eqb (length xs) (size F)) (everyFrom (entry (size F) qs ts) 0 xs) t);
+        entries = eqb→eq (length xs) (size F) (both_true-left (eqb (length xs) (size F)) (every_from (entry (size F) qs ts) 0 xs) t);
         entry = λ i l. half-root-at xs t i l;
       }

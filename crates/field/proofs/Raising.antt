@@ -5,7 +5,7 @@
 --                     element, reduced, is one
 --   Mapping           the sum up to i;  mapping-from, mapping-on, mapping-end  its loop
 --   Raising           the turns that are left;  raising-from, raising-on, raising-end  their loop
---   raised-back       m turns bring an element back;  raisedBy-lt  turns leave elements
+--   raised-back       m turns bring an element back;  raised_by-lt  turns leave elements
 --   raised-squared    what m - 1 turns leave, times c, is the square root
 --   raised-root       where c is 1, the square root;  raised-inverse  from 1 on, the inverse
 -- Assumes nothing.
@@ -21,7 +21,7 @@ use lib.ListN.{length, get_or, set, drop, length-set, drop_of_length-le}
 use lib.Seq.{get_or-set_same, get_or-set_other, drop-cons}
 use Rattle.algebra.specs.Field.{power, squared}
 use Rattle.field.specs.Field.{cut, Field, size, mul, numbers, inverse}
-use Rattle.field.specs.Powers.{turned, raisedBy, linearMap, Squares}
+use Rattle.field.specs.Powers.{turned, raised_by, linear_map, Squares}
 use Rattle.field.proofs.Xor.{xor_assoc, xor-equal}
 use Rattle.field.proofs.Ring.{ring}
 use Rattle.field.proofs.Additive.{Additive, by_row}
@@ -41,7 +41,7 @@ pub record SquaresTo (F : Field) (c : ℕ) (row : List ℕ) (y i : ℕ) : Type 0
 pub record Raising (F : Field) (c x y left : ℕ) : Type 0 where
   pub some : 0 < left
   pub y-lt : y < size F
-  pub ahead : raisedBy F c (left - 1) y ≡ raisedBy F c (F.degree - 1) x
+  pub ahead : raised_by F c (left - 1) y ≡ raised_by F c (F.degree - 1) x
 
 module _ (F : Field) (gen : Generated F) where
   open ring F gen.monic use {mul_comm, mul_assoc, mul-xor-r, mul-one-l, mul-one-r, mul-lt, mul-two, mul-swap, square-xor}
@@ -55,7 +55,7 @@ module _ (F : Field) (gen : Generated F) where
   unfolding turned
   turned-additive c x y = ap (λ (t : ℕ). mul F t t) (mul-xor-r c x y) ∙ square-xor (mul F c x) (mul F c y)
 
-  pub turned-row : {c : ℕ} {row : List ℕ} → Squares F c row → (x : ℕ) → x < size F → linearMap row x ≡ turned F c x
+  pub turned-row : {c : ℕ} {row : List ℕ} → Squares F c row → (x : ℕ) → x < size F → linear_map row x ≡ turned F c x
   turned-row {c} {row} s = by_row F.degree (turned F c) (turned-additive c) row s.entry
 
   -- the entry behind is four times an entry
@@ -107,32 +107,32 @@ module _ (F : Field) (gen : Generated F) where
   pub raising-from : {c x : ℕ} → 0 < F.degree → x < size F → Raising F c x x F.degree
   raising-from p h = record { some = p; y-lt = h; ahead = refl }
 
-  pub raising-on : {c x y v left : ℕ} {row : List ℕ} → Squares F c row → Raising F c x y left → 1 < left → v ≡ linearMap row y
+  pub raising-on : {c x y v left : ℕ} {row : List ℕ} → Squares F c row → Raising F c x y left → 1 < left → v ≡ linear_map row y
       → Raising F c x v (left - 1)
-  unfolding raisedBy
+  unfolding raised_by
   raising-on {c} {x} {y} {v} {left} s r h e =
       record {
         some = omega arith;
         y-lt = subst (λ (t : ℕ). t < size F) (sym turn) (turned_lt c y);
-        ahead = ap (raisedBy F c (left - 1 - 1)) turn ∙ ap (λ (n : ℕ). raisedBy F c n y) (let q : suc (left - 1 - 1) ≡ left - 1 = omega arith in q) ∙ r.ahead;
+        ahead = ap (raised_by F c (left - 1 - 1)) turn ∙ ap (λ (n : ℕ). raised_by F c n y) (let q : suc (left - 1 - 1) ≡ left - 1 = omega arith in q) ∙ r.ahead;
       }
     where
       turn : v ≡ turned F c y
       turn = e ∙ turned-row s y r.y-lt
 
-  pub raising-end : {c x y left : ℕ} → Raising F c x y left → left ≤ 1 → y ≡ raisedBy F c (F.degree - 1) x
-  unfolding raisedBy
-  raising-end {c} {x} {y} {left} r h = ap (λ (n : ℕ). raisedBy F c n y) (let q : 0 ≡ left - 1 = omega arith in q) ∙ r.ahead
+  pub raising-end : {c x y left : ℕ} → Raising F c x y left → left ≤ 1 → y ≡ raised_by F c (F.degree - 1) x
+  unfolding raised_by
+  raising-end {c} {x} {y} {left} r h = ap (λ (n : ℕ). raised_by F c n y) (let q : 0 ≡ left - 1 = omega arith in q) ∙ r.ahead
 
   -- ---- what the turns come to
-  pub raisedBy-lt : (c n x : ℕ) → x < size F → raisedBy F c n x < size F
-  unfolding raisedBy
-  raisedBy-lt c zero x h = h
-  raisedBy-lt c (suc n) x h = raisedBy-lt c n (turned F c x) (turned_lt c x)
+  pub raised_by-lt : (c n x : ℕ) → x < size F → raised_by F c n x < size F
+  unfolding raised_by
+  raised_by-lt c zero x h = h
+  raised_by-lt c (suc n) x h = raised_by-lt c n (turned F c x) (turned_lt c x)
 
   -- one turn more, at either end
-  raised-last : (c n x : ℕ) → raisedBy F c (suc n) x ≡ turned F c (raisedBy F c n x)
-  unfolding raisedBy
+  raised-last : (c n x : ℕ) → raised_by F c (suc n) x ≡ turned F c (raised_by F c n x)
+  unfolding raised_by
   raised-last c zero x = refl
   raised-last c (suc n) x = raised-last c n (turned F c x)
 
@@ -158,16 +158,16 @@ module _ (F : Field) (gen : Generated F) where
             sym (mul_assoc c k y)
             ∙ ap (λ (t : ℕ). mul F t y) (sym (mul_assoc c v v) ∙ ap (λ (t : ℕ). mul F t v) unit ∙ mul-one-l v (inverse-lt F gen c))
 
-    raised-scaled : (n y : ℕ) → raisedBy F c n (mul F k y) ≡ mul F k (squared (numbers F) n y)
-    unfolding raisedBy squared
+    raised-scaled : (n y : ℕ) → raised_by F c n (mul F k y) ≡ mul F k (squared (numbers F) n y)
+    unfolding raised_by squared
     raised-scaled zero y = refl
-    raised-scaled (suc n) y = ap (raisedBy F c n) (turned-scaled y) ∙ raised-scaled n (mul F y y)
+    raised-scaled (suc n) y = ap (raised_by F c n) (turned-scaled y) ∙ raised-scaled n (mul F y y)
 
     -- m turns bring an element back
-    pub raised-back : (x : ℕ) → x < size F → raisedBy F c F.degree x ≡ x
+    pub raised-back : (x : ℕ) → x < size F → raised_by F c F.degree x ≡ x
     unfolding k
     raised-back x h =
-        ap (raisedBy F c F.degree) (sym back) ∙ raised-scaled F.degree y
+        ap (raised_by F c F.degree) (sym back) ∙ raised-scaled F.degree y
         ∙ ap (mul F k) (squared-size F gen y (mul-lt (mul F c c) x)) ∙ back
       where
         y : ℕ
@@ -180,17 +180,17 @@ module _ (F : Field) (gen : Generated F) where
             ∙ mul-one-l x h
 
     -- what m - 1 turns leave, times c, is the square root
-    pub raised-squared : 0 < F.degree → (x : ℕ) → x < size F → turned F c (raisedBy F c (F.degree - 1) x) ≡ x
+    pub raised-squared : 0 < F.degree → (x : ℕ) → x < size F → turned F c (raised_by F c (F.degree - 1) x) ≡ x
     raised-squared p x h =
-        sym (raised-last c (F.degree - 1) x) ∙ ap (λ (n : ℕ). raisedBy F c n x) (let q : suc (F.degree - 1) ≡ F.degree = omega arith in q) ∙ raised-back x h
+        sym (raised-last c (F.degree - 1) x) ∙ ap (λ (n : ℕ). raised_by F c n x) (let q : suc (F.degree - 1) ≡ F.degree = omega arith in q) ∙ raised-back x h
 
     -- from 1 on, the inverse
-    pub raised-inverse : 0 < F.degree → raisedBy F c (F.degree - 1) 1 ≡ inverse F c
+    pub raised-inverse : 0 < F.degree → raised_by F c (F.degree - 1) 1 ≡ inverse F c
     unfolding turned
-    raised-inverse p = sym (inverse-only F gen c r pos lt (raisedBy-lt c (F.degree - 1) 1 (one_below F gen)) (xor-equal root))
+    raised-inverse p = sym (inverse-only F gen c r pos lt (raised_by-lt c (F.degree - 1) 1 (one_below F gen)) (xor-equal root))
       where
         r : ℕ
-        r = raisedBy F c (F.degree - 1) 1
+        r = raised_by F c (F.degree - 1) 1
 
         -- (cr + 1)^2 = 0
         root : bit_xor (mul F c r) 1 ≡ 0
@@ -202,30 +202,30 @@ module _ (F : Field) (gen : Generated F) where
 
   -- where c is 1, the square root
   pub raised-root : 0 < F.degree → (b : ℕ) → b < size F
-      → (raisedBy F 1 (F.degree - 1) b < size F) × (mul F (raisedBy F 1 (F.degree - 1) b) (raisedBy F 1 (F.degree - 1) b) ≡ b)
+      → (raised_by F 1 (F.degree - 1) b < size F) × (mul F (raised_by F 1 (F.degree - 1) b) (raised_by F 1 (F.degree - 1) b) ≡ b)
   unfolding turned
   raised-root p b h =
-      let l = raisedBy-lt 1 (F.degree - 1) b h in (
+      let l = raised_by-lt 1 (F.degree - 1) b h in (
         l,
-        ap (λ (t : ℕ). mul F t t) (sym (mul-one-l (raisedBy F 1 (F.degree - 1) b) l)) ∙ raised-squared 1 (omega arith) (one_below F gen) p b h,
+        ap (λ (t : ℕ). mul F t t) (sym (mul-one-l (raised_by F 1 (F.degree - 1) b) l)) ∙ raised-squared 1 (omega arith) (one_below F gen) p b h,
       )
 
 -- ---- the sum over a row, digit by digit
 pub record Mapping (row : List ℕ) (x sum rest i : ℕ) : Type 0 where
   pub within : i ≤ length row
-  pub total : bit_xor sum (linearMap (drop i row) rest) ≡ linearMap row x
+  pub total : bit_xor sum (linear_map (drop i row) rest) ≡ linear_map row x
 
 pub mapping-from : (row : List ℕ) (x : ℕ) → Mapping row x 0 x 0
 mapping-from row x = record { within = omega arith; total = refl }
 
 pub mapping-on : {row : List ℕ} {x sum s rest i : ℕ} → Mapping row x sum rest i → i < length row
     → ((rest % 2 ≡ 1) × (s ≡ bit_xor sum (get_or row i 0))) ⊎ ((rest % 2 ≢ 1) × (s ≡ sum)) → Mapping row x s (rest / 2) (i + 1)
-unfolding linearMap
+unfolding linear_map
 mapping-on {row} {x} {sum} {s} {rest} {i} m h d =
     record {
       within = omega arith;
-      total = ap₂ bit_xor (digit d) (ap (λ (n : ℕ). linearMap (drop n row) (rest / 2)) (add-one i)) ∙ xor_assoc sum (rest % 2 * get_or row i 0) (linearMap (drop (suc i) row) (rest / 2))
-          ∙ ap (λ (t : List ℕ). bit_xor sum (linearMap t rest)) (sym (drop-cons row i 0 h)) ∙ m.total;
+      total = ap₂ bit_xor (digit d) (ap (λ (n : ℕ). linear_map (drop n row) (rest / 2)) (add-one i)) ∙ xor_assoc sum (rest % 2 * get_or row i 0) (linear_map (drop (suc i) row) (rest / 2))
+          ∙ ap (λ (t : List ℕ). bit_xor sum (linear_map t rest)) (sym (drop-cons row i 0 h)) ∙ m.total;
     }
   where
     digit : ((rest % 2 ≡ 1) × (s ≡ bit_xor sum (get_or row i 0))) ⊎ ((rest % 2 ≢ 1) × (s ≡ sum)) → s ≡ bit_xor sum (rest % 2 * get_or row i 0)
@@ -234,7 +234,7 @@ mapping-on {row} {x} {sum} {s} {rest} {i} m h d =
         t.1 ∙ sym (xor_zero_r sum)
         ∙ ap (bit_xor sum) (sym (ap (λ (n : ℕ). n * get_or row i 0) (let n = t.0 in let z : rest % 2 ≡ 0 = omega arith in z) ∙ zero-mul (get_or row i 0)))
 
-pub mapping-end : {row : List ℕ} {x sum rest i : ℕ} → Mapping row x sum rest i → length row ≤ i → sum ≡ linearMap row x
-unfolding linearMap
+pub mapping-end : {row : List ℕ} {x sum rest i : ℕ} → Mapping row x sum rest i → length row ≤ i → sum ≡ linear_map row x
+unfolding linear_map
 mapping-end {row} {x} {sum} {rest} {i} m h =
-    sym (xor_zero_r sum) ∙ ap (λ (t : List ℕ). bit_xor sum (linearMap t rest)) (sym (drop_of_length-le row h)) ∙ m.total
+    sym (xor_zero_r sum) ∙ ap (λ (t : List ℕ). bit_xor sum (linear_map t rest)) (sym (drop_of_length-le row h)) ∙ m.total

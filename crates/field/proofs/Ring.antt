@@ -15,10 +15,10 @@ use Prim.Native.Nat.{ℕ, zero, suc, ◌+◌, ◌*◌, ◌/◌, ◌%◌, ◌<◌
 use native.Mathlib.Nat.{zero-mul, one-mul, zero-add, suc-add, mul-zero, mul-suc}
 use lib.Bits.{bit_xor}
 use Rattle.algebra.specs.Field.{power}
-use Rattle.field.specs.Field.{carryFree, cut, reduce, Field, size, mul, numbers}
+use Rattle.field.specs.Field.{carry_free, cut, reduce, Field, size, mul, numbers}
 use Rattle.field.proofs.Xor.{xor_assoc, xor-cancel, xor-digits}
 use Rattle.field.proofs.Digits.{bit-cases}
-use Rattle.field.proofs.CarryFree.{carryFree-zero-l, carryFree-comm, carryFree-assoc, carryFree-xor-r, carryFree-one-l, carryFree-double-l, carryFree-double-r}
+use Rattle.field.proofs.CarryFree.{carry_free-zero-l, carry_free-comm, carry_free-assoc, carry_free-xor-r, carry_free-one-l, carry_free-double-l, carry_free-double-r}
 use Rattle.field.proofs.Reduce.{reduce-zero, reduce-xor, reduce-double, reduce-below, reduce-lt, reduce-left, reduce-right}
 
 -- the polynomial has the field's degree
@@ -28,45 +28,45 @@ FullDegree F = F.poly / size F ≡ 1
 module _ (F : Field) (monic : FullDegree F) where
   pub mul_comm : (a b : ℕ) → mul F a b ≡ mul F b a
   unfolding mul
-  mul_comm a b = ap (reduce F) (carryFree-comm a b)
+  mul_comm a b = ap (reduce F) (carry_free-comm a b)
 
   pub mul_assoc : (a b c : ℕ) → mul F (mul F a b) c ≡ mul F a (mul F b c)
   unfolding mul
   mul_assoc a b c =
-      reduce-left F monic (carryFree a b) c ∙ ap (reduce F) (carryFree-assoc a b c)
-      ∙ sym (reduce-right F monic a (carryFree b c))
+      reduce-left F monic (carry_free a b) c ∙ ap (reduce F) (carry_free-assoc a b c)
+      ∙ sym (reduce-right F monic a (carry_free b c))
 
   pub mul-xor-r : (a b c : ℕ) → mul F a (bit_xor b c) ≡ bit_xor (mul F a b) (mul F a c)
   unfolding mul
   mul-xor-r a b c =
-      ap (reduce F) (carryFree-xor-r a b c) ∙ reduce-xor F (carryFree a b) (carryFree a c)
+      ap (reduce F) (carry_free-xor-r a b c) ∙ reduce-xor F (carry_free a b) (carry_free a c)
 
   pub mul-xor-l : (a b c : ℕ) → mul F (bit_xor a b) c ≡ bit_xor (mul F a c) (mul F b c)
   mul-xor-l a b c = mul_comm (bit_xor a b) c ∙ mul-xor-r c a b ∙ ap₂ bit_xor (mul_comm c a) (mul_comm c b)
 
   pub mul-zero-l : (a : ℕ) → mul F 0 a ≡ 0
   unfolding mul
-  mul-zero-l a = ap (reduce F) (carryFree-zero-l a) ∙ reduce-zero F
+  mul-zero-l a = ap (reduce F) (carry_free-zero-l a) ∙ reduce-zero F
 
   pub mul-zero-r : (a : ℕ) → mul F a 0 ≡ 0
   mul-zero-r a = mul_comm a 0 ∙ mul-zero-l a
 
   pub mul-one-l : (a : ℕ) → a < size F → mul F 1 a ≡ a
   unfolding mul
-  mul-one-l a h = ap (reduce F) (carryFree-one-l a) ∙ reduce-below F a h
+  mul-one-l a h = ap (reduce F) (carry_free-one-l a) ∙ reduce-below F a h
 
   pub mul-one-r : (a : ℕ) → a < size F → mul F a 1 ≡ a
   mul-one-r a h = mul_comm a 1 ∙ mul-one-l a h
 
   pub mul-lt : (a b : ℕ) → mul F a b < size F
   unfolding mul
-  mul-lt a b = reduce-lt F monic (carryFree a b)
+  mul-lt a b = reduce-lt F monic (carry_free a b)
 
   -- twice an element
   pub mul-two : (a : ℕ) → a < size F → mul F 2 a ≡ cut F (a * 2)
   unfolding mul
   mul-two a h =
-      ap (reduce F) (carryFree-double-l 1 a ∙ ap (λ (t : ℕ). t * 2) (carryFree-one-l a))
+      ap (reduce F) (carry_free-double-l 1 a ∙ ap (λ (t : ℕ). t * 2) (carry_free-one-l a))
       ∙ reduce-double F a ∙ ap (λ (t : ℕ). cut F (t * 2)) (reduce-below F a h)
 
   mul-digit : (n a : ℕ) → a < size F → mul F (n % 2) a ≡ n % 2 * a
@@ -76,9 +76,9 @@ module _ (F : Field) (monic : FullDegree F) where
   mul-double : (n a : ℕ) → a < size F → mul F (n * 2) a ≡ mul F n (cut F (a * 2))
   unfolding mul
   mul-double n a h =
-      ap (reduce F) (carryFree-double-l n a ∙ sym (carryFree-double-r n a))
+      ap (reduce F) (carry_free-double-l n a ∙ sym (carry_free-double-r n a))
       ∙ sym (reduce-right F monic n (a * 2))
-      ∙ ap (λ (t : ℕ). reduce F (carryFree n t))
+      ∙ ap (λ (t : ℕ). reduce F (carry_free n t))
       (reduce-double F a ∙ ap (λ (t : ℕ). cut F (t * 2)) (reduce-below F a h))
 
   -- the product by its first factor's last digit and the rest: what a loop over the digits goes by

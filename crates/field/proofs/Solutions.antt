@@ -17,10 +17,10 @@ use mathlib.Core.Logic.{◌↔◌}
 use mathlib.Core.List.Memᴰ
 use mathlib.Core.List.{[], ◌∷◌}
 use lib.Dec.{T, eqb, eqb→eq}
-use Rattle.algebra.specs.Polynomial.{eval, isRoot, rootsOf}
+use Rattle.algebra.specs.Polynomial.{eval, is_root, roots_of}
 use Rattle.algebra.proofs.Trial.{kept-only}
 use Rattle.field.specs.Field.{numbers}
-use Rattle.field.specs.Quadratics.{rootsOfQuadratic}
+use Rattle.field.specs.Quadratics.{roots_of_quadratic}
 use Rattle.field.proofs.Xor.{xor-cancel, xor-equal, xor-digit}
 use Rattle.field.proofs.Ring.{ring}
 use Rattle.field.proofs.Generator.{Generated, one_below, zero-product}
@@ -89,32 +89,32 @@ module _ (F : Field) (gen : Generated F) where
       ∙ ap (λ (t : ℕ). mul F z (bit_xor a t)) (mul-one-r z hz)
       ∙ mul-xor-r z a z ∙ xor_comm (mul F z a) (mul F z z) ∙ ap (bit_xor (mul F z z)) (mul_comm z a))
 
-  is-root : (a b z : ℕ) → a < size F → b < size F → ((z < size F) × T (isRoot (numbers F) (b ∷ a ∷ 1 ∷ []) z)) ↔ Root F a b z
+  is-root : (a b z : ℕ) → a < size F → b < size F → ((z < size F) × T (is_root (numbers F) (b ∷ a ∷ 1 ∷ []) z)) ↔ Root F a b z
   is-root a b z ha hb = (
     λ h. (h.0, sym (written a b z ha hb h.0) ∙ eqb→eq (eval (numbers F) (b ∷ a ∷ 1 ∷ []) z) 0 h.1),
     λ h. (h.0, subst (λ (t : ℕ). T (eqb t 0)) (sym (written a b z ha hb h.0 ∙ h.1)) tt),
   )
 
-  none-are : (a b : ℕ) → a < size F → b < size F → ((z : ℕ) → Root F a b z → ⊥) → rootsOfQuadratic F a b ≡ []
-  unfolding rootsOf
+  none-are : (a b : ℕ) → a < size F → b < size F → ((z : ℕ) → Root F a b z → ⊥) → roots_of_quadratic F a b ≡ []
+  unfolding roots_of
   none-are a b ha hb none =
-      kept-only (isRoot (numbers F) (b ∷ a ∷ 1 ∷ [])) (size F) [] tt
+      kept-only (is_root (numbers F) (b ∷ a ∷ 1 ∷ [])) (size F) [] tt
       (λ z. (λ m. absurd (Memᴰ.not-nil m), λ h. absurd (none z ((is-root a b z ha hb).0 h))))
 
-  one-is : (a b : ℕ) → a < size F → b < size F → {x : ℕ} → Root F a b x → ((z : ℕ) → Root F a b z → z ≡ x) → rootsOfQuadratic F a b ≡ x ∷ []
-  unfolding rootsOf
+  one-is : (a b : ℕ) → a < size F → b < size F → {x : ℕ} → Root F a b x → ((z : ℕ) → Root F a b z → z ≡ x) → roots_of_quadratic F a b ≡ x ∷ []
+  unfolding roots_of
   one-is a b ha hb {x} r only =
-      kept-only (isRoot (numbers F) (b ∷ a ∷ 1 ∷ [])) (size F) (x ∷ []) (tt, tt)
+      kept-only (is_root (numbers F) (b ∷ a ∷ 1 ∷ [])) (size F) (x ∷ []) (tt, tt)
       (λ z. (
         λ m. (is-root a b z ha hb).1 (⊎_elim (λ e. subst (Root F a b) (sym e) r) (λ n. absurd (Memᴰ.not-nil n)) (Memᴰ.cases_cons m)),
         λ h. Memᴰ.head (only z ((is-root a b z ha hb).0 h)),
       ))
 
   two-are : (a b : ℕ) → a < size F → b < size F → {x y : ℕ} → x < y → Root F a b x → Root F a b y
-      → ((z : ℕ) → Root F a b z → (z ≡ x) ⊎ (z ≡ y)) → rootsOfQuadratic F a b ≡ x ∷ y ∷ []
-  unfolding rootsOf
+      → ((z : ℕ) → Root F a b z → (z ≡ x) ⊎ (z ≡ y)) → roots_of_quadratic F a b ≡ x ∷ y ∷ []
+  unfolding roots_of
   two-are a b ha hb {x} {y} l r s only =
-      kept-only (isRoot (numbers F) (b ∷ a ∷ 1 ∷ [])) (size F) (x ∷ y ∷ []) ((l, tt), (tt, tt))
+      kept-only (is_root (numbers F) (b ∷ a ∷ 1 ∷ [])) (size F) (x ∷ y ∷ []) ((l, tt), (tt, tt))
       (λ z. (
         λ m. (is-root a b z ha hb).1
             (⊎_elim (λ e. subst (Root F a b) (sym e) r)
@@ -181,7 +181,7 @@ module _ (F : Field) (gen : Generated F) where
         (mul-lt a x, ap (λ (t : ℕ). bit_xor t b) (scaled-quadratic a x ∙ ap (mul F (mul F a a)) e ∙ back) ∙ xor_self b)
 
     -- no x: no root
-    pub no-roots : Tr F part ≡ 1 → rootsOfQuadratic F a b ≡ []
+    pub no-roots : Tr F part ≡ 1 → roots_of_quadratic F a b ≡ []
     no-roots t =
         none-are a b ha hb (λ z h. let e : ◌≡◌ {A = ℕ} 0 1 = sym (quad-trace (mul F v z) (mul-lt v z)) ∙ ap (Tr F) (root-to z h) ∙ t in
         let x : ⊥ = omega arith in x)
@@ -204,10 +204,10 @@ module _ (F : Field) (gen : Generated F) where
           ⊎_elim (λ e. inl (sym (undo z h.0) ∙ ap (mul F a) e)) (λ e. inr (sym (undo z h.0) ∙ ap (mul F a) e ∙ next))
           (second (mul F v z) j (mul-lt v z) hj (root-to z h ∙ sym ej))
 
-      pub roots-up : mul F a j < bit_xor (mul F a j) a → rootsOfQuadratic F a b ≡ mul F a j ∷ bit_xor (mul F a j) a ∷ []
+      pub roots-up : mul F a j < bit_xor (mul F a j) a → roots_of_quadratic F a b ≡ mul F a j ∷ bit_xor (mul F a j) a ∷ []
       roots-up h = two-are a b ha hb h first-root second-root every-root
 
-      pub roots-down : 0 < a → ¬ (mul F a j < bit_xor (mul F a j) a) → rootsOfQuadratic F a b ≡ bit_xor (mul F a j) a ∷ mul F a j ∷ []
+      pub roots-down : 0 < a → ¬ (mul F a j < bit_xor (mul F a j) a) → roots_of_quadratic F a b ≡ bit_xor (mul F a j) a ∷ mul F a j ∷ []
       roots-down pos h = two-are a b ha hb lower second-root first-root (λ z r. ⊎_elim inr inl (every-root z r))
         where
           apart : bit_xor (mul F a j) a ≢ mul F a j
@@ -231,22 +231,22 @@ module _ (F : Field) (gen : Generated F) where
           quad-xor F gen j q ∙ ap (λ (t : ℕ). bit_xor t (bit_xor (mul F q q) q)) e
           ∙ ap (bit_xor q) (xor_comm (mul F q q) q) ∙ xor-cancel q (mul F q q) ∙ square-part
 
-      pub answer-none : {j : ℕ} → HalfRoot F q j → size F ≤ 65535 → j ≡ 65535 → rootsOfQuadratic F a b ≡ []
+      pub answer-none : {j : ℕ} → HalfRoot F q j → size F ≤ 65535 → j ≡ 65535 → roots_of_quadratic F a b ≡ []
       answer-none h small k = no-roots (ap (Tr F) (sym square-part) ∙ trace-of-square F gen q hq ∙ no-solution h small k)
 
-      pub answer-up : {j x : ℕ} → HalfRoot F q j → j ≢ 65535 → x ≡ mul F a (bit_xor j q) → x < bit_xor x a → rootsOfQuadratic F a b ≡ x ∷ bit_xor x a ∷ []
+      pub answer-up : {j x : ℕ} → HalfRoot F q j → j ≢ 65535 → x ≡ mul F a (bit_xor j q) → x < bit_xor x a → roots_of_quadratic F a b ≡ x ∷ bit_xor x a ∷ []
       answer-up {j} {x} h n ex =
-          subst (λ (t : ℕ). t < bit_xor t a → rootsOfQuadratic F a b ≡ t ∷ bit_xor t a ∷ []) (sym ex)
+          subst (λ (t : ℕ). t < bit_xor t a → roots_of_quadratic F a b ≡ t ∷ bit_xor t a ∷ []) (sym ex)
           (roots-up (bit_xor j q) (xor_lt F.degree j q (solution h n).0 hq) (shifted j (solution h n).1))
 
       pub answer-down : {j x : ℕ} → HalfRoot F q j → j ≢ 65535 → x ≡ mul F a (bit_xor j q) → 0 < a → ¬ (x < bit_xor x a)
-          → rootsOfQuadratic F a b ≡ bit_xor x a ∷ x ∷ []
+          → roots_of_quadratic F a b ≡ bit_xor x a ∷ x ∷ []
       answer-down {j} {x} h n ex pos =
-          subst (λ (t : ℕ). ¬ (t < bit_xor t a) → rootsOfQuadratic F a b ≡ bit_xor t a ∷ t ∷ []) (sym ex)
+          subst (λ (t : ℕ). ¬ (t < bit_xor t a) → roots_of_quadratic F a b ≡ bit_xor t a ∷ t ∷ []) (sym ex)
           (roots-down (bit_xor j q) (xor_lt F.degree j q (solution h n).0 hq) (shifted j (solution h n).1) pos)
 
   -- a = 0: the square root is the only root
-  pub one-root : {a b s : ℕ} → a ≡ 0 → b < size F → s < size F → mul F s s ≡ b → rootsOfQuadratic F a b ≡ s ∷ []
+  pub one-root : {a b s : ℕ} → a ≡ 0 → b < size F → s < size F → mul F s s ≡ b → roots_of_quadratic F a b ≡ s ∷ []
   one-root {a} {b} {s} z0 hb hs e = one-is a b (let u = one_below F gen in omega arith) hb (hs, sum s ∙ ap (λ (t : ℕ). bit_xor t b) e ∙ xor_self b) only
     where
       sum : (z : ℕ) → bit_xor (bit_xor (mul F z z) (mul F a z)) b ≡ bit_xor (mul F z z) b

@@ -1,7 +1,7 @@
 -- The fields (docs/RULES.md section 1.1), a row each.
 --   rows        degree and polynomial of each field; its size is 2 to the degree
 --   known       is there a field of degree m?
---   polyOf      the polynomial of the field of degree m; 0 where there is none
+--   poly_of      the polynomial of the field of degree m; 0 where there is none
 --   ListedRow   m and p are a row
 --   row_at       the row of the field of degree m, as the code hands it out;  IsRow  a row is that of degree m
 -- Assumes nothing.
@@ -19,19 +19,19 @@ known_in [] m = false
 known_in (r ∷ rs) m = cond (eqb r.0 m) true (known_in rs m)
 
 -- the polynomial beside the degree m in these rows
-unfoldable pub polyIn : List (ℕ × ℕ) → ℕ → ℕ
-polyIn [] m = 0
-polyIn (r ∷ rs) m = cond (eqb r.0 m) r.1 (polyIn rs m)
+unfoldable pub poly_in : List (ℕ × ℕ) → ℕ → ℕ
+poly_in [] m = 0
+poly_in (r ∷ rs) m = cond (eqb r.0 m) r.1 (poly_in rs m)
 
 abbrev pub known : ℕ → Bool
 known m = known_in rows m
 
-abbrev pub polyOf : ℕ → ℕ
-polyOf m = polyIn rows m
+abbrev pub poly_of : ℕ → ℕ
+poly_of m = poly_in rows m
 
 pub record ListedRow (m p : ℕ) : Type 0 where
   pub degree : known m ≡ true
-  pub poly : polyOf m ≡ p
+  pub poly : poly_of m ≡ p
 
 -- the row beside the degree m in these rows
 unfoldable pub row_in : List (ℕ × ℕ) → ℕ → FoundRow

@@ -3,7 +3,7 @@
 ghost use Rattle.std.specs.Prelude.{◌≡◌, ◌-◌, ◌<◌, ◌^◌};
 ghost use Rattle.field.specs.Rows.{ListedRow};
 ghost use Rattle.field.specs.Field.{field_of};
-ghost use Rattle.field.specs.Powers.{raisedBy, linearMap, Squares};
+ghost use Rattle.field.specs.Powers.{raised_by, linear_map, Squares};
 
 use crate::arithmetic::{cut, product_of};
 
@@ -29,7 +29,7 @@ fn squares_of(degree: u16, poly: u16, c: u16) -> [u16; DIGITS]
 
 // The sum of the row's entries at the digits of x that are 1.
 fn mapped(row: [u16; DIGITS], x: u16) -> u16
-    ensures { result ≡ linearMap row x }
+    ensures { result ≡ linear_map row x }
 {
     let mut sum: u16 = 0;
     let mut rest = x;
@@ -47,7 +47,7 @@ fn mapped(row: [u16; DIGITS], x: u16) -> u16
 // All turns but one that bring x back: the square root of x, divided by c.
 pub fn raised(degree: u16, poly: u16, c: u16, x: u16) -> u16
     requires { ListedRow degree poly × (c < 2 ^ degree) × (x < 2 ^ degree) }
-    ensures { result ≡ raisedBy (field_of degree poly) c (degree - 1) x }
+    ensures { result ≡ raised_by (field_of degree poly) c (degree - 1) x }
 {
     let row = squares_of(degree, poly, c);
     let mut y = x;

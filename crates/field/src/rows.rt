@@ -1,6 +1,6 @@
 // The fields that there are, a row each.
 ghost use Rattle.std.specs.Prelude.{◌≡◌, true, ◌^◌};
-ghost use Rattle.field.specs.Rows.{row_at, known, polyOf, IsRow};
+ghost use Rattle.field.specs.Rows.{row_at, known, poly_of, IsRow};
 
 // A field's row: its degree, its polynomial and its size.
 #[derive(Drop)]
@@ -70,7 +70,7 @@ fn known_row(m: u16) -> Row
 // The polynomial of the field of a known degree.
 pub fn poly_of(m: u16) -> u16
     requires { known m ≡ true }
-    ensures { result ≡ polyOf m }
+    ensures { result ≡ poly_of m }
 {
     let row = known_row(m);
     row.poly

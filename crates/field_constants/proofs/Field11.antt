@@ -11,11 +11,11 @@ use mathlib.Core.List.{List, [], ◌∷◌}
 use Prim.Native.Nat.{ℕ, ◌+◌, ◌-◌, ◌*◌, ◌/◌, ◌%◌, ◌^◌, ◌<◌, ◌≤◌}
 use native.Mathlib.Omega.{arith}
 use lib.Bits.{bit_xor, xor_lt}
-use Rattle.field.specs.Rows.{polyIn}
+use Rattle.field.specs.Rows.{poly_in}
 use Rattle.field.specs.Field.{field_at, mul, inverse}
 use Rattle.field.specs.Powers.{turned}
-use Rattle.field.specs.Tables.{HalfRoot, logOf, antilogOf}
-use Rattle.field.specs.Quadratics.{rootsOfQuadratic}
+use Rattle.field.specs.Tables.{HalfRoot, log_of, antilog_of}
+use Rattle.field.specs.Quadratics.{roots_of_quadratic}
 use Rattle.field.proofs.Known.{row11}
 use Rattle.field.proofs.Generator.{Generated, generated, inverse-lt, mul-inverse}
 use Rattle.field.proofs.Ring.{mul-lt, mul_comm, mul-zero-l}
@@ -24,34 +24,34 @@ use Rattle.field.proofs.Solutions.{answer-none, answer-up, answer-down, one-root
 use Rattle.field_constants.proofs.Logs11.{log-inverse, log-quotient, log-root, quotient}
 
 pub gen11 : Generated (field_at 11)
-unfolding polyIn
+unfolding poly_in
 gen11 = generated row11
 
-pub log-bound : {x r : ℕ} → x < 2048 → r ≡ logOf (field_at 11) x → r < 4094
+pub log-bound : {x r : ℕ} → x < 2048 → r ≡ log_of (field_at 11) x → r < 4094
 log-bound {x} h e = subst (λ (n : ℕ). n < 4094) (sym e) (log-lt (field_at 11) gen11 x h)
 
 pub product-zero : {x : ℕ} (y : ℕ) → x ≡ 0 → 0 ≡ mul (field_at 11) x y
 product-zero {x} y e = sym (ap (λ (t : ℕ). mul (field_at 11) t y) e ∙ mul-zero-l (field_at 11) gen11.monic y)
 
-pub product_is : {x y s t r : ℕ} → (x ≡ 0 → ⊥) → x < 2048 → y < 2048 → s ≡ logOf (field_at 11) x → t ≡ logOf (field_at 11) y
-    → r ≡ antilogOf (field_at 11) (s + t) → r ≡ mul (field_at 11) x y
+pub product_is : {x y s t r : ℕ} → (x ≡ 0 → ⊥) → x < 2048 → y < 2048 → s ≡ log_of (field_at 11) x → t ≡ log_of (field_at 11) y
+    → r ≡ antilog_of (field_at 11) (s + t) → r ≡ mul (field_at 11) x y
 product_is {x} {y} n hx hy es et er =
-    er ∙ ap₂ (λ (u v : ℕ). antilogOf (field_at 11) (u + v)) es et ∙ log-product (field_at 11) gen11 x y (omega arith) hx hy
+    er ∙ ap₂ (λ (u v : ℕ). antilog_of (field_at 11) (u + v)) es et ∙ log-product (field_at 11) gen11 x y (omega arith) hx hy
 
-pub inverse-is : {x s r : ℕ} → 0 < x → x < 2048 → s ≡ logOf (field_at 11) x → r ≡ antilogOf (field_at 11) (4094 - s)
+pub inverse-is : {x s r : ℕ} → 0 < x → x < 2048 → s ≡ log_of (field_at 11) x → r ≡ antilog_of (field_at 11) (4094 - s)
     → r ≡ inverse (field_at 11) x
-inverse-is {x} p h es er = er ∙ ap (λ (u : ℕ). antilogOf (field_at 11) (4094 - u)) es ∙ log-inverse (field_at 11) gen11 x p h
+inverse-is {x} p h es er = er ∙ ap (λ (u : ℕ). antilog_of (field_at 11) (4094 - u)) es ∙ log-inverse (field_at 11) gen11 x p h
 
-pub quotient_is : {x y s t r : ℕ} → x < 2048 → 0 < y → y < 2048 → s ≡ logOf (field_at 11) x → t ≡ logOf (field_at 11) y
-    → r ≡ antilogOf (field_at 11) (s + (4094 - t)) → r ≡ mul (field_at 11) (inverse (field_at 11) y) x
+pub quotient_is : {x y s t r : ℕ} → x < 2048 → 0 < y → y < 2048 → s ≡ log_of (field_at 11) x → t ≡ log_of (field_at 11) y
+    → r ≡ antilog_of (field_at 11) (s + (4094 - t)) → r ≡ mul (field_at 11) (inverse (field_at 11) y) x
 quotient_is {x} {y} hx p hy es et er =
-    er ∙ ap₂ (λ (u v : ℕ). antilogOf (field_at 11) (u + (4094 - v))) es et ∙ log-quotient (field_at 11) gen11 x y hx p hy
+    er ∙ ap₂ (λ (u v : ℕ). antilog_of (field_at 11) (u + (4094 - v))) es et ∙ log-quotient (field_at 11) gen11 x y hx p hy
 
 pub root-zero : {x : ℕ} → x ≡ 0 → (0 < 2048) × (mul (field_at 11) 0 0 ≡ x)
 root-zero e = (omega arith, mul-zero-l (field_at 11) gen11.monic 0 ∙ sym e)
 
-pub root_is : {x s r : ℕ} → (x ≡ 0 → ⊥) → x < 2048 → s ≡ logOf (field_at 11) x
-    → r ≡ antilogOf (field_at 11) (s / 2 + s / 2 % 2 * 2047) → (r < 2048) × (mul (field_at 11) r r ≡ x)
+pub root_is : {x s r : ℕ} → (x ≡ 0 → ⊥) → x < 2048 → s ≡ log_of (field_at 11) x
+    → r ≡ antilog_of (field_at 11) (s / 2 + s / 2 % 2 * 2047) → (r < 2048) × (mul (field_at 11) r r ≡ x)
 root_is {x} {s} {r} n h es er =
     subst (λ (v : ℕ). (v < 2048) × (mul (field_at 11) v v ≡ x)) (sym er)
     (log-root (field_at 11) gen11 x (s / 2) (omega arith) h refl (ap (λ (u : ℕ). u / 2) es))
@@ -64,7 +64,7 @@ element-product x y e = subst (λ (n : ℕ). n < 2048) (sym e) (mul-lt (field_at
 pub element-inverse : (x : ℕ) {r : ℕ} → r ≡ inverse (field_at 11) x → r < 2048
 element-inverse x e = subst (λ (n : ℕ). n < 2048) (sym e) (inverse-lt (field_at 11) gen11 x)
 
-pub only-root : {a b s : ℕ} → a ≡ 0 → b < 2048 → (s < 2048) × (mul (field_at 11) s s ≡ b) → s ∷ [] ≡ rootsOfQuadratic (field_at 11) a b
+pub only-root : {a b s : ℕ} → a ≡ 0 → b < 2048 → (s < 2048) × (mul (field_at 11) s s ≡ b) → s ∷ [] ≡ roots_of_quadratic (field_at 11) a b
 only-root z h r = sym (one-root (field_at 11) gen11 z h r.0 r.1)
 
 module _ {a b s v q j : ℕ} (n : a ≡ 0 → ⊥) (ha : a < 2048) (hb : b < 2048) (root : (s < 2048) × (mul (field_at 11) s s ≡ b))
@@ -84,15 +84,15 @@ module _ {a b s v q j : ℕ} (n : a ≡ 0 → ⊥) (ha : a < 2048) (hb : b < 204
   pub solution-lt : j ≢ 65535 → bit_xor j q < 2048
   solution-lt k = xor_lt 11 j q (solution (field_at 11) gen11 entry k).0 (element-product s v eq)
 
-  pub none_found : j ≡ 65535 → [] ≡ rootsOfQuadratic (field_at 11) a b
+  pub none_found : j ≡ 65535 → [] ≡ roots_of_quadratic (field_at 11) a b
   none_found k =
       sym (answer-none (field_at 11) gen11 a b (inverse (field_at 11) a) ha hb inverse-times q (element-product s v eq) squared entry (omega arith) k)
 
-  pub two_up : {x : ℕ} → j ≢ 65535 → x ≡ mul (field_at 11) a (bit_xor j q) → x < bit_xor x a → x ∷ bit_xor x a ∷ [] ≡ rootsOfQuadratic (field_at 11) a b
+  pub two_up : {x : ℕ} → j ≢ 65535 → x ≡ mul (field_at 11) a (bit_xor j q) → x < bit_xor x a → x ∷ bit_xor x a ∷ [] ≡ roots_of_quadratic (field_at 11) a b
   two_up k ex h =
       sym (answer-up (field_at 11) gen11 a b (inverse (field_at 11) a) ha hb inverse-times q (element-product s v eq) squared entry k ex h)
 
-  pub two_down : {x : ℕ} → j ≢ 65535 → x ≡ mul (field_at 11) a (bit_xor j q) → bit_xor x a ≤ x → bit_xor x a ∷ x ∷ [] ≡ rootsOfQuadratic (field_at 11) a b
+  pub two_down : {x : ℕ} → j ≢ 65535 → x ≡ mul (field_at 11) a (bit_xor j q) → bit_xor x a ≤ x → bit_xor x a ∷ x ∷ [] ≡ roots_of_quadratic (field_at 11) a b
   two_down k ex h =
       sym (answer-down (field_at 11) gen11 a b (inverse (field_at 11) a) ha hb inverse-times q (element-product s v eq) squared entry k ex positive
       (λ u. let z : ⊥ = omega arith in z))

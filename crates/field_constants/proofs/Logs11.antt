@@ -11,7 +11,7 @@ use native.Mathlib.Omega.{arith}
 use Rattle.algebra.specs.Field.{power}
 use Rattle.field.specs.Field.{Field, size, order, mul, numbers, inverse, position}
 use Rattle.field.specs.Powers.{turned}
-use Rattle.field.specs.Tables.{logOf, antilogOf}
+use Rattle.field.specs.Tables.{log_of, antilog_of}
 use Rattle.field.proofs.Ring.{ring, power-lt, power-add}
 use Rattle.field.proofs.Generator.{Generated, one_below, power-order, position-is, inverse-only, mul-inverse}
 use Rattle.field.proofs.Logarithms.{log-position, log-half, antilog-even, antilog-odd}
@@ -20,13 +20,13 @@ module _ (F : Field) (gen : Generated F) where
   open ring F gen.monic use {mul-one-r, mul_assoc, mul_comm, mul-zero-r}
 
   -- the rest of the way round
-  pub log-inverse : (x : ℕ) → 0 < x → x < size F → antilogOf F (2 * order F - logOf F x) ≡ inverse F x
-  log-inverse x p l = ap (antilogOf F) index ∙ antilog-even F back ∙ sym (inverse-only F gen x (power (numbers F) 2 back) p l below one)
+  pub log-inverse : (x : ℕ) → 0 < x → x < size F → antilog_of F (2 * order F - log_of F x) ≡ inverse F x
+  log-inverse x p l = ap (antilog_of F) index ∙ antilog-even F back ∙ sym (inverse-only F gen x (power (numbers F) 2 back) p l below one)
     where
       back : ℕ
       back = order F - position F x
 
-      index : 2 * order F - logOf F x ≡ 2 * (order F - position F x)
+      index : 2 * order F - log_of F x ≡ 2 * (order F - position F x)
       index = omega (arith, log-position F x p)
 
       below : power (numbers F) 2 (order F - position F x) < size F
@@ -41,26 +41,26 @@ module _ (F : Field) (gen : Generated F) where
 
   -- one way on and the rest of another way round; odd where x is 0
   pub log-quotient : (x y : ℕ) → x < size F → 0 < y → y < size F
-      → antilogOf F (logOf F x + (2 * order F - logOf F y)) ≡ mul F (inverse F y) x
-  unfolding logOf
+      → antilog_of F (log_of F x + (2 * order F - log_of F y)) ≡ mul F (inverse F y) x
+  unfolding log_of
   log-quotient x y h p l = go (dec_lt 0 x)
     where
       turned-back : power (numbers F) 2 (order F - position F y) ≡ inverse F y
       turned-back =
           sym (antilog-even F (order F - position F y))
-          ∙ ap (antilogOf F) (let e : 2 * (order F - position F y) ≡ 2 * order F - logOf F y = omega (arith, log-position F y p) in e)
+          ∙ ap (antilog_of F) (let e : 2 * (order F - position F y) ≡ 2 * order F - log_of F y = omega (arith, log-position F y p) in e)
           ∙ log-inverse y p l
 
-      go : Dec (0 < x) → antilogOf F (logOf F x + (2 * order F - logOf F y)) ≡ mul F (inverse F y) x
+      go : Dec (0 < x) → antilog_of F (log_of F x + (2 * order F - log_of F y)) ≡ mul F (inverse F y) x
       go (yes q) =
-          ap (antilogOf F) (let e : logOf F x + (2 * order F - logOf F y) ≡ 2 * (position F x + (order F - position F y)) = omega (arith, log-position F x q, log-position F y p, (position-is F gen y p l).0) in e)
+          ap (antilog_of F) (let e : log_of F x + (2 * order F - log_of F y) ≡ 2 * (position F x + (order F - position F y)) = omega (arith, log-position F x q, log-position F y p, (position-is F gen y p l).0) in e)
           ∙ antilog-even F (position F x + (order F - position F y))
           ∙ power-add F gen.monic (one_below F gen) 2 (position F x) (order F - position F y)
           ∙ ap₂ (mul F) (position-is F gen x q h).1 turned-back ∙ mul_comm x (inverse F y)
       go (no n) =
           let z : x ≡ 0 = omega arith in
-          let e : logOf F x ≡ 1 = ap (logOf F) z in
-          antilog-odd F (logOf F x + (2 * order F - logOf F y)) (omega (arith, e, log-position F y p, (position-is F gen y p l).0))
+          let e : log_of F x ≡ 1 = ap (log_of F) z in
+          antilog-odd F (log_of F x + (2 * order F - log_of F y)) (omega (arith, e, log-position F y p, (position-is F gen y p l).0))
           ∙ sym (ap (mul F (inverse F y)) z ∙ mul-zero-r (inverse F y))
 
   -- a power of an even number of factors
@@ -68,8 +68,8 @@ module _ (F : Field) (gen : Generated F) where
   root-of-power x s l e = (power-lt F gen.monic (one_below F gen) 2 s, sym (power-add F gen.monic (one_below F gen) 2 s s) ∙ e)
 
   -- the position k, or k and the order, is even
-  pub log-root : (x k : ℕ) → 0 < x → x < size F → order F % 2 ≡ 1 → k ≡ logOf F x / 2
-      → (antilogOf F (k + k % 2 * order F) < size F) × (mul F (antilogOf F (k + k % 2 * order F)) (antilogOf F (k + k % 2 * order F)) ≡ x)
+  pub log-root : (x k : ℕ) → 0 < x → x < size F → order F % 2 ≡ 1 → k ≡ log_of F x / 2
+      → (antilog_of F (k + k % 2 * order F) < size F) × (mul F (antilog_of F (k + k % 2 * order F)) (antilog_of F (k + k % 2 * order F)) ≡ x)
   log-root x k p l odd e = go (dec_lt (k % 2) 1)
     where
       at : k ≡ position F x
@@ -79,10 +79,10 @@ module _ (F : Field) (gen : Generated F) where
       here = ap (power (numbers F) 2) at ∙ (position-is F gen x p l).1
 
       whole : (s : ℕ) → k + k % 2 * order F ≡ 2 * s → power (numbers F) 2 (s + s) ≡ x
-          → (antilogOf F (k + k % 2 * order F) < size F) × (mul F (antilogOf F (k + k % 2 * order F)) (antilogOf F (k + k % 2 * order F)) ≡ x)
+          → (antilog_of F (k + k % 2 * order F) < size F) × (mul F (antilog_of F (k + k % 2 * order F)) (antilog_of F (k + k % 2 * order F)) ≡ x)
       whole s i h = rw (i, antilog-even F s) (root-of-power x s l h)
 
-      go : Dec (k % 2 < 1) → (antilogOf F (k + k % 2 * order F) < size F) × (mul F (antilogOf F (k + k % 2 * order F)) (antilogOf F (k + k % 2 * order F)) ≡ x)
+      go : Dec (k % 2 < 1) → (antilog_of F (k + k % 2 * order F) < size F) × (mul F (antilog_of F (k + k % 2 * order F)) (antilog_of F (k + k % 2 * order F)) ≡ x)
       go (yes q) =
           let z : k % 2 ≡ 0 = omega arith in
           let i : k + k % 2 * order F ≡ 2 * (k / 2) = rw z (omega arith) in

@@ -10,16 +10,16 @@ use Prim.Native.Nat.{ℕ, zero, suc, ◌+◌, ◌*◌, ◌/◌, ◌%◌, ◌<◌
 use native.Mathlib.Nat.{not-suc-le-zero, le_of_suc-le-suc, add-zero, zero-add, add-suc, suc-add}
 use native.Mathlib.Omega.{arith}
 use lib.ListN.{length, get_or}
-use Rattle.field.specs.Rows.{polyIn}
+use Rattle.field.specs.Rows.{poly_in}
 use Rattle.field.specs.Field.{field_at}
-use Rattle.field.specs.Tables.{HalfRoot, Halves, Logs, Antilogs, logOf, antilogOf}
+use Rattle.field.specs.Tables.{HalfRoot, Halves, Logs, Antilogs, log_of, antilog_of}
 use Rattle.field.proofs.Known.{row11}
 use Rattle.field.proofs.Generator.{generated}
-use Rattle.field.proofs.Logarithms.{logTest, logs-hold, antilogTest, antilogs-hold}
-use Rattle.field.proofs.HalfRoots.{halfRoots, halves-hold}
+use Rattle.field.proofs.Logarithms.{log_test, logs-hold, antilog_test, antilogs-hold}
+use Rattle.field.proofs.HalfRoots.{half_roots, halves-hold}
 use Rattle.field.proofs.Solutions.{half-root-unique}
-use Rattle.field_constants.specs.Words.{logWords, powerWords, lowWords, highWords}
-use Rattle.field_constants.specs.Entries.{lane, log_at, folded, powerAt, antilogIf, antilogAt, halfIf, halfAt}
+use Rattle.field_constants.specs.Words.{log_words, power_words, low_words, high_words}
+use Rattle.field_constants.specs.Entries.{lane, log_at, folded, power_at, antilog_if, antilog_at, half_if, half_at}
 
 -- ---- the entries of words
 
@@ -58,45 +58,45 @@ tabulate-at f n k h = tabulate-from f n 0 k h ∙ ap f (zero-add k)
 -- ---- the tables
 
 -- one test over the log table
-logs-tested : Logs (field_at 11) (spread logWords)
-unfolding polyIn logTest spread lane logWords
-logs-tested = logs-hold _ (generated row11) (spread logWords) tt
+logs-tested : Logs (field_at 11) (spread log_words)
+unfolding poly_in log_test spread lane log_words
+logs-tested = logs-hold _ (generated row11) (spread log_words) tt
 
-log-words : length logWords ≡ 512
-unfolding logWords
+log-words : length log_words ≡ 512
+unfolding log_words
 log-words = refl
 
-pub log_is : (x : ℕ) → x < 2048 → log_at x ≡ logOf (field_at 11) x
+pub log_is : (x : ℕ) → x < 2048 → log_at x ≡ log_of (field_at 11) x
 unfolding log_at
 log_is x h =
-    sym (spread_at logWords (x / 4) (x % 4) (omega (arith, log-words)) (omega arith))
-    ∙ ap (λ (i : ℕ). get_or (spread logWords) i 0) (let e : x / 4 * 4 + x % 4 ≡ x = omega arith in e)
+    sym (spread_at log_words (x / 4) (x % 4) (omega (arith, log-words)) (omega arith))
+    ∙ ap (λ (i : ℕ). get_or (spread log_words) i 0) (let e : x / 4 * 4 + x % 4 ≡ x = omega arith in e)
     ∙ logs-tested.entry x h
 
 -- one test over the antilog table
-antilogs-tested : Antilogs (field_at 11) (tabulate antilogAt 8188 0)
-unfolding polyIn antilogTest tabulate antilogAt antilogIf powerAt folded lane powerWords
-antilogs-tested = antilogs-hold _ (generated row11) (tabulate antilogAt 8188 0) tt
+antilogs-tested : Antilogs (field_at 11) (tabulate antilog_at 8188 0)
+unfolding poly_in antilog_test tabulate antilog_at antilog_if power_at folded lane power_words
+antilogs-tested = antilogs-hold _ (generated row11) (tabulate antilog_at 8188 0) tt
 
-pub antilog-is : (j : ℕ) → j < 8188 → antilogAt j ≡ antilogOf (field_at 11) j
-antilog-is j h = sym (tabulate-at antilogAt 8188 j h) ∙ antilogs-tested.entry j h
+pub antilog-is : (j : ℕ) → j < 8188 → antilog_at j ≡ antilog_of (field_at 11) j
+antilog-is j h = sym (tabulate-at antilog_at 8188 j h) ∙ antilogs-tested.entry j h
 
 -- one test over the quadratic table
-halves-tested : Halves (field_at 11) (tabulate halfAt 2048 0)
-unfolding polyIn halfRoots tabulate halfAt halfIf lane lowWords highWords
-halves-tested = halves-hold _ (generated row11) (tabulate halfAt 2048 0) tt
+halves-tested : Halves (field_at 11) (tabulate half_at 2048 0)
+unfolding poly_in half_roots tabulate half_at half_if lane low_words high_words
+halves-tested = halves-hold _ (generated row11) (tabulate half_at 2048 0) tt
 
-pub half_is : (i : ℕ) → i < 2048 → HalfRoot (field_at 11) i (halfAt i)
-half_is i h = subst (HalfRoot (field_at 11) i) (tabulate-at halfAt 2048 i h) (halves-tested.entry i h)
+pub half_is : (i : ℕ) → i < 2048 → HalfRoot (field_at 11) i (half_at i)
+half_is i h = subst (HalfRoot (field_at 11) i) (tabulate-at half_at 2048 i h) (halves-tested.entry i h)
 
 -- ---- a table that is lent holds the same numbers
 
 pub logs-agree : {ls : List ℕ} → Logs (field_at 11) ls → (x : ℕ) → x < 2048 → get_or ls x 0 ≡ log_at x
 logs-agree l x h = l.entry x h ∙ sym (log_is x h)
 
-pub antilogs-agree : {ts : List ℕ} → Antilogs (field_at 11) ts → (j : ℕ) → j < 8188 → get_or ts j 0 ≡ antilogAt j
+pub antilogs-agree : {ts : List ℕ} → Antilogs (field_at 11) ts → (j : ℕ) → j < 8188 → get_or ts j 0 ≡ antilog_at j
 antilogs-agree a j h = a.entry j h ∙ sym (antilog-is j h)
 
-pub halves-agree : {hs : List ℕ} → Halves (field_at 11) hs → (i : ℕ) → i < 2048 → get_or hs i 0 ≡ halfAt i
-unfolding polyIn
-halves-agree {hs} t i h = half-root-unique _ (generated row11) i (get_or hs i 0) (halfAt i) (t.entry i h) (half_is i h)
+pub halves-agree : {hs : List ℕ} → Halves (field_at 11) hs → (i : ℕ) → i < 2048 → get_or hs i 0 ≡ half_at i
+unfolding poly_in
+halves-agree {hs} t i h = half-root-unique _ (generated row11) i (get_or hs i 0) (half_at i) (t.entry i h) (half_is i h)

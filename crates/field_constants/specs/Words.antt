@@ -1,14 +1,14 @@
 -- The tables of field 11 that stand in place, as words of four entries. Written by tools/constant_words.py.
 -- Inner contracts alone cite them.
---   logWords    the log table
---   powerWords  the powers a^0, a^8, a^16, .. to a^4088
---   lowWords    the half-roots of 0 to 63
---   highWords   the half-roots of 0, 64, 128, .. to 1984
+--   log_words    the log table
+--   power_words  the powers a^0, a^8, a^16, .. to a^4088
+--   low_words    the half-roots of 0 to 63
+--   high_words   the half-roots of 0, 64, 128, .. to 1984
 -- Assumes nothing.
 use Rattle.std.specs.Prelude.{List, [], ◌∷◌, ℕ}
 
-unfoldable pub logWords : List ℕ
-logWords =
+unfoldable pub log_words : List ℕ
+log_words =
     579275510660464641 ∷
     842181977952354308 ∷
     1076360414083416070 ∷
@@ -523,8 +523,8 @@ logWords =
     574212964122757108 ∷
     []
 
-unfoldable pub powerWords : List ℕ
-powerWords =
+unfoldable pub power_words : List ℕ
+power_words =
     19140985627869185 ∷
     148337424438723624 ∷
     45321495750641221 ∷
@@ -655,8 +655,8 @@ powerWords =
     189436692363084690 ∷
     []
 
-unfoldable pub lowWords : List ℕ
-lowWords =
+unfoldable pub low_words : List ℕ
+low_words =
     20266507560812544 ∷
     562958548205642 ∷
     114280584332575198 ∷
@@ -675,8 +675,8 @@ lowWords =
     201539158563619460 ∷
     []
 
-unfoldable pub highWords : List ℕ
-highWords =
+unfoldable pub high_words : List ℕ
+high_words =
     276410626183921664 ∷
     254455981722304606 ∷
     351849441900234548 ∷

@@ -1,7 +1,7 @@
 // Products, inverses, quotients, square roots and quadratics of field 11 over the tables in place.
 ghost use Rattle.std.specs.Prelude.{◌≡◌, ◌<◌};
 ghost use Rattle.field.specs.Field.{field_at, mul, inverse};
-ghost use Rattle.field.specs.Quadratics.{rootsIn, rootsOfQuadratic};
+ghost use Rattle.field.specs.Quadratics.{roots_in, roots_of_quadratic};
 
 use crate::tables::{antilog11, half11, log11};
 use field::solver::Quadratic;
@@ -48,7 +48,7 @@ pub fn root11(x: u16) -> u16
 // The roots of z^2 + az + b, as crate field's solver finds them.
 pub fn roots11(a: u16, b: u16) -> Quadratic
     requires { (a < 2048) × (b < 2048) }
-    ensures { rootsIn result ≡ rootsOfQuadratic (field_at 11) a b }
+    ensures { roots_in result ≡ roots_of_quadratic (field_at 11) a b }
 {
     let s = root11(b);
     if a == 0 {

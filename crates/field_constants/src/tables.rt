@@ -1,8 +1,8 @@
 // The log, the antilog and the half-root, each out of words of four entries in place.
 ghost use Rattle.std.specs.Prelude.{◌≡◌, ◌/◌, ◌<◌, get_or};
 ghost use Rattle.field.specs.Field.{field_at};
-ghost use Rattle.field.specs.Tables.{HalfRoot, logOf, antilogOf};
-ghost use Rattle.field_constants.specs.Words.{logWords, powerWords};
+ghost use Rattle.field.specs.Tables.{HalfRoot, log_of, antilog_of};
+ghost use Rattle.field_constants.specs.Words.{log_words, power_words};
 ghost use Rattle.field_constants.specs.Entries.{lane, folded};
 
 use crate::words::{
@@ -21,7 +21,7 @@ fn lane(w: u64, j: u16) -> u16
 // The word that holds the log of x.
 fn log_word(x: u16) -> u64
     requires { x < 2048 }
-    ensures { result ≡ get_or logWords (x / 4) 0 }
+    ensures { result ≡ get_or log_words (x / 4) 0 }
 {
     let l = x / 4 % 64;
     let h = x / 256 % 8;
@@ -41,7 +41,7 @@ fn log_word(x: u16) -> u64
 // The log of x: twice its position, or 1 where x is 0.
 pub fn log11(x: u16) -> u16
     requires { x < 2048 }
-    ensures { result ≡ logOf (field_at 11) x }
+    ensures { result ≡ log_of (field_at 11) x }
 {
     lane(log_word(x), x % 4)
 }
@@ -49,7 +49,7 @@ pub fn log11(x: u16) -> u16
 // The word that holds the power at j.
 fn power_word(j: u16) -> u64
     requires { j < 8192 }
-    ensures { result ≡ get_or powerWords (j / 64) 0 }
+    ensures { result ≡ get_or power_words (j / 64) 0 }
 {
     let l = j / 64 % 64;
     if j < 4096 {
@@ -70,7 +70,7 @@ pub fn folded(y: u32) -> u16
 // The antilog of a sum j of two logs: a^(j/2) where j is even, and 0 where it is odd.
 pub fn antilog11(j: u16) -> u16
     requires { j < 8188 }
-    ensures { result ≡ antilogOf (field_at 11) j }
+    ensures { result ≡ antilog_of (field_at 11) j }
 {
     if j % 2 == 1 {
         return 0;

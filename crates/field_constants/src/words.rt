@@ -1,12 +1,12 @@
 // Words of the tables, as constants in place: a match whose arms are numbers is a table in the program's read-only
 // part, and nothing is built at a call. Written by tools/constant_words.py.
 ghost use Rattle.std.specs.Prelude.{◌≡◌, ◌+◌, ◌<◌, get_or};
-ghost use Rattle.field_constants.specs.Words.{logWords, powerWords, lowWords, highWords};
+ghost use Rattle.field_constants.specs.Words.{log_words, power_words, low_words, high_words};
 
 // The words of the log table from 0 on.
 pub fn log_words0(l: u16) -> u64
     requires { l < 64 }
-    ensures { result ≡ get_or logWords (0 + l) 0 }
+    ensures { result ≡ get_or log_words (0 + l) 0 }
 {
     match l {
         0 => 579275510660464641,
@@ -80,7 +80,7 @@ pub fn log_words0(l: u16) -> u64
 // The words of the log table from 64 on.
 pub fn log_words1(l: u16) -> u64
     requires { l < 64 }
-    ensures { result ≡ get_or logWords (64 + l) 0 }
+    ensures { result ≡ get_or log_words (64 + l) 0 }
 {
     match l {
         0 => 501596500222541840,
@@ -154,7 +154,7 @@ pub fn log_words1(l: u16) -> u64
 // The words of the log table from 128 on.
 pub fn log_words2(l: u16) -> u64
     requires { l < 64 }
-    ensures { result ≡ get_or logWords (128 + l) 0 }
+    ensures { result ≡ get_or log_words (128 + l) 0 }
 {
     match l {
         0 => 267964564643643410,
@@ -228,7 +228,7 @@ pub fn log_words2(l: u16) -> u64
 // The words of the log table from 192 on.
 pub fn log_words3(l: u16) -> u64
     requires { l < 64 }
-    ensures { result ≡ get_or logWords (192 + l) 0 }
+    ensures { result ≡ get_or log_words (192 + l) 0 }
 {
     match l {
         0 => 604051648178423834,
@@ -302,7 +302,7 @@ pub fn log_words3(l: u16) -> u64
 // The words of the log table from 256 on.
 pub fn log_words4(l: u16) -> u64
     requires { l < 64 }
-    ensures { result ≡ get_or logWords (256 + l) 0 }
+    ensures { result ≡ get_or log_words (256 + l) 0 }
 {
     match l {
         0 => 578730127319236628,
@@ -376,7 +376,7 @@ pub fn log_words4(l: u16) -> u64
 // The words of the log table from 320 on.
 pub fn log_words5(l: u16) -> u64
     requires { l < 64 }
-    ensures { result ≡ get_or logWords (320 + l) 0 }
+    ensures { result ≡ get_or log_words (320 + l) 0 }
 {
     match l {
         0 => 267418785789902886,
@@ -450,7 +450,7 @@ pub fn log_words5(l: u16) -> u64
 // The words of the log table from 384 on.
 pub fn log_words6(l: u16) -> u64
     requires { l < 64 }
-    ensures { result ≡ get_or logWords (384 + l) 0 }
+    ensures { result ≡ get_or log_words (384 + l) 0 }
 {
     match l {
         0 => 578162435776317468,
@@ -524,7 +524,7 @@ pub fn log_words6(l: u16) -> u64
 // The words of the log table from 448 on.
 pub fn log_words7(l: u16) -> u64
     requires { l < 64 }
-    ensures { result ≡ get_or logWords (448 + l) 0 }
+    ensures { result ≡ get_or log_words (448 + l) 0 }
 {
     match l {
         0 => 577603050426862528,
@@ -598,7 +598,7 @@ pub fn log_words7(l: u16) -> u64
 // The words of the powers a^0, a^8, a^16, .. to a^4088 from 0 on.
 pub fn power_words0(l: u16) -> u64
     requires { l < 64 }
-    ensures { result ≡ get_or powerWords (0 + l) 0 }
+    ensures { result ≡ get_or power_words (0 + l) 0 }
 {
     match l {
         0 => 19140985627869185,
@@ -672,7 +672,7 @@ pub fn power_words0(l: u16) -> u64
 // The words of the powers a^0, a^8, a^16, .. to a^4088 from 64 on.
 pub fn power_words1(l: u16) -> u64
     requires { l < 64 }
-    ensures { result ≡ get_or powerWords (64 + l) 0 }
+    ensures { result ≡ get_or power_words (64 + l) 0 }
 {
     match l {
         0 => 38281971255738370,
@@ -746,7 +746,7 @@ pub fn power_words1(l: u16) -> u64
 // The words of the half-roots of 0 to 63 from 0 on.
 pub fn low_words(l: u16) -> u64
     requires { l < 16 }
-    ensures { result ≡ get_or lowWords (0 + l) 0 }
+    ensures { result ≡ get_or low_words (0 + l) 0 }
 {
     match l {
         0 => 20266507560812544,
@@ -772,7 +772,7 @@ pub fn low_words(l: u16) -> u64
 // The words of the half-roots of 0, 64, 128, .. to 1984 from 0 on.
 pub fn high_words(l: u16) -> u64
     requires { l < 8 }
-    ensures { result ≡ get_or highWords (0 + l) 0 }
+    ensures { result ≡ get_or high_words (0 + l) 0 }
 {
     match l {
         0 => 276410626183921664,

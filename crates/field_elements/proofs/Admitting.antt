@@ -15,7 +15,7 @@ use Rattle.refusals.specs.Order.{Given, Passed}
 use Rattle.refusals.specs.Order.Given.{here, later}
 use Rattle.refusals.specs.Order.Passed.{none}
 use Rattle.field.specs.Rows.{known, IsRow}
-use Rattle.refusals.specs.Admitting.{Admits, withTest}
+use Rattle.refusals.specs.Admitting.{Admits, with_test}
 use Rattle.field.specs.declared.rows.Row.{Row}
 use Rattle.refusals.specs.declared.Refusal.TheVariants.{Element, OfZero, Convention}
 use Rattle.refusals.specs.declared.Admission.{Admission}
@@ -23,7 +23,7 @@ use Rattle.refusals.specs.declared.Admission.TheVariants.{In, Out}
 use Rattle.refusals.proofs.Order.{holds, fails, passes, failed, others}
 use Rattle.refusals.proofs.Admitting.{admits-also}
 use Rattle.field.proofs.Known.{listed-on}
-use Rattle.field_elements.specs.Calls.{outside, pairTests, nonzeroTests, positionTests}
+use Rattle.field_elements.specs.Calls.{outside, pair_tests, nonzero_tests, position_tests}
 
 outside-on : {m a : ℕ} {row : Row} → IsRow m row → row.size ≤ a → outside m a ≡ true
 outside-on {m} {a} i h = le-leb (2 ^ m) a (subst (λ (n : ℕ). n ≤ a) i.size h)
@@ -43,11 +43,11 @@ or-failed true c e = absurd (let z : ◌≡◌ {A = Bool} true false = e in let 
 or-failed false c e = (refl, e)
 
 -- ---- two elements
-pub pair-outside : {m a b : ℕ} {row : Row} → IsRow m row → (row.size ≤ a) ⊎ ((a < row.size) × (row.size ≤ b)) → Given 4 (pairTests m a b)
+pub pair-outside : {m a b : ℕ} {row : Row} → IsRow m row → (row.size ≤ a) ⊎ ((a < row.size) × (row.size ≤ b)) → Given 4 (pair_tests m a b)
 pair-outside i (inl h) = fails (listed-on i) (holds (or_left _ (outside-on i h)))
 pair-outside i (inr h) = fails (listed-on i) (holds (or-second true (inside_on i h.0) (outside-on i h.1)))
 
-pub pair-in : {m a b : ℕ} {row : Row} → IsRow m row → (a < row.size) → (b < row.size) → Passed (pairTests m a b)
+pub pair-in : {m a b : ℕ} {row : Row} → IsRow m row → (a < row.size) → (b < row.size) → Passed (pair_tests m a b)
 pair-in i h k = passes (listed-on i) (passes (or-second false (inside_on i h) (inside_on i k)) none)
 
 -- what is known of two elements that were let in
@@ -56,7 +56,7 @@ pub record PairIn (m a b : ℕ) : Type 0 where
   pub first : a < 2 ^ m
   pub second : b < 2 ^ m
 
-pub pair-told : {m a b : ℕ} → Passed (pairTests m a b) → PairIn m a b
+pub pair-told : {m a b : ℕ} → Passed (pair_tests m a b) → PairIn m a b
 pair-told {m} {a} {b} p =
     let o = or-failed (outside m a) (outside m b) (failed (others p)) in
     record { field = not-false (known m) (failed p); first = leb-false (2 ^ m) a o.0; second = leb-false (2 ^ m) b o.1 }
@@ -67,9 +67,9 @@ or-twice true = refl
 or-twice false = refl
 
 -- the tests of a pair of it, and one behind them
-pub one-tests : (m a : ℕ) (found : Admission) {all : Admission} → Admits (pairTests m a a) found → all ≡ withTest found (eqb a 0) OfZero → Admits (nonzeroTests m a) all
+pub one-tests : (m a : ℕ) (found : Admission) {all : Admission} → Admits (pair_tests m a a) found → all ≡ with_test found (eqb a 0) OfZero → Admits (nonzero_tests m a) all
 one-tests m a found {all} h e =
-    subst (λ t. Admits ((1, not (known m)) ∷ (4, t) ∷ (13, eqb a 0) ∷ []) all) (or-twice (outside m a)) (admits-also (pairTests m a a) found (eqb a 0) OfZero e h)
+    subst (λ t. Admits ((1, not (known m)) ∷ (4, t) ∷ (13, eqb a 0) ∷ []) all) (or-twice (outside m a)) (admits-also (pair_tests m a a) found (eqb a 0) OfZero e h)
 
 -- what is known of an element that was let in
 pub record OneIn (m a : ℕ) : Type 0 where
@@ -77,7 +77,7 @@ pub record OneIn (m a : ℕ) : Type 0 where
   pub positive : 0 < a
   pub below : a < 2 ^ m
 
-pub one_told : {m a : ℕ} → Passed (nonzeroTests m a) → OneIn m a
+pub one_told : {m a : ℕ} → Passed (nonzero_tests m a) → OneIn m a
 one_told {m} {a} p =
     record {
       field = not-false (known m) (failed p);
@@ -92,15 +92,15 @@ behind-first e here = here
 behind-first e (later g) = later (fails e g)
 
 -- under a convention there are the tests of the element; what is none is turned away in every field that is known
-pub place-tests : (m r : ℕ) {v : ℕ} (a : Admission) → v ≤ 1 → Admits (nonzeroTests m r) a → Admits (positionTests m r v) a
+pub place-tests : (m r : ℕ) {v : ℕ} (a : Admission) → v ≤ 1 → Admits (nonzero_tests m r) a → Admits (position_tests m r v) a
 place-tests m r {v} In h p = passes (failed p) (passes (le-ltb 1 v h) (others p))
 place-tests m r {v} (Out k) h g = behind-first (le-ltb 1 v h) g
 
-pub place-unnamed : {m : ℕ} (r : ℕ) {v : ℕ} {row : Row} → IsRow m row → 1 < v → Given 21 (positionTests m r v)
+pub place-unnamed : {m : ℕ} (r : ℕ) {v : ℕ} {row : Row} → IsRow m row → 1 < v → Given 21 (position_tests m r v)
 place-unnamed r {v} i h = fails (listed-on i) (holds (lt-ltb 1 v h))
 
 -- what is known of an element and a convention that were let in
-pub place-told : {m a : ℕ} (v : ℕ) → Passed (positionTests m a v) → OneIn m a
+pub place-told : {m a : ℕ} (v : ℕ) → Passed (position_tests m a v) → OneIn m a
 place-told {m} {a} v p =
     record {
       field = not-false (known m) (failed p);

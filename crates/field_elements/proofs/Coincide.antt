@@ -8,35 +8,35 @@ use Prim.Native.Nat.{ℕ}
 use lib.ListN.{get_or}
 use Rattle.refusals.proofs.Numbers.{refused-back, accepted-back}
 use Rattle.refusals.proofs.Told.{told-by}
-use Rattle.field_elements.specs.Calls.{toldAnswer, toldQuadratic, TellsProduct, TellsInverse, TellsPosition, TellsQuadratic}
+use Rattle.field_elements.specs.Calls.{told_answer, told_quadratic, TellsProduct, TellsInverse, TellsPosition, TellsQuadratic}
 use Rattle.field_elements.specs.declared.Answer.{Answer}
 use Rattle.field_elements.specs.declared.Answer.TheVariants.{Value, Refused}
-use Rattle.field.specs.Quadratics.{rootsIn, timesIn, doubles}
+use Rattle.field.specs.Quadratics.{roots_in, times_in, doubles}
 use Rattle.field.specs.declared.solver.Quadratic.{Quadratic}
 use Rattle.field.specs.declared.solver.Quadratic.TheVariants.{NoRoot, Double, Two}
 use Rattle.field_elements.specs.declared.Roots.{Roots}
 use Rattle.field_elements.specs.declared.Roots.TheVariants.{Found, Refused as Turned}
 
 -- two answers with one number and value are one
-pub answer-told : (r s : Answer) → toldAnswer r ≡ toldAnswer s → r ≡ s
-answer-told = told-by toldAnswer (λ o. o.0) Refused (λ o. Value (get_or o.1 0 0))
+pub answer-told : (r s : Answer) → told_answer r ≡ told_answer s → r ≡ s
+answer-told = told-by told_answer (λ o. o.0) Refused (λ o. Value (get_or o.1 0 0))
     (elim [ Value v ↦ accepted-back Refused (Value v) | Refused k ↦ refused-back Refused (Value 0) k ])
 
 -- the roots in a list behind the number of double ones, taken back
-rootsFrom : List ℕ → Quadratic
-rootsFrom [] = NoRoot
-rootsFrom (d ∷ []) = NoRoot
-rootsFrom (d ∷ x ∷ []) = Double x
-rootsFrom (d ∷ x ∷ y ∷ l) = Two x y
+roots_from : List ℕ → Quadratic
+roots_from [] = NoRoot
+roots_from (d ∷ []) = NoRoot
+roots_from (d ∷ x ∷ []) = Double x
+roots_from (d ∷ x ∷ y ∷ l) = Two x y
 
-roots-back : (q : Quadratic) → rootsFrom (doubles (timesIn q) ∷ rootsIn q) ≡ q
-unfolding rootsFrom
+roots-back : (q : Quadratic) → roots_from (doubles (times_in q) ∷ roots_in q) ≡ q
+unfolding roots_from
 roots-back = elim [ NoRoot ↦ refl | Double x ↦ refl | Two x y ↦ refl ]
 
 -- two answers with one number and one list of roots are one
-pub roots-told : (r s : Roots) → toldQuadratic r ≡ toldQuadratic s → r ≡ s
-roots-told = told-by toldQuadratic (λ o. o.0) Turned (λ o. Found (rootsFrom o.1))
-    (elim [ Found q ↦ accepted-back Turned (Found (rootsFrom (doubles (timesIn q) ∷ rootsIn q))) ∙ ap Found (roots-back q) | Turned k ↦ refused-back Turned (Found (rootsFrom [])) k ])
+pub roots-told : (r s : Roots) → told_quadratic r ≡ told_quadratic s → r ≡ s
+roots-told = told-by told_quadratic (λ o. o.0) Turned (λ o. Found (roots_from o.1))
+    (elim [ Found q ↦ accepted-back Turned (Found (roots_from (doubles (times_in q) ∷ roots_in q))) ∙ ap Found (roots-back q) | Turned k ↦ refused-back Turned (Found (roots_from [])) k ])
 
 -- so for each call
 pub product-coincide : (m a b : ℕ) (r s : Answer) → TellsProduct m a b r → TellsProduct m a b s → r ≡ s

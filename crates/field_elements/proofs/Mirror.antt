@@ -17,16 +17,16 @@ use Rattle.algebra.specs.Field.{power}
 use Rattle.field.specs.Field.{Field, size, order, mul, inverse, position, numbers}
 use Rattle.field.proofs.Ring.{power-add, power-lt}
 use Rattle.field.proofs.Generator.{Generated, one_below, power-order, position-is, position-only, inverse-only}
-use Rattle.field_elements.specs.Calls.{positionUnder}
+use Rattle.field_elements.specs.Calls.{position_under}
 
 -- the exponent itself under 0
-pub goppa : (F : Field) (r v : ℕ) → v ≡ 0 → positionUnder v F r ≡ position F r
-unfolding positionUnder
+pub goppa : (F : Field) (r v : ℕ) → v ≡ 0 → position_under v F r ≡ position F r
+unfolding position_under
 goppa F r v h = ap (λ b. cond b (position F r) ((order F - position F r) % order F)) (eq-eqb v 0 h)
 
 -- mirrored under any other
-pub recorder : (F : Field) (r v : ℕ) → (v ≡ 0 → ⊥) → positionUnder v F r ≡ (order F - position F r) % order F
-unfolding positionUnder
+pub recorder : (F : Field) (r v : ℕ) → (v ≡ 0 → ⊥) → position_under v F r ≡ (order F - position F r) % order F
+unfolding position_under
 recorder F r v h = ap (λ b. cond b (position F r) ((order F - position F r) % order F)) (ne_eqb v 0 h)
 
 -- a place j and its mirror image among n places
@@ -41,8 +41,8 @@ mirrored-sum n j h = go (dec_lt 0 j)
         inl (omega arith)
 
 module _ (F : Field) (gen : Generated F) where
-  pub mirror-image : (r : ℕ) → 0 < r → r < size F → (positionUnder 0 F r + positionUnder 1 F r) % order F ≡ 0
-  unfolding positionUnder
+  pub mirror-image : (r : ℕ) → 0 < r → r < size F → (position_under 0 F r + position_under 1 F r) % order F ≡ 0
+  unfolding position_under
   mirror-image r h s = go (mirrored-sum (order F) j (position-is F gen r h s).0)
     where
       j : ℕ
@@ -53,8 +53,8 @@ module _ (F : Field) (gen : Generated F) where
       go (inl e) = ap (λ (n : ℕ). n % order F) e ∙ zero-mod (order F)
       go (inr e) = ap (λ (n : ℕ). n % order F) e ∙ mod_self (order F)
 
-  pub of-inverse : (r : ℕ) → 0 < r → r < size F → positionUnder 1 F r ≡ positionUnder 0 F (inverse F r)
-  unfolding positionUnder power
+  pub of-inverse : (r : ℕ) → 0 < r → r < size F → position_under 1 F r ≡ position_under 0 F (inverse F r)
+  unfolding position_under power
   of-inverse r h s = sym (position-only F gen (inverse F r) i below (sym (inverse-only F gen r (x i) h s (x_lt i) one)))
     where
       -- the powers of 2, the exponent j of r, and its mirror image i
@@ -86,13 +86,13 @@ module _ (F : Field) (gen : Generated F) where
           ∙ total (mirrored-sum (order F) j k.0)
 
   -- with X = 2^j: the root of z + X is X
-  pub goppa-place : (r j : ℕ) → j < order F → power (numbers F) 2 j ≡ r → positionUnder 0 F r ≡ j
-  unfolding positionUnder
+  pub goppa-place : (r j : ℕ) → j < order F → power (numbers F) 2 j ≡ r → position_under 0 F r ≡ j
+  unfolding position_under
   goppa-place r j l e = position-only F gen r j l e
 
   -- and the root of 1 + X z is the r with r X = 1
   pub recorder-place : (r j : ℕ) → 0 < r → r < size F → j < order F → mul F r (power (numbers F) 2 j) ≡ 1
-      → positionUnder 1 F r ≡ j
+      → position_under 1 F r ≡ j
   recorder-place r j h s l e =
       let i = inverse-only F gen r (power (numbers F) 2 j) h s (power-lt F gen.monic (one_below F gen) 2 j) e in
       of-inverse r h s ∙ goppa-place (inverse F r) j l (sym i)

@@ -1,6 +1,6 @@
 // The public element calls: product, inverse, position, quadratic (docs/RULES.md section 2). Each answers every input.
 ghost use Rattle.field_elements.specs.Calls.{TellsProduct, TellsInverse, TellsPosition, TellsQuadratic};
-ghost use Rattle.field_elements.specs.Calls.{pairTests, nonzeroTests, positionTests};
+ghost use Rattle.field_elements.specs.Calls.{pair_tests, nonzero_tests, position_tests};
 ghost use Rattle.refusals.specs.Admitting.{Admits};
 
 use field::rows::{FoundRow, row_of, size_of};
@@ -29,7 +29,7 @@ pub enum Roots {
 
 // The tests of the calls on two elements.
 fn admit_pair(m: u16, a: Element, b: Element) -> Admission
-    ensures { Admits (pairTests m a b) result }
+    ensures { Admits (pair_tests m a b) result }
 {
     let found = row_of(m);
     let FoundRow::At(row) = found else {
@@ -46,7 +46,7 @@ fn admit_pair(m: u16, a: Element, b: Element) -> Admission
 
 // The tests of the calls on one element that must not be 0: those of a pair of it, and one behind them.
 fn admit_nonzero(m: u16, a: Element) -> Admission
-    ensures { Admits (nonzeroTests m a) result }
+    ensures { Admits (nonzero_tests m a) result }
 {
     also(admit_pair(m, a, a), a == 0, Refusal::OfZero)
 }
@@ -73,7 +73,7 @@ pub fn inverse(m: u16, a: Element) -> Answer
 
 // The tests of the position call: those of an element that must not be 0, with the convention's behind the field's.
 fn admit_position(m: u16, r: Element, convention: u16) -> Admission
-    ensures { Admits (positionTests m r convention) result }
+    ensures { Admits (position_tests m r convention) result }
 {
     if convention <= 1 {
         return admit_nonzero(m, r);

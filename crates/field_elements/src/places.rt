@@ -2,7 +2,7 @@
 // that no table is built.
 ghost use Rattle.std.specs.Prelude.{◌≡◌, ◌<◌};
 ghost use Rattle.field.specs.Field.{field_at};
-ghost use Rattle.field_elements.specs.Calls.{positionUnder};
+ghost use Rattle.field_elements.specs.Calls.{position_under};
 
 use field_constants::tables::log11;
 use field_tables::field_types::F11;
@@ -13,7 +13,7 @@ const ORDER: u16 = F11::SIZE - 1;
 // The position of a root of field 11 under the recorders' convention.
 pub fn recorder_place11(r: u16) -> u16
     requires { (0 < r) × (r < 2048) }
-    ensures { result ≡ positionUnder 1 (field_at 11) r }
+    ensures { result ≡ position_under 1 (field_at 11) r }
 {
     (ORDER - log11(r) / 2) % ORDER
 }

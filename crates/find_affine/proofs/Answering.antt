@@ -18,10 +18,10 @@ use Rattle.refusals.specs.Order.{Passed}
 use Rattle.refusals.proofs.Order.{failed, others}
 use Rattle.slices.specs.Lists.{copied}
 use Rattle.slices.specs.Bounded.{all_below}
-use Rattle.slices.proofs.Bounded.{allBelow-exactly}
-use Rattle.find_affine.specs.Affine.{affineRoots, dimensionOf, spaceValues}
-use Rattle.find_affine.specs.Spaces.{spanned, dimensionBelow, Listed}
-use Rattle.find_affine.specs.Calls.{affineTests, Spannable, SpannedOut}
+use Rattle.slices.proofs.Bounded.{all_below-exactly}
+use Rattle.find_affine.specs.Affine.{affine_roots, dimension_of, space_values}
+use Rattle.find_affine.specs.Spaces.{spanned, dimension_below, Listed}
+use Rattle.find_affine.specs.Calls.{affine_tests, Spannable, SpannedOut}
 use Rattle.find_affine.specs.declared.Spanned.TheVariants.{NoRoot, Space}
 use Rattle.find_affine.proofs.ListLoops.{length-spanned, dimension-le}
 
@@ -34,41 +34,41 @@ same_power i j e = go (dec_lt i j) (dec_lt j i)
     go (no h) (yes d) = absurd (let a : 2 ^ j < 2 ^ i = pow-lt d in let z : ⊥ = omega arith in z)
     go (no h) (no d) = omega arith
 
-pub dimension-is : (m n k : ℕ) → n ≡ 2 ^ k → k ≤ m → dimensionOf m n ≡ k
-unfolding dimensionOf
+pub dimension-is : (m n k : ℕ) → n ≡ 2 ^ k → k ≤ m → dimension_of m n ≡ k
+unfolding dimension_of
 dimension-is m n k e h =
     first-only (λ i. eqb (2 ^ i) n) (suc m) k (let l : k < suc m = omega arith in l) (subst (λ a. T (eqb (2 ^ k) a)) (sym e) (eqb_refl (2 ^ k)))
     (λ i l t. same_power i k (eqb→eq (2 ^ i) n t ∙ e))
 
 module _ {m : ℕ} {cs : List ℕ} {constant : ℕ} {list : List ℕ} where
-  pub told_none : affineRoots m cs constant ≡ [] → SpannedOut m cs constant list NoRoot list
-  unfolding spaceValues copied
-  told_none e = record { told = sym (ap (λ l. (0, spaceValues m l)) e); slots = sym (ap (λ l. copied l list) e) }
+  pub told_none : affine_roots m cs constant ≡ [] → SpannedOut m cs constant list NoRoot list
+  unfolding space_values copied
+  told_none e = record { told = sym (ap (λ l. (0, space_values m l)) e); slots = sym (ap (λ l. copied l list) e) }
 
-  pub told-space : {vectors : List ℕ} {first d n : ℕ} {after : List ℕ} → affineRoots m cs constant ≡ spanned m vectors first
-      → Listed m vectors first list n after → d ≡ dimensionBelow m vectors → SpannedOut m cs constant list (Space d n) after
-  unfolding spaceValues
+  pub told-space : {vectors : List ℕ} {first d n : ℕ} {after : List ℕ} → affine_roots m cs constant ≡ spanned m vectors first
+      → Listed m vectors first list n after → d ≡ dimension_below m vectors → SpannedOut m cs constant list (Space d n) after
+  unfolding space_values
   told-space {vectors} {first} {d} {n} {after} e l f =
-      let c : length (spanned m vectors first) ≡ 2 ^ dimensionBelow m vectors = length-spanned m vectors first in
-      let some : length (spanned m vectors first) ≡ 0 → ⊥ = λ z. let p = pow_pos (dimensionBelow m vectors) in omega arith in
+      let c : length (spanned m vectors first) ≡ 2 ^ dimension_below m vectors = length-spanned m vectors first in
+      let some : length (spanned m vectors first) ≡ 0 → ⊥ = λ z. let p = pow_pos (dimension_below m vectors) in omega arith in
       record {
         told = sym (
-            ap (λ (s : List ℕ). (0, spaceValues m s)) e
-            ∙ ap (λ (b : Bool). (0, cond b (0 ∷ []) (length (spanned m vectors first) ∷ dimensionOf m (length (spanned m vectors first)) ∷ []))) (ne_eqb _ _ some)
-            ∙ ap₂ (λ (a b : ℕ). (0, a ∷ b ∷ [])) (sym l.count) (dimension-is m (length (spanned m vectors first)) (dimensionBelow m vectors) c (dimension-le m vectors) ∙ sym f)
+            ap (λ (s : List ℕ). (0, space_values m s)) e
+            ∙ ap (λ (b : Bool). (0, cond b (0 ∷ []) (length (spanned m vectors first) ∷ dimension_of m (length (spanned m vectors first)) ∷ []))) (ne_eqb _ _ some)
+            ∙ ap₂ (λ (a b : ℕ). (0, a ∷ b ∷ [])) (sym l.count) (dimension-is m (length (spanned m vectors first)) (dimension_below m vectors) c (dimension-le m vectors) ∙ sym f)
             );
         slots = l.slots ∙ sym (ap (λ (s : List ℕ). copied s list) e);
       }
 
 -- what was let in passed every test
-pub spannable : {m constant : ℕ} {cs list : List ℕ} → Passed (affineTests m cs constant (length list)) → Spannable m cs constant list
+pub spannable : {m constant : ℕ} {cs list : List ℕ} → Passed (affine_tests m cs constant (length list)) → Spannable m cs constant list
 spannable {m} {constant} {cs} {list} p =
     let q = others p in
     let r = others q in
     record {
       field = not-false _ (failed p);
       count = eqb-true (length cs) m (not-false _ (failed q));
-      small = (allBelow-exactly (2 ^ m) cs).0 (all-inside (all_below (2 ^ m) cs) (ltb constant (2 ^ m)) (failed r));
+      small = (all_below-exactly (2 ^ m) cs).0 (all-inside (all_below (2 ^ m) cs) (ltb constant (2 ^ m)) (failed r));
       element = ltb-true constant (2 ^ m) (inside (all_below (2 ^ m) cs) (ltb constant (2 ^ m)) (failed r));
       room = ltb-false (length list) (2 ^ m) (failed (others r));
     }

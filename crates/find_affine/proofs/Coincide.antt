@@ -18,52 +18,52 @@ use Rattle.refusals.proofs.Order.{cases, refused, accepted}
 use Rattle.refusals.proofs.Numbers.{by_number, refused-back, accepted-back}
 use Rattle.refusals.proofs.Told.{way_back, coincide}
 use Rattle.slices.specs.Lists.{copied}
-use Rattle.find_affine.specs.Affine.{affineRoots, dimensionOf, spaceValues}
-use Rattle.find_affine.specs.Calls.{toldSpanned, affineOutcome, affineTests, Spans}
+use Rattle.find_affine.specs.Affine.{affine_roots, dimension_of, space_values}
+use Rattle.find_affine.specs.Calls.{told_spanned, affine_outcome, affine_tests, Spans}
 use Rattle.find_affine.specs.declared.Spanned.{Spanned}
 use Rattle.find_affine.specs.declared.Spanned.TheVariants.{NoRoot, Space, NotSpanned}
 
 -- one value is "none", two are a space
-spaceBack : List ℕ → Spanned
-spaceBack [] = NoRoot
-spaceBack (n ∷ []) = NoRoot
-spaceBack (n ∷ k ∷ l) = Space k n
+space_back : List ℕ → Spanned
+space_back [] = NoRoot
+space_back (n ∷ []) = NoRoot
+space_back (n ∷ k ∷ l) = Space k n
 
-spannedOf : ℕ × List ℕ → Spanned
-spannedOf o = by_number NotSpanned (spaceBack o.1) o.0
+spanned_of : ℕ × List ℕ → Spanned
+spanned_of o = by_number NotSpanned (space_back o.1) o.0
 
 -- it takes number and values back
-spanned-back : (r : Spanned) → spannedOf (toldSpanned r) ≡ r
-unfolding spannedOf spaceBack
+spanned-back : (r : Spanned) → spanned_of (told_spanned r) ≡ r
+unfolding spanned_of space_back
 spanned-back NoRoot = accepted-back NotSpanned NoRoot
 spanned-back (Space k n) = accepted-back NotSpanned (Space k n)
 spanned-back (NotSpanned k) = refused-back NotSpanned NoRoot k
 
-pub spanned-told : (r s : Spanned) → toldSpanned r ≡ toldSpanned s → r ≡ s
-spanned-told = way_back toldSpanned spannedOf spanned-back
+pub spanned-told : (r s : Spanned) → told_spanned r ≡ told_spanned s → r ≡ s
+spanned-told = way_back told_spanned spanned_of spanned-back
 
 -- the answer and the lent list
 pub affine-coincide : (m : ℕ) (cs : List ℕ) (constant : ℕ) (list : List ℕ) (r s : Spanned) (x y : List ℕ)
     → Spans m cs constant list r x → Spans m cs constant list s y → (r ≡ s) × (x ≡ y)
 affine-coincide m cs constant list =
-    coincide toldSpanned spanned-told (affineOutcome m cs constant list)
-    (memory (affineTests m cs constant (length list)) (copied (affineRoots m cs constant) list) list)
+    coincide told_spanned spanned-told (affine_outcome m cs constant list)
+    (memory (affine_tests m cs constant (length list)) (copied (affine_roots m cs constant) list) list)
 
 -- a space has at least one root
 pub space-counted : (m : ℕ) (cs : List ℕ) (constant : ℕ) (list : List ℕ) (k n : ℕ) (after : List ℕ) → Spans m cs constant list (Space k n) after → 0 < n
-unfolding spaceValues
-space-counted m cs constant list k n after h = go (cases (affineTests m cs constant (length list)))
+unfolding space_values
+space-counted m cs constant list k n after h = go (cases (affine_tests m cs constant (length list)))
   where
     roots : List ℕ
-    roots = affineRoots m cs constant
+    roots = affine_roots m cs constant
 
-    by_values : (b : Bool) → (b ≡ false → length roots ≡ 0 → ⊥) → n ∷ k ∷ [] ≡ cond b (0 ∷ []) (length roots ∷ dimensionOf m (length roots) ∷ []) → 0 < n
+    by_values : (b : Bool) → (b ≡ false → length roots ≡ 0 → ⊥) → n ∷ k ∷ [] ≡ cond b (0 ∷ []) (length roots ∷ dimension_of m (length roots) ∷ []) → 0 < n
     by_values true d e = absurd (let z : ◌≡◌ {A = ℕ} 2 1 = ap length e in let b : ⊥ = omega arith in b)
     by_values false d e =
         let f : n ≡ length roots = ap (λ (l : List ℕ). get_or l 0 0) e in
         let o = d refl in
         omega arith
 
-    go : ((j : ℕ) × Given j (affineTests m cs constant (length list))) ⊎ Passed (affineTests m cs constant (length list)) → 0 < n
+    go : ((j : ℕ) × Given j (affine_tests m cs constant (length list))) ⊎ Passed (affine_tests m cs constant (length list)) → 0 < n
     go (inl g) = absurd (let z : ◌≡◌ {A = ℕ} 2 0 = ap (λ (o : ℕ × List ℕ). length o.1) (h.0 ∙ refused _ g.1) in let b : ⊥ = omega arith in b)
     go (inr p) = by_values (eqb (length roots) 0) (eqb-false (length roots) 0) (ap (λ (o : ℕ × List ℕ). o.1) (h.0 ∙ accepted _ p))

@@ -14,14 +14,14 @@ use lib.Dec.{eqb}
 use lib.ListN.{replicate}
 use Rattle.algebra.specs.Field.{power}
 use Rattle.algebra.specs.Trial.{up_from}
-use Rattle.algebra.specs.Polynomial.{eval, rootsOf}
-use Rattle.algebra.proofs.Trial.{keep_same, upFrom-all}
+use Rattle.algebra.specs.Polynomial.{eval, roots_of}
+use Rattle.algebra.proofs.Trial.{keep_same, up_from-all}
 use Rattle.field.specs.Rows.{known}
-use Rattle.field.specs.Field.{field_at, mul, G, numbers, rootsAt}
+use Rattle.field.specs.Field.{field_at, mul, G, numbers, roots_at}
 use Rattle.field.proofs.Known.{listed}
 use Rattle.field.proofs.Ring.{ring, power-add}
 use Rattle.field.proofs.Generator.{generated, one_below}
-use Rattle.find_affine.specs.Affine.{termsAt, value_at, affineRoots, spread, dense}
+use Rattle.find_affine.specs.Affine.{terms_at, value_at, affine_roots, spread, dense}
 
 module _ (m : ℕ) (k : known m ≡ true) where
   open ring (field_at m) (generated (listed m k)).monic use {mul_comm, mul_assoc, mul-xor-r, mul-zero-l, mul-one-r, mul-lt}
@@ -38,8 +38,8 @@ module _ (m : ℕ) (k : known m ≡ true) where
       ap (mul (field_at m) y) (xor_zero_l (mul (field_at m) x (eval (G m) (replicate n 0 ++ p) x))) ∙ sym (mul_assoc y x (eval (G m) (replicate n 0 ++ p) x))
       ∙ zeros-value n p x (mul (field_at m) y x) (mul-lt y x) ∙ ap (λ a. mul (field_at m) a (eval (G m) p x)) (mul_assoc y x (pow x n))
 
-  spread-value : (cs : List ℕ) (n x : ℕ) → mul (field_at m) (pow x (suc n)) (eval (G m) (spread n cs) x) ≡ termsAt m cs (pow x (suc n))
-  unfolding eval power spread termsAt
+  spread-value : (cs : List ℕ) (n x : ℕ) → mul (field_at m) (pow x (suc n)) (eval (G m) (spread n cs) x) ≡ terms_at m cs (pow x (suc n))
+  unfolding eval power spread terms_at
   spread-value [] n x = mul_comm (pow x (suc n)) 0 ∙ mul-zero-l (pow x (suc n))
   spread-value (c ∷ cs) n x =
       let y = pow x (suc n) in
@@ -48,7 +48,7 @@ module _ (m : ℕ) (k : known m ≡ true) where
       ∙ ap₂ bit_xor (mul_comm y c)
       (sym (mul_assoc y x r) ∙ zeros-value n (spread (n + suc n) cs) x (mul (field_at m) y x) (mul-lt y x)
       ∙ ap (λ a. mul (field_at m) a (eval (G m) (spread (n + suc n) cs) x)) (mul_assoc y x (pow x n) ∙ square)
-      ∙ spread-value cs (n + suc n) x ∙ ap (termsAt m cs) (sym square))
+      ∙ spread-value cs (n + suc n) x ∙ ap (terms_at m cs) (sym square))
     where
       square : mul (field_at m) (pow x (suc n)) (pow x (suc n)) ≡ pow x (suc (n + suc n))
       square =
@@ -59,27 +59,27 @@ module _ (m : ℕ) (k : known m ≡ true) where
   unfolding eval power
   dense-value cs constant x h =
       let e : pow x 1 ≡ x = mul-one-r x h in
-      ap (bit_xor constant) (subst (λ y. mul (field_at m) y (eval (G m) (spread 0 cs) x) ≡ termsAt m cs y) e (spread-value cs 0 x))
+      ap (bit_xor constant) (subst (λ y. mul (field_at m) y (eval (G m) (spread 0 cs) x) ≡ terms_at m cs y) e (spread-value cs 0 x))
 
   -- the dense list has the same roots
-  pub affine-one : (cs : List ℕ) (constant : ℕ) → rootsAt m (dense cs constant) ≡ affineRoots m cs constant
-  unfolding rootsOf affineRoots
+  pub affine-one : (cs : List ℕ) (constant : ℕ) → roots_at m (dense cs constant) ≡ affine_roots m cs constant
+  unfolding roots_of affine_roots
   affine-one cs constant =
       keep_same (λ x. eqb (eval (G m) (dense cs constant) x) 0) (λ x. eqb (value_at m cs constant x) 0) (up_from 0 (2 ^ m))
-      (upFrom-all (λ x. eqb (eval (G m) (dense cs constant) x) 0 ≡ eqb (value_at m cs constant x) 0) 0 (2 ^ m)
+      (up_from-all (λ x. eqb (eval (G m) (dense cs constant) x) 0 ≡ eqb (value_at m cs constant x) 0) 0 (2 ^ m)
       (λ x a b. ap (λ y. eqb y 0) (dense-value cs constant x (let l : x < 2 ^ m = omega arith in l))))
 
   -- zeros behind the coefficients
-  terms-zeros : (cs : List ℕ) (n x : ℕ) → termsAt m (cs ++ replicate n 0) x ≡ termsAt m cs x
-  unfolding termsAt
+  terms-zeros : (cs : List ℕ) (n x : ℕ) → terms_at m (cs ++ replicate n 0) x ≡ terms_at m cs x
+  unfolding terms_at
   terms-zeros [] zero x = refl
   terms-zeros [] (suc n) x = ap₂ bit_xor (mul-zero-l x) (terms-zeros [] n (mul (field_at m) x x))
   terms-zeros (c ∷ cs) n x = ap (bit_xor (mul (field_at m) c x)) (terms-zeros cs n (mul (field_at m) x x))
 
-  pub affine-within : (cs : List ℕ) (n constant : ℕ) → rootsAt m (dense cs constant) ≡ affineRoots m (cs ++ replicate n 0) constant
-  unfolding affineRoots
+  pub affine-within : (cs : List ℕ) (n constant : ℕ) → roots_at m (dense cs constant) ≡ affine_roots m (cs ++ replicate n 0) constant
+  unfolding affine_roots
   affine-within cs n constant =
       affine-one cs constant
       ∙ keep_same (λ x. eqb (value_at m cs constant x) 0) (λ x. eqb (value_at m (cs ++ replicate n 0) constant x) 0) (up_from 0 (2 ^ m))
-      (upFrom-all (λ x. eqb (value_at m cs constant x) 0 ≡ eqb (value_at m (cs ++ replicate n 0) constant x) 0) 0 (2 ^ m)
+      (up_from-all (λ x. eqb (value_at m cs constant x) 0 ≡ eqb (value_at m (cs ++ replicate n 0) constant x) 0) 0 (2 ^ m)
       (λ x a b. ap (λ y. eqb (bit_xor constant y) 0) (sym (terms-zeros cs n x))))

@@ -20,7 +20,7 @@ use lib.Seq.{length-take-le, get_or-take, take-suc, drop-cons, set_at, drop-set-
 use Rattle.slices.specs.Lists.{copied}
 use Rattle.slices.proofs.Lists.{copied-front, copied_behind}
 use Rattle.input.specs.Limit.{widest}
-use Rattle.find_affine.specs.Spaces.{grown, spanned, dimensionBelow, Grown, Listed}
+use Rattle.find_affine.specs.Spaces.{grown, spanned, dimension_below, Grown, Listed}
 
 -- ---- doubling
 
@@ -111,24 +111,24 @@ length-grown v l = go (eqb v 0)
     go true = refl
     go false = length-append l (map (bit_xor v) l) ∙ ap (λ n. length l + n) (length-map l (bit_xor v))
 
-pub length-spanned : (n : ℕ) (vs : List ℕ) (first : ℕ) → length (spanned n vs first) ≡ 2 ^ dimensionBelow n vs
-unfolding spanned dimensionBelow
+pub length-spanned : (n : ℕ) (vs : List ℕ) (first : ℕ) → length (spanned n vs first) ≡ 2 ^ dimension_below n vs
+unfolding spanned dimension_below
 length-spanned zero vs first = refl
 length-spanned (suc n) vs first =
     length-grown (get_or vs n 0) (spanned n vs first) ∙ go (eqb (get_or vs n 0) 0) (length-spanned n vs first)
   where
-    go : (b : Bool) → length (spanned n vs first) ≡ 2 ^ dimensionBelow n vs
+    go : (b : Bool) → length (spanned n vs first) ≡ 2 ^ dimension_below n vs
         → cond b (length (spanned n vs first)) (length (spanned n vs first) + length (spanned n vs first))
-        ≡ 2 ^ cond b (dimensionBelow n vs) (suc (dimensionBelow n vs))
+        ≡ 2 ^ cond b (dimension_below n vs) (suc (dimension_below n vs))
     go true e = e
-    go false e = ap₂ (λ a b. a + b) e e ∙ sym (two-pow-succ (dimensionBelow n vs))
+    go false e = ap₂ (λ a b. a + b) e e ∙ sym (two-pow-succ (dimension_below n vs))
 
-pub dimension-le : (n : ℕ) (vs : List ℕ) → dimensionBelow n vs ≤ n
-unfolding dimensionBelow
+pub dimension-le : (n : ℕ) (vs : List ℕ) → dimension_below n vs ≤ n
+unfolding dimension_below
 dimension-le zero vs = omega arith
 dimension-le (suc n) vs = go (eqb (get_or vs n 0) 0) (dimension-le n vs)
   where
-    go : (b : Bool) → dimensionBelow n vs ≤ n → cond b (dimensionBelow n vs) (suc (dimensionBelow n vs)) ≤ suc n
+    go : (b : Bool) → dimension_below n vs ≤ n → cond b (dimension_below n vs) (suc (dimension_below n vs)) ≤ suc n
     go true h = omega arith
     go false h = omega arith
 
@@ -206,21 +206,21 @@ listing-few {vs} {first} {s₀} {s} {k} {j} {n} l h r =
 -- ---- the dimension
 
 pub record Counting (vs : List ℕ) (k j : ℕ) : Type 0 where
-  pub count : k ≡ dimensionBelow j vs
+  pub count : k ≡ dimension_below j vs
   pub few : k ≤ j
 
 pub counting-from : (vs : List ℕ) → Counting vs 0 0
-unfolding dimensionBelow
+unfolding dimension_below
 counting-from vs = record { count = refl; few = omega arith }
 
 pub counting-yes : {vs : List ℕ} {k j : ℕ} → Counting vs k j → (get_or vs j 0 ≡ 0 → ⊥) → Counting vs (k + 1) (j + 1)
-unfolding dimensionBelow
+unfolding dimension_below
 counting-yes {vs} {k} {j} c n =
     let f = c.few in
     record { count = rw (add-one k, add-one j, ne_eqb (get_or vs j 0) 0 n) (ap suc c.count); few = omega arith }
 
 pub counting-no : {vs : List ℕ} {k j : ℕ} → Counting vs k j → get_or vs j 0 ≡ 0 → Counting vs k (j + 1)
-unfolding dimensionBelow
+unfolding dimension_below
 counting-no {vs} {k} {j} c e =
     let f = c.few in
     record { count = rw (add-one, eq-eqb (get_or vs j 0) 0 e) c.count; few = omega arith }

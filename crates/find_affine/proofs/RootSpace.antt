@@ -24,10 +24,10 @@ use Rattle.field.proofs.Digits.{digit-mul-le}
 use Rattle.field.proofs.Xor.{xor_assoc, xor-cancel}
 use Rattle.field.proofs.Additive.{additive-zero}
 use Rattle.input.specs.Limit.{widest}
-use Rattle.find_affine.specs.Affine.{termsAt, value_at, affineRoots}
-use Rattle.find_affine.specs.Systems.{Imaged, Rowed, Units, digitRow, row_at, vectorsAfter}
+use Rattle.find_affine.specs.Affine.{terms_at, value_at, affine_roots}
+use Rattle.find_affine.specs.Systems.{Imaged, Rowed, Units, digit_row, row_at, vectors_after}
 use Rattle.find_affine.specs.Spaces.{spanned}
-use Rattle.find_affine.proofs.Maps.{digitOf, digit-xor, digit-power, digit-zero, sumOver}
+use Rattle.find_affine.proofs.Maps.{digit_of, digit-xor, digit-power, digit-zero, sum_over}
 use Rattle.find_affine.proofs.Turns.{Projects, lead-lt, units-project}
 use Rattle.find_affine.proofs.Vectors.{Reached, reached-after}
 use Rattle.find_affine.proofs.Sums.{spanned-all, spanned-member, spanned-ascending}
@@ -55,21 +55,21 @@ module _ {m : ℕ} (k : known m ≡ true) (fits : m ≤ widest) {cs images units
           let l : m < j = omega arith in
           i.zeros j l ∙ sym (additive-zero A (marked-xor m k cs constant)) ∙ ap A (sym (u.zeros j l))
 
-  row_is : (n : ℕ) → n < m → row_at n rows ≡ digitRow n images
+  row_is : (n : ℕ) → n < m → row_at n rows ≡ digit_row n images
   row_is n h = r.row n (omega arith)
 
-  entry : (n j : ℕ) → n < m → get_or (row_at n rows) j 0 ≡ digitOf n (A (get_or units j 0))
+  entry : (n j : ℕ) → n < m → get_or (row_at n rows) j 0 ≡ digit_of n (A (get_or units j 0))
   entry n j h =
-      ap (λ l. get_or l j 0) (row_is n h) ∙ ap (get_or (digitRow n images) j) (sym (ap (λ a. a % 2) (zero-div (2 ^ n)))) ∙ get_or-map (digitOf n) images j 0
-      ∙ ap (digitOf n) (image j)
+      ap (λ l. get_or l j 0) (row_is n h) ∙ ap (get_or (digit_row n images) j) (sym (ap (λ a. a % 2) (zero-div (2 ^ n)))) ∙ get_or-map (digit_of n) images j 0
+      ∙ ap (digit_of n) (image j)
 
   wide : (n : ℕ) → n < m → length (row_at n rows) ≡ length units
-  wide n h = ap length (row_is n h) ∙ length-map images (digitOf n) ∙ i.long ∙ sym u.long
+  wide n h = ap length (row_is n h) ∙ length-map images (digit_of n) ∙ i.long ∙ sym u.long
 
   start : Reached A m 0 rows units
   start = record { holds = record { wide = wide; entry = entry }; projects = units-project A m (λ j. get_or units j 0) u.unit u.zeros }
 
-  pub left_by : {vectors : List ℕ} → vectors ≡ vectorsAfter m rows units → Left m cs constant vectors
+  pub left_by : {vectors : List ℕ} → vectors ≡ vectors_after m rows units → Left m cs constant vectors
   left_by e =
       let r = reached-after A (marked-xor m k cs constant) m start m (let h : m ≤ m = omega arith in h) in
       record { projects = subst (λ l. Projects A m m (λ j. get_or l j 0)) (sym e) r.projects }
@@ -90,48 +90,48 @@ module _ {m : ℕ} (k : known m ≡ true) {cs vectors : List ℕ} {constant : �
   below : (j : ℕ) → j < m → v j < 2 ^ m
   below j h = lead-lt j m (left.projects.lead j) h
 
-  no-terms : (j : ℕ) → j < m → termsAt m cs (v j) ≡ 0
+  no-terms : (j : ℕ) → j < m → terms_at m cs (v j) ≡ 0
   no-terms j h = sym (marked-low m k cs constant (v j) (below j h)) ∙ no-image j
 
   -- a sum of unmarked vectors has no mark
-  sum_lt : (n e : ℕ) → n ≤ m → sumOver n v e < 2 ^ m
-  unfolding sumOver
+  sum_lt : (n e : ℕ) → n ≤ m → sum_over n v e < 2 ^ m
+  unfolding sum_over
   sum_lt zero e h = pow_pos m
   sum_lt (suc n) e h =
       let a = below n h in
-      let b : digitOf n e * v n < 2 ^ m = omega (arith, digit-mul-le (e / 2 ^ n) (v n)) in
-      xor_lt m (sumOver n v e) (digitOf n e * v n) (sum_lt n e (omega arith)) b
+      let b : digit_of n e * v n < 2 ^ m = omega (arith, digit-mul-le (e / 2 ^ n) (v n)) in
+      xor_lt m (sum_over n v e) (digit_of n e * v n) (sum_lt n e (omega arith)) b
 
   -- a root with the mark is the sum of the vectors over its digits
   module _ (x : ℕ) (h : x < 2 ^ m) (z : value_at m cs constant x ≡ 0) where
     abbrev e : ℕ
     e = bit_xor (2 ^ m) x
 
-    mark : digitOf m e ≡ 1
+    mark : digit_of m e ≡ 1
     mark = digit-xor m (2 ^ m) x ∙ ap₂ (λ a b. bit_xor (a % 2) (b % 2)) (div_self (pow_pos m)) (div-eq_of_lt h)
 
     image-zero : B e ≡ 0
     image-zero = marked-xor m k cs constant (2 ^ m) x ∙ ap₂ bit_xor (marked-top m k cs constant) (marked-low m k cs constant x h) ∙ z
 
-    is_sum : bit_xor (sumOver m v e) (v m) ≡ e
-    unfolding sumOver
+    is_sum : bit_xor (sum_over m v e) (v m) ≡ e
+    unfolding sum_over
     is_sum =
-        ap (bit_xor (sumOver m v e)) (sym (one-mul (v m)) ∙ ap (λ d. d * v m) (sym mark))
+        ap (bit_xor (sum_over m v e)) (sym (one-mul (v m)) ∙ ap (λ d. d * v m) (sym mark))
         ∙ left.projects.fixes e (xor_lt (suc m) (2 ^ m) x (pow-lt (let l : m < suc m = omega arith in l)) (let l : 2 ^ m < 2 ^ suc m = pow-lt (let l : m < suc m = omega arith in l) in omega arith))
-        (λ n l. ap (digitOf n) image-zero ∙ ap (λ a. a % 2) (zero-div (2 ^ n)))
+        (λ n l. ap (digit_of n) image-zero ∙ ap (λ a. a % 2) (zero-div (2 ^ n)))
 
     -- with no marked vector there is none
     no-root : v m ≡ 0 → ⊥
     no-root n =
-        let a : sumOver m v e ≡ e = sym (xor_zero_r (sumOver m v e)) ∙ ap (bit_xor (sumOver m v e)) (sym n) ∙ is_sum in
-        let b : ◌≡◌ {A = ℕ} 0 1 = sym (ap (λ q. q % 2) (div-eq_of_lt (sum_lt m e (let l : m ≤ m = omega arith in l)))) ∙ ap (digitOf m) a ∙ mark in
+        let a : sum_over m v e ≡ e = sym (xor_zero_r (sum_over m v e)) ∙ ap (bit_xor (sum_over m v e)) (sym n) ∙ is_sum in
+        let b : ◌≡◌ {A = ℕ} 0 1 = sym (ap (λ q. q % 2) (div-eq_of_lt (sum_lt m e (let l : m ≤ m = omega arith in l)))) ∙ ap (digit_of m) a ∙ mark in
         let c : ⊥ = omega arith in c
 
     -- without the mark
-    root_is : bit_xor (bit_xor (v m) (2 ^ m)) (sumOver m v e) ≡ x
+    root_is : bit_xor (bit_xor (v m) (2 ^ m)) (sum_over m v e) ≡ x
     root_is =
-        ap (λ a. bit_xor a (sumOver m v e)) (xor_comm (v m) (2 ^ m)) ∙ xor_assoc (2 ^ m) (v m) (sumOver m v e)
-        ∙ ap (bit_xor (2 ^ m)) (xor_comm (v m) (sumOver m v e) ∙ is_sum) ∙ xor-cancel (2 ^ m) x
+        ap (λ a. bit_xor a (sum_over m v e)) (xor_comm (v m) (2 ^ m)) ∙ xor_assoc (2 ^ m) (v m) (sum_over m v e)
+        ∙ ap (bit_xor (2 ^ m)) (xor_comm (v m) (sum_over m v e) ∙ is_sum) ∙ xor-cancel (2 ^ m) x
 
   root-test : (x : ℕ) → T (eqb (value_at m cs constant x) 0) → value_at m cs constant x ≡ 0
   root-test x t = eqb→eq (value_at m cs constant x) 0 t
@@ -139,8 +139,8 @@ module _ {m : ℕ} (k : known m ≡ true) {cs vectors : List ℕ} {constant : �
   test-root : {a : ℕ} → a ≡ 0 → T (eqb a 0)
   test-root {a} z = subst (λ b. T (eqb b 0)) (sym z) (eqb_refl 0)
 
-  pub roots-none : v m ≡ 0 → affineRoots m cs constant ≡ []
-  unfolding affineRoots
+  pub roots-none : v m ≡ 0 → affine_roots m cs constant ≡ []
+  unfolding affine_roots
   roots-none n =
       kept-only (λ x. eqb (value_at m cs constant x) 0) (2 ^ m) [] tt
       (λ x. (λ i. absurd (Memᴰ.not-nil i), λ h. absurd (no-root x h.0 (root-test x h.1) n)))
@@ -173,7 +173,7 @@ module _ {m : ℕ} (k : known m ≡ true) {cs vectors : List ℕ} {constant : �
     more-root : (j : ℕ) → j < m → (x : ℕ) → Root x → Root (bit_xor (v j) x)
     more-root j h x r = (
       xor_lt m (v j) x (below j h) r.0,
-      ap (bit_xor constant) (terms-xor m k cs (v j) x ∙ ap (λ a. bit_xor a (termsAt m cs x)) (no-terms j h) ∙ xor_zero_l (termsAt m cs x)) ∙ r.1,
+      ap (bit_xor constant) (terms-xor m k cs (v j) x ∙ ap (λ a. bit_xor a (terms_at m cs x)) (no-terms j h) ∙ xor_zero_l (terms_at m cs x)) ∙ r.1,
     )
 
     all-roots : All Root (spanned m vectors first)
@@ -184,8 +184,8 @@ module _ {m : ℕ} (k : known m ≡ true) {cs vectors : List ℕ} {constant : �
         spanned-ascending vectors left.projects.lead left.projects.apart m first
         (λ j h n. digit-xor j (v m) (2 ^ m) ∙ ap₂ bit_xor (left.projects.apart j m h n) (digit-power j m h))
 
-    pub roots-some : affineRoots m cs constant ≡ spanned m vectors first
-    unfolding affineRoots
+    pub roots-some : affine_roots m cs constant ≡ spanned m vectors first
+    unfolding affine_roots
     roots-some =
         kept-only (λ x. eqb (value_at m cs constant x) 0) (2 ^ m) (spanned m vectors first) ascending
         (λ x. (

@@ -28,9 +28,9 @@ use Rattle.field.proofs.Known.{by_row, listed}
 use Rattle.field.proofs.Xor.{xor_assoc}
 use Rattle.field.proofs.Ring.{mul-lt, mul_comm}
 use Rattle.field.proofs.Generator.{Generated, generated, zero-product}
-use Rattle.find_affine.specs.Affine.{termsAt}
+use Rattle.find_affine.specs.Affine.{terms_at}
 use Rattle.input.specs.Limit.{widest}
-use Rattle.find_affine.specs.Systems.{columns, pivotOf, swept, sweptBy, rowsAfter, vectorsAfter, digitRow, Imaged, Units, Rowed}
+use Rattle.find_affine.specs.Systems.{columns, pivot_of, swept, swept_by, rows_after, vectors_after, digit_row, Imaged, Units, Rowed}
 
 -- ---- a list mapped in place
 
@@ -109,27 +109,27 @@ swept_none (b ∷ by) (a ∷ s) = ap₂ (λ (x : ℕ) (l : List ℕ). x ∷ l) (
 -- the pivot of the row is that of what lies ahead
 pub record Seeking (row : List ℕ) (k : ℕ) : Type 0 where
   pub within : k ≤ length row
-  pub same : pivotOf row ≡ k + pivotOf (drop k row)
+  pub same : pivot_of row ≡ k + pivot_of (drop k row)
 
 pub seeking-from : (row : List ℕ) → Seeking row 0
 seeking-from row = record { within = omega arith; same = omega arith }
 
 pub seeking-on : {row : List ℕ} {k : ℕ} → Seeking row k → k < length row → get_or row k 0 ≡ 0 → Seeking row (k + 1)
-unfolding pivotOf
+unfolding pivot_of
 seeking-on {row} {k} p h z =
-    let e : pivotOf (drop k row) ≡ suc (pivotOf (drop (k + 1) row)) = rw (add-one, drop-cons row k 0 h, eq-eqb (get_or row k 0) 0 z) in
+    let e : pivot_of (drop k row) ≡ suc (pivot_of (drop (k + 1) row)) = rw (add-one, drop-cons row k 0 h, eq-eqb (get_or row k 0) 0 z) in
     record { within = omega arith; same = omega (arith, p.same) }
 
-pub seeking-stop : {row : List ℕ} {k : ℕ} → Seeking row k → k < length row → (get_or row k 0 ≡ 0 → ⊥) → k ≡ pivotOf row
-unfolding pivotOf
+pub seeking-stop : {row : List ℕ} {k : ℕ} → Seeking row k → k < length row → (get_or row k 0 ≡ 0 → ⊥) → k ≡ pivot_of row
+unfolding pivot_of
 seeking-stop {row} {k} p h n =
-    let e : pivotOf (drop k row) ≡ 0 = rw (drop-cons row k 0 h, ne_eqb (get_or row k 0) 0 n) in
+    let e : pivot_of (drop k row) ≡ 0 = rw (drop-cons row k 0 h, ne_eqb (get_or row k 0) 0 n) in
     omega (arith, p.same)
 
-pub seeking-end : {row : List ℕ} {k : ℕ} → Seeking row k → length row ≤ k → k ≡ pivotOf row
-unfolding pivotOf
+pub seeking-end : {row : List ℕ} {k : ℕ} → Seeking row k → length row ≤ k → k ≡ pivot_of row
+unfolding pivot_of
 seeking-end {row} {k} p h =
-    let e : pivotOf (drop k row) ≡ 0 = rw (drop_of_length-le row {i = k} h) in
+    let e : pivot_of (drop k row) ≡ 0 = rw (drop_of_length-le row {i = k} h) in
     omega (arith, p.same)
 
 -- ---- entries filled in
@@ -175,7 +175,7 @@ pub units-end : {n j : ℕ} {s : List ℕ} → Filling (λ i. 2 ^ i) s j → j �
 units-end f e = record { long = f.long; unit = λ i h. f.done i (omega arith); zeros = λ i h. f.rest i (omega arith) }
 
 -- the columns of a system
-pub images-end : {m constant j : ℕ} {cs s : List ℕ} → Filling (λ i. termsAt m cs (2 ^ i)) s j → j ≡ m → m ≤ widest → Imaged m cs constant (set s m constant)
+pub images-end : {m constant j : ℕ} {cs s : List ℕ} → Filling (λ i. terms_at m cs (2 ^ i)) s j → j ≡ m → m ≤ widest → Imaged m cs constant (set s m constant)
 images-end {m} {constant} {j} {cs} {s} f e h =
     record {
       long = length-set s m constant ∙ f.long;
@@ -194,20 +194,20 @@ degree-widest = by_row (λ m p. m ≤ widest) (omega arith) (omega arith) (omega
 pub record Rowing (images : List ℕ) (s : List (List ℕ)) (i : ℕ) : Type 0 where
   pub within : i ≤ widest
   pub long : length s ≡ widest
-  pub row : (k : ℕ) → k < i → get_or s k [] ≡ digitRow k images
+  pub row : (k : ℕ) → k < i → get_or s k [] ≡ digit_row k images
 
 pub rowing-from : (images : List ℕ) {s : List (List ℕ)} → length s ≡ widest → Rowing images s 0
 rowing-from images e = record { within = omega arith; long = e; row = λ k h. absurd (not-suc-le-zero h) }
 
-pub rowing-on : {images : List ℕ} {s : List (List ℕ)} {i : ℕ} {r : List ℕ} → Rowing images s i → i < widest → r ≡ digitRow i images
+pub rowing-on : {images : List ℕ} {s : List (List ℕ)} {i : ℕ} {r : List ℕ} → Rowing images s i → i < widest → r ≡ digit_row i images
     → Rowing images (set s i r) (i + 1)
 rowing-on {images} {s} {i} {r} w h e = record { within = omega arith; long = length-set s i r ∙ w.long; row = row }
   where
-    row : (k : ℕ) → k < i + 1 → get_or (set s i r) k [] ≡ digitRow k images
+    row : (k : ℕ) → k < i + 1 → get_or (set s i r) k [] ≡ digit_row k images
     row k l = go (ℕ_discrete k i)
       where
-        go : Dec (k ≡ i) → get_or (set s i r) k [] ≡ digitRow k images
-        go (yes p) = ap (λ n. get_or (set s i r) n []) p ∙ get_or-set_same s i r [] (let a = w.long in omega arith) ∙ e ∙ ap (λ n. digitRow n images) (sym p)
+        go : Dec (k ≡ i) → get_or (set s i r) k [] ≡ digit_row k images
+        go (yes p) = ap (λ n. get_or (set s i r) n []) p ∙ get_or-set_same s i r [] (let a = w.long in omega arith) ∙ e ∙ ap (λ n. digit_row n images) (sym p)
         go (no n) = get_or-set_other s i k r [] n ∙ w.row k (omega arith)
 
 pub rowing-end : {images : List ℕ} {s : List (List ℕ)} {i : ℕ} → Rowing images s i → widest ≤ i → Rowed images s
@@ -217,22 +217,22 @@ rowing-end w h = record { long = w.long; row = λ k l. w.row k (omega arith) }
 
 -- i turns were made
 pub record Eliminating (rows₀ : List (List ℕ)) (vectors₀ : List ℕ) (rows : List (List ℕ)) (vectors : List ℕ) (i : ℕ) : Type 0 where
-  pub rows_are : rows ≡ rowsAfter i rows₀
-  pub vectors-are : vectors ≡ vectorsAfter i rows₀ vectors₀
+  pub rows_are : rows ≡ rows_after i rows₀
+  pub vectors-are : vectors ≡ vectors_after i rows₀ vectors₀
 
 pub eliminating-from : (rows : List (List ℕ)) (vectors : List ℕ) → Eliminating rows vectors rows vectors 0
-unfolding rowsAfter vectorsAfter
+unfolding rows_after vectors_after
 eliminating-from rows vectors = record { rows_are = refl; vectors-are = refl }
 
 pub eliminating-on : {rows₀ : List (List ℕ)} {vectors₀ : List ℕ} {rows : List (List ℕ)} {vectors : List ℕ} {i p : ℕ} {rows' : List (List ℕ)} {vectors' : List ℕ}
-    → Eliminating rows₀ vectors₀ rows vectors i → p ≡ pivotOf (get_or rows i []) → rows' ≡ map (sweptBy p (get_or rows i [])) rows
-    → vectors' ≡ sweptBy p (get_or rows i []) vectors → Eliminating rows₀ vectors₀ rows' vectors' (i + 1)
-unfolding rowsAfter vectorsAfter
+    → Eliminating rows₀ vectors₀ rows vectors i → p ≡ pivot_of (get_or rows i []) → rows' ≡ map (swept_by p (get_or rows i [])) rows
+    → vectors' ≡ swept_by p (get_or rows i []) vectors → Eliminating rows₀ vectors₀ rows' vectors' (i + 1)
+unfolding rows_after vectors_after
 eliminating-on {rows₀} {vectors₀} {rows} {vectors} {i} {p} e q r v = record {
-  rows_are = r ∙ ap (λ (n : ℕ). map (sweptBy n (get_or rows i [])) rows) q ∙ ap (λ u. map (sweptBy (pivotOf (get_or u i [])) (get_or u i [])) u) e.rows_are
-      ∙ ap (λ n. rowsAfter n rows₀) (sym (add-one i));
-  vectors-are = v ∙ ap (λ (n : ℕ). sweptBy n (get_or rows i []) vectors) q
-      ∙ ap₂ (λ u w. sweptBy (pivotOf (get_or u i [])) (get_or u i []) w) e.rows_are e.vectors-are ∙ ap (λ n. vectorsAfter n rows₀ vectors₀) (sym (add-one i));
+  rows_are = r ∙ ap (λ (n : ℕ). map (swept_by n (get_or rows i [])) rows) q ∙ ap (λ u. map (swept_by (pivot_of (get_or u i [])) (get_or u i [])) u) e.rows_are
+      ∙ ap (λ n. rows_after n rows₀) (sym (add-one i));
+  vectors-are = v ∙ ap (λ (n : ℕ). swept_by n (get_or rows i []) vectors) q
+      ∙ ap₂ (λ u w. swept_by (pivot_of (get_or u i [])) (get_or u i []) w) e.rows_are e.vectors-are ∙ ap (λ n. vectors_after n rows₀ vectors₀) (sym (add-one i));
 }
 
 -- ---- the terms of an affine polynomial
@@ -242,22 +242,22 @@ pub record Summing (m : ℕ) (cs : List ℕ) (x sum y i : ℕ) : Type 0 where
   pub within : i ≤ length cs
   pub positive : 0 < y
   pub element : y < 2 ^ m
-  pub same : termsAt m cs x ≡ bit_xor sum (termsAt m (drop i cs) y)
+  pub same : terms_at m cs x ≡ bit_xor sum (terms_at m (drop i cs) y)
 
 pub summing-from : (m : ℕ) (cs : List ℕ) (x : ℕ) → 0 < x → x < 2 ^ m → Summing m cs x 0 x 0
 summing-from m cs x p h = record { within = omega arith; positive = p; element = h; same = refl }
 
 pub summing_on : {m : ℕ} {cs : List ℕ} {x sum y i a b : ℕ} → known m ≡ true → Summing m cs x sum y i → i < length cs
     → a ≡ mul (field_at m) y (get_or cs i 0) → b ≡ mul (field_at m) y y → Summing m cs x (bit_xor sum a) b (i + 1)
-unfolding termsAt
+unfolding terms_at
 summing_on {m} {cs} {x} {sum} {y} {i} {a} {b} k s h ea eb =
     record {
       within = omega arith;
       positive = subst (λ n. 0 < n) (sym eb) (square-positive (dec_lt 0 (mul (field_at m) y y)));
       element = subst (λ n. n < 2 ^ m) (sym eb) (mul-lt (field_at m) g.monic y y);
-      same = s.same ∙ ap (λ u. bit_xor sum (termsAt m u y)) (drop-cons cs i 0 h)
-          ∙ ap₂ (λ u v. bit_xor sum (bit_xor u (termsAt m (drop (suc i) cs) v))) (mul_comm (field_at m) g.monic (get_or cs i 0) y ∙ sym ea) (sym eb)
-          ∙ sym (xor_assoc sum a (termsAt m (drop (suc i) cs) b)) ∙ ap (λ n. bit_xor (bit_xor sum a) (termsAt m (drop n cs) b)) (sym (add-one i));
+      same = s.same ∙ ap (λ u. bit_xor sum (terms_at m u y)) (drop-cons cs i 0 h)
+          ∙ ap₂ (λ u v. bit_xor sum (bit_xor u (terms_at m (drop (suc i) cs) v))) (mul_comm (field_at m) g.monic (get_or cs i 0) y ∙ sym ea) (sym eb)
+          ∙ sym (xor_assoc sum a (terms_at m (drop (suc i) cs) b)) ∙ ap (λ n. bit_xor (bit_xor sum a) (terms_at m (drop n cs) b)) (sym (add-one i));
     }
   where
     g : Generated (field_at m)
@@ -272,7 +272,7 @@ summing_on {m} {cs} {x} {sum} {y} {i} {a} {b} k s h ea eb =
         below : y ≡ 0 → ⊥
         below e = let p = s.positive in omega arith
 
-pub summing-end : {m : ℕ} {cs : List ℕ} {x sum y i : ℕ} → Summing m cs x sum y i → length cs ≤ i → sum ≡ termsAt m cs x
-unfolding termsAt
+pub summing-end : {m : ℕ} {cs : List ℕ} {x sum y i : ℕ} → Summing m cs x sum y i → length cs ≤ i → sum ≡ terms_at m cs x
+unfolding terms_at
 summing-end {m} {cs} {x} {sum} {y} {i} s h =
-    sym (s.same ∙ ap (λ u. bit_xor sum (termsAt m u y)) (drop_of_length-le cs {i = i} h) ∙ xor_zero_r sum)
+    sym (s.same ∙ ap (λ u. bit_xor sum (terms_at m u y)) (drop_of_length-le cs {i = i} h) ∙ xor_zero_r sum)

@@ -23,7 +23,7 @@ use Rattle.algebra.proofs.Trial.{all_map}
 use Rattle.field.proofs.Digits.{bit-cases}
 use Rattle.field.proofs.Xor.{xor_assoc, xor-digits}
 use Rattle.find_affine.specs.Spaces.{spanned}
-use Rattle.find_affine.proofs.Maps.{digitOf, digit-xor, sumOver}
+use Rattle.find_affine.proofs.Maps.{digit_of, digit-xor, sum_over}
 use Rattle.find_affine.proofs.Turns.{lead-lt}
 
 -- ---- lists
@@ -75,10 +75,10 @@ module _ (vectors : List ℕ) where
 
   -- ---- every sum is among them
 
-  pub spanned-member : (n first e : ℕ) → Memᴰ (bit_xor first (sumOver n v e)) (spanned n vectors first)
-  unfolding spanned sumOver
+  pub spanned-member : (n first e : ℕ) → Memᴰ (bit_xor first (sum_over n v e)) (spanned n vectors first)
+  unfolding spanned sum_over
   spanned-member zero first e = Memᴰ.head (xor_zero_r first)
-  spanned-member (suc n) first e = go (eqb (v n) 0) (eqb-true (v n) 0) (sumOver n v e) (spanned n vectors first) (spanned-member n first e)
+  spanned-member (suc n) first e = go (eqb (v n) 0) (eqb-true (v n) 0) (sum_over n v e) (spanned n vectors first) (spanned-member n first e)
     where
       by-digit : (s : ℕ) (l : List ℕ) → Memᴰ (bit_xor first s) l → (d : ℕ) → Memᴰ (bit_xor first (bit_xor s (d % 2 * v n))) (l ++ map (bit_xor (v n)) l)
       by-digit s l m =
@@ -89,9 +89,9 @@ module _ (vectors : List ℕ) where
           (member-behind l (map (bit_xor (v n)) l) (member-mapped (bit_xor (v n)) l m)))
 
       go : (b : Bool) → (b ≡ true → v n ≡ 0) → (s : ℕ) (l : List ℕ) → Memᴰ (bit_xor first s) l
-          → Memᴰ (bit_xor first (bit_xor s (digitOf n e * v n))) (cond b l (l ++ map (bit_xor (v n)) l))
+          → Memᴰ (bit_xor first (bit_xor s (digit_of n e * v n))) (cond b l (l ++ map (bit_xor (v n)) l))
       go true z s l m =
-          subst (λ x. Memᴰ x l) (ap (bit_xor first) (sym (ap (λ a. bit_xor s (digitOf n e * a)) (z refl) ∙ ap (bit_xor s) (mul-zero (digitOf n e)) ∙ xor_zero_r s))) m
+          subst (λ x. Memᴰ x l) (ap (bit_xor first) (sym (ap (λ a. bit_xor s (digit_of n e * a)) (z refl) ∙ ap (bit_xor s) (mul-zero (digit_of n e)) ∙ xor_zero_r s))) m
       go false z s l m = by-digit s l m (e / 2 ^ n)
 
   -- ---- a number added to all
@@ -111,7 +111,7 @@ module _ (vectors : List ℕ) where
 
   -- ---- their order
 
-  module _ (lead : (j : ℕ) → (v j ≡ 0) ⊎ (v j / 2 ^ j ≡ 1)) (apart : (j l : ℕ) → j < l → (v j ≡ 0 → ⊥) → digitOf j (v l) ≡ 0) where
+  module _ (lead : (j : ℕ) → (v j ≡ 0) ⊎ (v j / 2 ^ j ≡ 1)) (apart : (j l : ℕ) → j < l → (v j ≡ 0 → ⊥) → digit_of j (v l) ≡ 0) where
     -- above digit n all sums of the first n vectors are `first`
     high : (n first : ℕ) → All (λ z. z / 2 ^ n ≡ first / 2 ^ n) (spanned n vectors first)
     high n first =
@@ -119,7 +119,7 @@ module _ (vectors : List ℕ) where
         (λ j h z e. xor_shr (v j) z n ∙ ap₂ bit_xor (div-eq_of_lt (lead-lt j n (lead j) h)) e ∙ xor_zero_l (first / 2 ^ n))
 
     -- the number with digit n follows the one without
-    next-high : (n first : ℕ) → digitOf n first ≡ 0 → v n / 2 ^ n ≡ 1 → first / 2 ^ n < bit_xor (v n) first / 2 ^ n
+    next-high : (n first : ℕ) → digit_of n first ≡ 0 → v n / 2 ^ n ≡ 1 → first / 2 ^ n < bit_xor (v n) first / 2 ^ n
     next-high n first z o =
         let q = first / 2 ^ n in
         let e : bit_xor (v n) first / 2 ^ n ≡ bit_xor 1 q = xor_shr (v n) first n ∙ ap (λ a. bit_xor a q) o in
@@ -135,11 +135,11 @@ module _ (vectors : List ℕ) where
         go (no l) = let m : b / 2 ^ n ≤ a / 2 ^ n = shr_mono n (let k : b ≤ a = omega arith in k) in absurd (let z : ⊥ = omega arith in z)
 
     -- the second half, and that it follows the first
-    module _ (n first : ℕ) (zeros : (j : ℕ) → j < suc n → (v j ≡ 0 → ⊥) → digitOf j first ≡ 0) (live : v n ≡ 0 → ⊥) where
+    module _ (n first : ℕ) (zeros : (j : ℕ) → j < suc n → (v j ≡ 0 → ⊥) → digit_of j first ≡ 0) (live : v n ≡ 0 → ⊥) where
       leads : v n / 2 ^ n ≡ 1
       leads = ⊎_elim (λ e. absurd (live e)) (λ o. o) (lead n)
 
-      shifted-zeros : (j : ℕ) → j < n → (v j ≡ 0 → ⊥) → digitOf j (bit_xor (v n) first) ≡ 0
+      shifted-zeros : (j : ℕ) → j < n → (v j ≡ 0 → ⊥) → digit_of j (bit_xor (v n) first) ≡ 0
       shifted-zeros j h k = digit-xor j (v n) first ∙ ap₂ bit_xor (apart j n h k) (zeros j (omega arith) k)
 
       between : All (λ x. All (λ y. x < y) (spanned n vectors (bit_xor (v n) first))) (spanned n vectors first)
@@ -149,7 +149,7 @@ module _ (vectors : List ℕ) where
           (λ x e. all_map {P = λ y. y / 2 ^ n ≡ bit_xor (v n) first / 2 ^ n} {Q = λ y. x < y} (λ y f. below-high n x y (omega arith))
           (spanned n vectors (bit_xor (v n) first)) (high n (bit_xor (v n) first))) (spanned n vectors first) (high n first)
 
-    pub spanned-ascending : (n first : ℕ) → ((j : ℕ) → j < n → (v j ≡ 0 → ⊥) → digitOf j first ≡ 0) → Ascending (spanned n vectors first)
+    pub spanned-ascending : (n first : ℕ) → ((j : ℕ) → j < n → (v j ≡ 0 → ⊥) → digit_of j first ≡ 0) → Ascending (spanned n vectors first)
     unfolding spanned
     spanned-ascending zero first z = (tt, tt)
     spanned-ascending (suc n) first z =

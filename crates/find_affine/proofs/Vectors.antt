@@ -18,8 +18,8 @@ use lib.Dec.{eqb}
 use lib.ListN.{length, get_or, get_or-map, get_or-eq_default}
 use Rattle.field.proofs.Digits.{bit-cases}
 use Rattle.field.proofs.Additive.{Additive}
-use Rattle.find_affine.specs.Systems.{pivotOf, swept, sweptBy, row_at, rowsAfter, vectorsAfter}
-use Rattle.find_affine.proofs.Maps.{digitOf, sweep, map-sweep}
+use Rattle.find_affine.specs.Systems.{pivot_of, swept, swept_by, row_at, rows_after, vectors_after}
+use Rattle.find_affine.proofs.Maps.{digit_of, sweep, map-sweep}
 use Rattle.find_affine.proofs.Turns.{Projects, digit-of, turn-none, turn-pivot}
 
 -- ---- a row swept
@@ -41,25 +41,25 @@ swept_at t (b ∷ by) (a ∷ s) (suc j) e = swept_at t by s j (let d : length by
 -- ---- the pivot
 
 -- there is no bit below it
-pivot-low : (row : List ℕ) (j : ℕ) → j < pivotOf row → get_or row j 0 ≡ 0
-unfolding pivotOf
+pivot-low : (row : List ℕ) (j : ℕ) → j < pivot_of row → get_or row j 0 ≡ 0
+unfolding pivot_of
 pivot-low [] j h = absurd (not-suc-le-zero h)
 pivot-low (a ∷ row) j h = go (eqb a 0) (eqb-true a 0) (pivot-low row) j h
   where
-    go : (b : Bool) → (b ≡ true → a ≡ 0) → ((i : ℕ) → i < pivotOf row → get_or row i 0 ≡ 0) → (i : ℕ) → i < cond b (suc (pivotOf row)) 0
+    go : (b : Bool) → (b ≡ true → a ≡ 0) → ((i : ℕ) → i < pivot_of row → get_or row i 0 ≡ 0) → (i : ℕ) → i < cond b (suc (pivot_of row)) 0
         → get_or (a ∷ row) i 0 ≡ 0
     go true e k zero h = e refl
     go true e k (suc i) h = k i (le_of_suc-le-suc h)
     go false e k i h = absurd (not-suc-le-zero h)
 
 -- there is one at it
-pivot-bit : (row : List ℕ) → pivotOf row < length row → get_or row (pivotOf row) 0 ≡ 0 → ⊥
-unfolding pivotOf
+pivot-bit : (row : List ℕ) → pivot_of row < length row → get_or row (pivot_of row) 0 ≡ 0 → ⊥
+unfolding pivot_of
 pivot-bit [] h = absurd (not-suc-le-zero h)
 pivot-bit (a ∷ row) h = go (eqb a 0) (eqb-false a 0) (pivot-bit row) h
   where
-    go : (b : Bool) → (b ≡ false → a ≡ 0 → ⊥) → (pivotOf row < length row → get_or row (pivotOf row) 0 ≡ 0 → ⊥)
-        → cond b (suc (pivotOf row)) 0 < suc (length row) → get_or (a ∷ row) (cond b (suc (pivotOf row)) 0) 0 ≡ 0 → ⊥
+    go : (b : Bool) → (b ≡ false → a ≡ 0 → ⊥) → (pivot_of row < length row → get_or row (pivot_of row) 0 ≡ 0 → ⊥)
+        → cond b (suc (pivot_of row)) 0 < suc (length row) → get_or (a ∷ row) (cond b (suc (pivot_of row)) 0) 0 ≡ 0 → ⊥
     go true e k h = k (le_of_suc-le-suc h)
     go false e k h = e refl
 
@@ -67,7 +67,7 @@ pivot-bit (a ∷ row) h = go (eqb a 0) (eqb-false a 0) (pivot-bit row) h
 
 pub record Holding (A : ℕ → ℕ) (m : ℕ) (rows : List (List ℕ)) (vectors : List ℕ) : Type 0 where
   pub wide : (k : ℕ) → k < m → length (row_at k rows) ≡ length vectors
-  pub entry : (k j : ℕ) → k < m → get_or (row_at k rows) j 0 ≡ digitOf k (A (get_or vectors j 0))
+  pub entry : (k j : ℕ) → k < m → get_or (row_at k rows) j 0 ≡ digit_of k (A (get_or vectors j 0))
 
 pub record Reached (A : ℕ → ℕ) (m i : ℕ) (rows : List (List ℕ)) (vectors : List ℕ) : Type 0 where
   pub holds : Holding A m rows vectors
@@ -83,40 +83,40 @@ module _ (A : ℕ → ℕ) (add : Additive A) (m : ℕ) where
     row = row_at i rows
 
     abbrev p : ℕ
-    p = pivotOf row
+    p = pivot_of row
 
     abbrev v : ℕ → ℕ
     v j = get_or vectors j 0
 
     -- the row's bits
-    bit : (j : ℕ) → get_or row j 0 % 2 ≡ digitOf i (A (v j))
+    bit : (j : ℕ) → get_or row j 0 % 2 ≡ digit_of i (A (v j))
     bit j = ap (λ a. a % 2) (s.holds.entry i j h) ∙ mod-mod (A (v j) / 2 ^ i) 2
 
-    moved : (j : ℕ) → get_or (sweptBy p row vectors) j 0 ≡ sweep A i (v p) (v j)
+    moved : (j : ℕ) → get_or (swept_by p row vectors) j 0 ≡ sweep A i (v p) (v j)
     moved j = swept_at (v p) row vectors j (s.holds.wide i h) ∙ ap (λ d. bit_xor (v j) (d * v p)) (bit j)
 
-    row_of : (k : ℕ) → row_at k (map (sweptBy p row) rows) ≡ sweptBy p row (row_at k rows)
+    row_of : (k : ℕ) → row_at k (map (swept_by p row) rows) ≡ swept_by p row (row_at k rows)
     unfolding swept
-    row_of k = get_or-map (sweptBy p row) rows k []
+    row_of k = get_or-map (swept_by p row) rows k []
 
-    entry : (k j : ℕ) → k < m → get_or (row_at k (map (sweptBy p row) rows)) j 0 ≡ digitOf k (A (get_or (sweptBy p row vectors) j 0))
+    entry : (k j : ℕ) → k < m → get_or (row_at k (map (swept_by p row) rows)) j 0 ≡ digit_of k (A (get_or (swept_by p row vectors) j 0))
     entry k j l =
         ap (λ r. get_or r j 0) (row_of k)
         ∙ swept_at (get_or (row_at k rows) p 0) row (row_at k rows) j (s.holds.wide i h ∙ sym (s.holds.wide k l))
         ∙ ap₂ bit_xor (s.holds.entry k j l) (ap₂ (λ a b. a * b) (bit j) (s.holds.entry k p l))
-        ∙ sym (map-sweep A (λ x. digitOf k (A x)) (digit-of A add k) i (v p) (v j)) ∙ ap (λ a. digitOf k (A a)) (sym (moved j))
+        ∙ sym (map-sweep A (λ x. digit_of k (A x)) (digit-of A add k) i (v p) (v j)) ∙ ap (λ a. digit_of k (A a)) (sym (moved j))
 
-    wide : (k : ℕ) → k < m → length (row_at k (map (sweptBy p row) rows)) ≡ length (sweptBy p row vectors)
+    wide : (k : ℕ) → k < m → length (row_at k (map (swept_by p row) rows)) ≡ length (swept_by p row vectors)
     wide k l =
         ap length (row_of k) ∙ length-swept (get_or (row_at k rows) p 0) row (row_at k rows) ∙ s.holds.wide k l ∙ sym (length-swept (v p) row vectors)
 
-    projected : Dec (p < length row) → Projects A m (suc i) (λ j. get_or (sweptBy p row vectors) j 0)
+    projected : Dec (p < length row) → Projects A m (suc i) (λ j. get_or (swept_by p row vectors) j 0)
     projected (yes l) =
         turn-pivot A add s.projects p (digit-one (A (v p) / 2 ^ i) (λ z. pivot-bit row l (s.holds.entry i p h ∙ z)))
         (λ j b. sym (s.holds.entry i j h) ∙ pivot-low row j b) moved
     projected (no l) = turn-none A add s.projects none (λ j. moved j ∙ ap (λ d. bit_xor (v j) (d * v p)) (none j) ∙ ap (bit_xor (v j)) (zero-mul (v p)) ∙ xor_zero_r (v j))
       where
-        none : (j : ℕ) → digitOf i (A (v j)) ≡ 0
+        none : (j : ℕ) → digit_of i (A (v j)) ≡ 0
         none j = sym (s.holds.entry i j h) ∙ go (dec_lt j p)
           where
             go : Dec (j < p) → get_or row j 0 ≡ 0
@@ -124,11 +124,11 @@ module _ (A : ℕ → ℕ) (add : Additive A) (m : ℕ) where
             go (no b) = get_or-eq_default row 0 {n = j} (omega arith)
 
     -- a turn
-    pub reached-on : Reached A m (suc i) (map (sweptBy p row) rows) (sweptBy p row vectors)
+    pub reached-on : Reached A m (suc i) (map (swept_by p row) rows) (swept_by p row vectors)
     reached-on = record { holds = record { wide = wide; entry = entry }; projects = projected (dec_lt p (length row)) }
 
   pub reached-after : {rows : List (List ℕ)} {vectors : List ℕ} → Reached A m 0 rows vectors → (i : ℕ) → i ≤ m
-      → Reached A m i (rowsAfter i rows) (vectorsAfter i rows vectors)
-  unfolding rowsAfter vectorsAfter
+      → Reached A m i (rows_after i rows) (vectors_after i rows vectors)
+  unfolding rows_after vectors_after
   reached-after s zero h = s
   reached-after s (suc i) h = reached-on h (reached-after s i (omega arith))

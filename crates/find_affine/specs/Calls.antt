@@ -1,7 +1,7 @@
 -- What the call on affine polynomials answers, for every input (docs/RULES.md section 3.6).
---   affineTests   its tests in their order, each behind its number
---   affineOutcome its outcome: that there is no root, or how many there are and the dimension
---   toldSpanned   the number and the values of its answer
+--   affine_tests   its tests in their order, each behind its number
+--   affine_outcome its outcome: that there is no root, or how many there are and the dimension
+--   told_spanned   the number and the values of its answer
 --   Spans         THE CONTRACT: the answers and lists that the call admits
 --   Spannable     what is known of what was let in;  SpannedOut  what is then answered and left
 -- Assumes nothing.
@@ -12,30 +12,30 @@ use Rattle.refusals.specs.Numbers.{number_of}
 use Rattle.slices.specs.Lists.{copied}
 use Rattle.slices.specs.Bounded.{any_from}
 use Rattle.field.specs.Rows.{known}
-use Rattle.find_affine.specs.Affine.{affineRoots, spaceValues}
+use Rattle.find_affine.specs.Affine.{affine_roots, space_values}
 use Rattle.find_affine.specs.declared.Spanned.{Spanned}
 use Rattle.find_affine.specs.declared.Spanned.TheVariants.{NoRoot, Space, NotSpanned}
 
-abbrev pub affineTests : ℕ → List ℕ → ℕ → ℕ → List (ℕ × Bool)
-affineTests m cs constant room =
+abbrev pub affine_tests : ℕ → List ℕ → ℕ → ℕ → List (ℕ × Bool)
+affine_tests m cs constant room =
     (1, not (known m)) ∷ (20, not (eqb (length cs) m)) ∷ (4, any_from (2 ^ m) cs || not (ltb constant (2 ^ m)))
     ∷ (7, ltb room (2 ^ m)) ∷ []
 
-abbrev pub affineOutcome : ℕ → List ℕ → ℕ → List ℕ → ℕ × List ℕ
-affineOutcome m cs constant list =
-    outcome (affineTests m cs constant (length list)) (spaceValues m (affineRoots m cs constant))
+abbrev pub affine_outcome : ℕ → List ℕ → ℕ → List ℕ → ℕ × List ℕ
+affine_outcome m cs constant list =
+    outcome (affine_tests m cs constant (length list)) (space_values m (affine_roots m cs constant))
 
 -- "none" has one value, a space two
-abbrev pub toldSpanned : Spanned → ℕ × List ℕ
-toldSpanned NoRoot = (0, 0 ∷ [])
-toldSpanned (Space k n) = (0, n ∷ k ∷ [])
-toldSpanned (NotSpanned k) = (number_of k, [])
+abbrev pub told_spanned : Spanned → ℕ × List ℕ
+told_spanned NoRoot = (0, 0 ∷ [])
+told_spanned (Space k n) = (0, n ∷ k ∷ [])
+told_spanned (NotSpanned k) = (number_of k, [])
 
 -- the contract: an answer, and the lent list afterwards
 abbrev pub Spans : ℕ → List ℕ → ℕ → List ℕ → Spanned → List ℕ → Type 0
 Spans m cs constant list r after =
-    Answers (affineTests m cs constant (length list)) (spaceValues m (affineRoots m cs constant))
-    (copied (affineRoots m cs constant) list) list (toldSpanned r) after
+    Answers (affine_tests m cs constant (length list)) (space_values m (affine_roots m cs constant))
+    (copied (affine_roots m cs constant) list) list (told_spanned r) after
 
 pub record Spannable (m : ℕ) (cs : List ℕ) (constant : ℕ) (list : List ℕ) : Type 0 where
   pub field : known m ≡ true
@@ -45,5 +45,5 @@ pub record Spannable (m : ℕ) (cs : List ℕ) (constant : ℕ) (list : List ℕ
   pub room : 2 ^ m ≤ length list
 
 pub record SpannedOut (m : ℕ) (cs : List ℕ) (c : ℕ) (list : List ℕ) (r : Spanned) (after : List ℕ) : Type 0 where
-  pub told : toldSpanned r ≡ (0, spaceValues m (affineRoots m cs c))
-  pub slots : after ≡ copied (affineRoots m cs c) list
+  pub told : told_spanned r ≡ (0, space_values m (affine_roots m cs c))
+  pub slots : after ≡ copied (affine_roots m cs c) list

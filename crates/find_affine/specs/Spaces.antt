@@ -1,6 +1,6 @@
 -- The sums of one number and any of a list of vectors.
 --   spanned          `first` plus any sum of the first n vectors: each vector that is not 0 doubles the list
---   dimensionBelow   how many of the first n vectors are not 0
+--   dimension_below   how many of the first n vectors are not 0
 --   Grown            the first n numbers of a list took in their sums with v, unless it is 0: there are k of them now
 --   Listed           the sums of `first` and any of the first n vectors stand at the front of a list
 -- Assumes nothing.
@@ -16,10 +16,10 @@ unfoldable pub spanned : ℕ → List ℕ → ℕ → List ℕ
 spanned zero vectors first = first ∷ []
 spanned (suc n) vectors first = grown (get_or vectors n 0) (spanned n vectors first)
 
-unfoldable pub dimensionBelow : ℕ → List ℕ → ℕ
-dimensionBelow zero vectors = 0
-dimensionBelow (suc n) vectors =
-    cond (eqb (get_or vectors n 0) 0) (dimensionBelow n vectors) (suc (dimensionBelow n vectors))
+unfoldable pub dimension_below : ℕ → List ℕ → ℕ
+dimension_below zero vectors = 0
+dimension_below (suc n) vectors =
+    cond (eqb (get_or vectors n 0) 0) (dimension_below n vectors) (suc (dimension_below n vectors))
 
 pub record Grown (n v : ℕ) (s : List ℕ) (k : ℕ) (s' : List ℕ) : Type 0 where
   pub count : k ≡ length (grown v (take n s))

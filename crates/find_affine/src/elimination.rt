@@ -2,7 +2,7 @@
 // column is swept along: row k holds digit k of the images of the vectors.
 ghost use Rattle.std.specs.Prelude.{◌≡◌, map, ◌*◌, ◌%◌, ◌≤◌, ◌<◌};
 ghost use Rattle.input.specs.Limit.{widest};
-ghost use Rattle.find_affine.specs.Systems.{digitRow, Rowed, pivotOf, sweptBy, Units, vectorsAfter};
+ghost use Rattle.find_affine.specs.Systems.{digit_row, Rowed, pivot_of, swept_by, Units, vectors_after};
 
 use crate::COLUMNS;
 use input::WIDEST;
@@ -10,7 +10,7 @@ use input::WIDEST;
 // Digit i of each image.
 fn digit_row(images: [u16; COLUMNS], i: usize) -> [u16; COLUMNS]
     requires { i < widest }
-    ensures { result ≡ digitRow i images }
+    ensures { result ≡ digit_row i images }
 {
     let mut out = images;
     let mut k = 0;
@@ -53,7 +53,7 @@ pub fn units(n: usize) -> [u16; COLUMNS]
 
 // The lowest column with a bit; the number of columns where there is none.
 fn pivot(row: [u16; COLUMNS]) -> usize
-    ensures { result ≡ pivotOf row }
+    ensures { result ≡ pivot_of row }
 {
     let mut k = 0;
     while k < COLUMNS {
@@ -74,7 +74,7 @@ fn where_bit(b: u16, t: u16) -> u16
 
 // The row with its entry at column p added wherever the row `by` has a bit.
 fn swept(row: [u16; COLUMNS], by: [u16; COLUMNS], p: usize) -> [u16; COLUMNS]
-    ensures { result ≡ sweptBy p by row }
+    ensures { result ≡ swept_by p by row }
 {
     if COLUMNS <= p {
         return row;
@@ -94,7 +94,7 @@ fn swept(row: [u16; COLUMNS], by: [u16; COLUMNS], p: usize) -> [u16; COLUMNS]
 
 // Column p cleared by the row `by`: it is added to every row with a bit there.
 fn cleared(rows: [[u16; COLUMNS]; WIDEST], by: [u16; COLUMNS], p: usize) -> [[u16; COLUMNS]; WIDEST]
-    ensures { result ≡ map (sweptBy p by) rows }
+    ensures { result ≡ map (swept_by p by) rows }
 {
     let mut out = rows;
     let mut k = 0;
@@ -110,7 +110,7 @@ fn cleared(rows: [[u16; COLUMNS]; WIDEST], by: [u16; COLUMNS], p: usize) -> [[u1
 // The vectors that n rows leave: the pivot of each row in turn is swept out.
 pub fn kernel(n: usize, rows: [[u16; COLUMNS]; WIDEST], vectors: [u16; COLUMNS]) -> [u16; COLUMNS]
     requires { n ≤ widest }
-    ensures { result ≡ vectorsAfter n rows vectors }
+    ensures { result ≡ vectors_after n rows vectors }
 {
     let mut system = rows;
     let mut out = vectors;

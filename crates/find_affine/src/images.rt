@@ -3,7 +3,7 @@ ghost use Rattle.std.specs.Prelude.{◌≡◌, true, ◌<◌, ◌^◌};
 ghost use Rattle.algebra.specs.Polynomial.{Below};
 ghost use Rattle.field.specs.Rows.{known};
 ghost use Rattle.poly.specs.Lent.{Lent};
-ghost use Rattle.find_affine.specs.Affine.{termsAt};
+ghost use Rattle.find_affine.specs.Affine.{terms_at};
 ghost use Rattle.find_affine.specs.Systems.{Imaged};
 
 use crate::COLUMNS;
@@ -13,7 +13,7 @@ use poly::elements::product_by_logs;
 // The sum of the terms c_i x^(2^i), where x is not 0.
 fn terms(m: u16, logs: &[u16], antilogs: &[u16], coeffs: &[u16], x: u16) -> u16
     requires { Lent m logs.now antilogs.now × Below (2 ^ m) coeffs.now × (0 < x) × (x < 2 ^ m) }
-    ensures { result ≡ termsAt m coeffs.now x }
+    ensures { result ≡ terms_at m coeffs.now x }
 {
     let mut sum: u16 = 0;
     let mut y = x;

@@ -6,7 +6,7 @@
 // the roots ascending; no element is tried.
 ghost use Rattle.std.specs.Prelude.{◌≡◌};
 ghost use Rattle.refusals.specs.Admitting.{Admits};
-ghost use Rattle.find_affine.specs.Calls.{affineTests, Spans, Spannable, SpannedOut};
+ghost use Rattle.find_affine.specs.Calls.{affine_tests, Spans, Spannable, SpannedOut};
 
 use field::rows::{FoundRow, row_of, size_of};
 use input::WIDEST;
@@ -30,7 +30,7 @@ pub enum Spanned {
 
 // Refusals 1, 20, 4 and 7, of the coefficients, the constant and the lent slots.
 fn admit(m: u16, coeffs: &[u16], constant: u16, room: usize) -> Admission
-    ensures { Admits (affineTests m coeffs.now constant room) result }
+    ensures { Admits (affine_tests m coeffs.now constant room) result }
 {
     let found = row_of(m);
     let FoundRow::At(row) = found else {

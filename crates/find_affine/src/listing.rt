@@ -1,7 +1,7 @@
 // The roots from one of them and a basis of their differences.
 ghost use Rattle.std.specs.Prelude.{◌≡◌, ◌+◌, ◌≤◌, ◌^◌, length};
 ghost use Rattle.input.specs.Limit.{widest};
-ghost use Rattle.find_affine.specs.Spaces.{dimensionBelow, Grown, Listed};
+ghost use Rattle.find_affine.specs.Spaces.{dimension_below, Grown, Listed};
 
 use crate::COLUMNS;
 
@@ -40,7 +40,7 @@ pub fn list(n: usize, vectors: [u16; COLUMNS], first: u16, roots: &mut [u16]) ->
 // How many of the first n vectors are left.
 pub fn dimension(n: usize, vectors: [u16; COLUMNS]) -> u16
     requires { n ≤ widest }
-    ensures { result ≡ dimensionBelow n vectors }
+    ensures { result ≡ dimension_below n vectors }
 {
     let mut k: u16 = 0;
     let mut j = 0;

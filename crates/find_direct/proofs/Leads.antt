@@ -14,9 +14,9 @@ use lib.ListN.{length, get_or, take}
 use Rattle.algebra.specs.Field.{OnNumbers}
 use Rattle.algebra.specs.Routines.{norm}
 use Rattle.algebra.proofs.StaysBelow.{below_at}
-use Rattle.algebra.proofs.RootList.{rootsOf-norm, rootsOf-one}
-use Rattle.field.specs.Field.{field_at, mul, inverse, G, rootsAt}
-use Rattle.field.specs.Quadratics.{rootsOfQuadratic}
+use Rattle.algebra.proofs.RootList.{roots_of-norm, roots_of-one}
+use Rattle.field.specs.Field.{field_at, mul, inverse, G, roots_at}
+use Rattle.field.specs.Quadratics.{roots_of_quadratic}
 use Rattle.poly.proofs.Monics.{norm-skip, norm-lead}
 use Rattle.input.proofs.Fields.{known-field}
 use Rattle.find_direct.specs.Listing.{Leading}
@@ -50,21 +50,21 @@ module _ {n : ℕ} {f : List ℕ} (g : Leading n f) where
       omega arith
 
   pub quadratic-is : n ≡ 3 → {v a b : ℕ} → v ≡ inverse (field_at 11) (get_or f 2 0) → a ≡ mul (field_at 11) v (get_or f 1 0)
-      → b ≡ mul (field_at 11) v (get_or f 0 0) → rootsOfQuadratic (field_at 11) a b ≡ rootsAt 11 f
+      → b ≡ mul (field_at 11) v (get_or f 0 0) → roots_of_quadratic (field_at 11) a b ≡ roots_at 11 f
   quadratic-is e {v} {a} {b} ev ea eb =
       let w : ℕ = inverse (field_at 11) (get_or f 2 0) in
       let made : norm (G 11) (length f) f ≡ some (mul (field_at 11) w (get_or f 0 0) ∷ mul (field_at 11) w (get_or f 1 0) ∷ []) =
       leads 2 e ∙ ap (λ (l : List ℕ). some (map ((G 11).mul ((G 11).inv (get_or f 2 0))) l)) (take-two f (omega (arith, g.top.within))) in
-      ap₂ (λ (x y : ℕ). rootsOfQuadratic (field_at 11) x y) (ea ∙ ap (λ (t : ℕ). mul (field_at 11) t (get_or f 1 0)) ev)
+      ap₂ (λ (x y : ℕ). roots_of_quadratic (field_at 11) x y) (ea ∙ ap (λ (t : ℕ). mul (field_at 11) t (get_or f 1 0)) ev)
       (eb ∙ ap (λ (t : ℕ). mul (field_at 11) t (get_or f 0 0)) ev)
-      ∙ rootsOf-norm N f g.polynomial.small made
+      ∙ roots_of-norm N f g.polynomial.small made
 
-  pub linear-is : n ≡ 2 → {v x : ℕ} → v ≡ inverse (field_at 11) (get_or f 1 0) → x ≡ mul (field_at 11) v (get_or f 0 0) → rootsAt 11 f ≡ x ∷ []
+  pub linear-is : n ≡ 2 → {v x : ℕ} → v ≡ inverse (field_at 11) (get_or f 1 0) → x ≡ mul (field_at 11) v (get_or f 0 0) → roots_at 11 f ≡ x ∷ []
   linear-is e {v} {x} ev ex =
       let w : ℕ = mul (field_at 11) (inverse (field_at 11) (get_or f 1 0)) (get_or f 0 0) in
       let made : norm (G 11) (length f) f ≡ some (w ∷ []) =
       leads 1 e ∙ ap (λ (l : List ℕ). some (map ((G 11).mul ((G 11).inv (get_or f 1 0))) l)) (take-one f (omega (arith, g.top.within))) in
       let below : w < 2 ^ 11 = N.mul-below (inverse (field_at 11) (get_or f 1 0)) (get_or f 0 0)
       (N.inv-below (get_or f 1 0) (coefficient 1 (omega arith))) (coefficient 0 (omega arith)) in
-      sym (rootsOf-norm N f g.polynomial.small made) ∙ rootsOf-one N w below
+      sym (roots_of-norm N f g.polynomial.small made) ∙ roots_of-one N w below
       ∙ ap (λ (y : ℕ). y ∷ []) (sym (ex ∙ ap (λ (t : ℕ). mul (field_at 11) t (get_or f 0 0)) ev))

@@ -18,10 +18,10 @@ use lib.Seq.{drop-cons, length-take-le}
 use Rattle.algebra.specs.Field.{OnNumbers}
 use Rattle.algebra.specs.Polynomial.{Below, eval}
 use Rattle.algebra.specs.Routines.{monic}
-use Rattle.algebra.proofs.RootList.{rootsOf-norm}
+use Rattle.algebra.proofs.RootList.{roots_of-norm}
 use Rattle.algebra.proofs.StaysBelow.{below_at}
 use Rattle.field.specs.Rows.{known_in}
-use Rattle.field.specs.Field.{field_at, mul, inverse, G, rootsAt}
+use Rattle.field.specs.Field.{field_at, mul, inverse, G, roots_at}
 use Rattle.field.proofs.Ring.{mul-lt, mul-zero-r, mul-one-r}
 use Rattle.field_constants.proofs.Field11.{gen11}
 use Rattle.slices.specs.Lists.{copied}
@@ -129,15 +129,15 @@ module _ {n : ℕ} {f : List ℕ} (g : Leading n f) (least : 4 ≤ n) (v : ℕ) 
   low_below = subst (Below 2048) (sym low-is) (scaled-below v (take (n - 1) f))
 
   module _ (ev : v ≡ inverse (field_at 11) (get_or f (n - 1) 0)) where
-    low-roots : rootsAt 11 (monic (G 11) (take (n - 1) p)) ≡ rootsAt 11 f
+    low-roots : roots_at 11 (monic (G 11) (take (n - 1) p)) ≡ roots_at 11 f
     low-roots =
-        ap (λ (l : List ℕ). rootsAt 11 (monic (G 11) l)) (low-is ∙ ap (λ (t : ℕ). map (mul (field_at 11) t) (take (n - 1) f)) ev)
-        ∙ rootsOf-norm numbers11 f g.polynomial.small (leads g (n - 1) (let e : n ≡ suc (n - 1) = omega arith in e))
+        ap (λ (l : List ℕ). roots_at 11 (monic (G 11) l)) (low-is ∙ ap (λ (t : ℕ). map (mul (field_at 11) t) (take (n - 1) f)) ev)
+        ∙ roots_of-norm numbers11 f g.polynomial.small (leads g (n - 1) (let e : n ≡ suc (n - 1) = omega arith in e))
 
-    pub tried-written : {xs roots roots' : List ℕ} → length xs ≡ n - 1 → rootsAt 11 (monic (G 11) (take (n - 1) p)) ≡ xs
-        → roots' ≡ copied xs roots → ListedIf (rootsAt 11 f) roots (n - 1) true roots'
+    pub tried-written : {xs roots roots' : List ℕ} → length xs ≡ n - 1 → roots_at 11 (monic (G 11) (take (n - 1) p)) ≡ xs
+        → roots' ≡ copied xs roots → ListedIf (roots_at 11 f) roots (n - 1) true roots'
     tried-written {xs} {roots} long r w =
-        let e : xs ≡ rootsAt 11 f = sym r ∙ low-roots in
+        let e : xs ≡ roots_at 11 f = sym r ∙ low-roots in
         record {
           found = λ _. record { count = sym long ∙ ap length e; slots-are = w ∙ ap (λ (l : List ℕ). copied l roots) e };
           missed = λ z. absurd (true≢false z);

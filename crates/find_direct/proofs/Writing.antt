@@ -12,7 +12,7 @@ use native.Mathlib.Nat.{not-suc-le-zero, le_of_suc-le-suc}
 use native.Mathlib.Omega.{arith}
 use lib.ListN.{length, set}
 use Rattle.slices.specs.Lists.{copied}
-use Rattle.field.specs.Quadratics.{rootsIn}
+use Rattle.field.specs.Quadratics.{roots_in}
 use Rattle.field.specs.declared.solver.Quadratic.{Quadratic}
 use Rattle.field.specs.declared.solver.Quadratic.TheVariants.{NoRoot, Double, Two}
 use Rattle.find_direct.specs.Listing.{Listed, ListedIf, DirectOut, Leading}
@@ -33,16 +33,16 @@ set-two [] x y h = absurd (not-suc-le-zero h)
 set-two (z ∷ []) x y h = absurd (not-suc-le-zero (le_of_suc-le-suc h))
 set-two (z ∷ w ∷ s) x y h = refl
 
-pub listed-none : {rs roots : List ℕ} {r : Quadratic} → rootsIn r ≡ rs → r ≡ NoRoot → Listed rs roots 0 roots
+pub listed-none : {rs roots : List ℕ} {r : Quadratic} → roots_in r ≡ rs → r ≡ NoRoot → Listed rs roots 0 roots
 unfolding copied
-listed-none e k = told (sym (ap rootsIn k) ∙ e) refl refl
+listed-none e k = told (sym (ap roots_in k) ∙ e) refl refl
 
-pub listed-one : {rs roots : List ℕ} {r : Quadratic} (x : ℕ) → 1 ≤ length roots → rootsIn r ≡ rs → r ≡ Double x → Listed rs roots 1 (set roots 0 x)
-listed-one {roots = roots} x h e k = told (sym (ap rootsIn k) ∙ e) refl (set-one roots x h)
+pub listed-one : {rs roots : List ℕ} {r : Quadratic} (x : ℕ) → 1 ≤ length roots → roots_in r ≡ rs → r ≡ Double x → Listed rs roots 1 (set roots 0 x)
+listed-one {roots = roots} x h e k = told (sym (ap roots_in k) ∙ e) refl (set-one roots x h)
 
-pub listed-two : {rs roots : List ℕ} {r : Quadratic} (x y : ℕ) → 2 ≤ length roots → rootsIn r ≡ rs → r ≡ Two x y
+pub listed-two : {rs roots : List ℕ} {r : Quadratic} (x y : ℕ) → 2 ≤ length roots → roots_in r ≡ rs → r ≡ Two x y
     → Listed rs roots 2 (set (set roots 0 x) 1 y)
-listed-two {roots = roots} x y h e k = told (sym (ap rootsIn k) ∙ e) refl (set-two roots x y h)
+listed-two {roots = roots} x y h e k = told (sym (ap roots_in k) ∙ e) refl (set-two roots x y h)
 
 pub listed-as : {rs ss roots roots' : List ℕ} {k : ℕ} → rs ≡ ss → Listed rs roots k roots' → Listed ss roots k roots'
 listed-as {roots = roots} {roots' = roots'} {k = k} e l = subst (λ (x : List ℕ). Listed x roots k roots') e l

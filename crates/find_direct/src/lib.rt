@@ -1,8 +1,8 @@
 // Degrees 1 to 4 in field 11 without a table that is lent: the products are made over the tables in place, so that a
 // call builds nothing. A polynomial that a recorder's word gives mostly has degree 1 or 2.
 ghost use Rattle.std.specs.Prelude.{◌≤◌, ◌<◌, length};
-ghost use Rattle.field.specs.Field.{field_at, rootsAt};
-ghost use Rattle.field.specs.Quadratics.{rootsOfQuadratic};
+ghost use Rattle.field.specs.Field.{field_at, roots_at};
+ghost use Rattle.field.specs.Quadratics.{roots_of_quadratic};
 ghost use Rattle.find_direct.specs.Listing.{Leading, Listed, DirectOut};
 
 use crate::tried::tried_roots;
@@ -16,7 +16,7 @@ pub mod tried; // degrees 3 and 4
 // Writes the root of an accepted polynomial of degree 1 to the front of the list.
 fn linear_root(coeffs: &[u16], roots: &mut [u16])
     requires { Leading 2 coeffs.now × (1 ≤ length roots.old) }
-    ensures { Listed (rootsAt 11 coeffs.now) roots.old 1 roots.new }
+    ensures { Listed (roots_at 11 coeffs.now) roots.old 1 roots.new }
 {
     roots[0] = quotient11(coeffs[0], coeffs[1]);
 }
@@ -24,7 +24,7 @@ fn linear_root(coeffs: &[u16], roots: &mut [u16])
 // Writes the roots of z^2 + az + b, ascending, to the front of the list. Returns how many there are.
 fn write_roots(a: u16, b: u16, roots: &mut [u16]) -> u16
     requires { (a < 2048) × (b < 2048) × (2 ≤ length roots.old) }
-    ensures { Listed (rootsOfQuadratic (field_at 11) a b) roots.old result roots.new }
+    ensures { Listed (roots_of_quadratic (field_at 11) a b) roots.old result roots.new }
 {
     match roots11(a, b) {
         Quadratic::NoRoot => 0,
@@ -44,7 +44,7 @@ fn write_roots(a: u16, b: u16, roots: &mut [u16]) -> u16
 // are.
 fn quadratic_roots(coeffs: &[u16], roots: &mut [u16]) -> u16
     requires { Leading 3 coeffs.now × (2 ≤ length roots.old) }
-    ensures { Listed (rootsAt 11 coeffs.now) roots.old result roots.new }
+    ensures { Listed (roots_at 11 coeffs.now) roots.old result roots.new }
 {
     let v = inverse11(coeffs[2]);
     let a = product11(v, coeffs[1]);
@@ -63,7 +63,7 @@ pub enum Direct {
 // to the front of the list. From degree 3 on a guess fails where there are fewer of them than the degree.
 pub fn direct_roots(n: usize, coeffs: &[u16], roots: &mut [u16]) -> Direct
     requires { Leading n coeffs.now × (2 ≤ n) × (n ≤ 5) × (4 ≤ length roots.old) }
-    ensures { DirectOut (rootsAt 11 coeffs.now) roots.old result roots.new }
+    ensures { DirectOut (roots_at 11 coeffs.now) roots.old result roots.new }
 {
     if n == 2 {
         linear_root(coeffs, roots);

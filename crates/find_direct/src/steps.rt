@@ -5,12 +5,12 @@
 // sums of its digits, and a few shifts make a number of them.
 ghost use Rattle.std.specs.Prelude.{◌≡◌, [], ◌∷◌, ◌≤◌, length};
 ghost use Rattle.algebra.specs.Polynomial.{Below};
-ghost use Rattle.table_rules.specs.Demand.{stepCount};
-ghost use Rattle.find_direct.specs.Steps.{traceWord, under, stepsUnder, Counted};
+ghost use Rattle.table_rules.specs.Demand.{step_count};
+ghost use Rattle.find_direct.specs.Steps.{trace_word, under, steps_under, Counted};
 
 // The trace bits of an element, level 0 at the highest of 11 digits.
 fn trace_word(x: u16) -> u16
-    ensures { result ≡ traceWord x }
+    ensures { result ≡ trace_word x }
 {
     ((x / 2) ^ (x % 1024 * 2) ^ (x / 256) ^ (x % 2 * 1024)) % 2048
 }
@@ -44,7 +44,7 @@ fn sharing(roots: &[u16], k: u16, p: u16) -> usize
 // two groups that it parts them into.
 fn steps_under(roots: &[u16], c: u16, k: u16, p: u16, n: usize) -> u16
     requires { Counted roots.now k p n }
-    ensures { result ≡ stepsUnder c roots.now k p }
+    ensures { result ≡ steps_under c roots.now k p }
 {
     if k == 0 {
         return 0;
@@ -63,7 +63,7 @@ fn steps_under(roots: &[u16], c: u16, k: u16, p: u16, n: usize) -> u16
 // The steps that the whole call takes for these roots at the cutoff c.
 pub fn steps_of(c: u16, roots: &[u16]) -> u16
     requires { Below 2048 roots.now }
-    ensures { result ≡ stepCount 11 c roots.now }
+    ensures { result ≡ step_count 11 c roots.now }
 {
     if roots.len() <= c as usize {
         return 0;

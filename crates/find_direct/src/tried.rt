@@ -3,7 +3,7 @@
 ghost use Rattle.std.specs.Prelude.{◌≡◌, true, map, ◌-◌, ◌≤◌, ◌<◌, length};
 ghost use Rattle.algebra.specs.Polynomial.{Below, eval};
 ghost use Rattle.algebra.specs.Routines.{monic};
-ghost use Rattle.field.specs.Field.{field_at, mul, G, rootsAt};
+ghost use Rattle.field.specs.Field.{field_at, mul, G, roots_at};
 ghost use Rattle.slices.specs.Lists.{copied};
 ghost use Rattle.find_direct.specs.Listing.{Leading, ListedIf};
 
@@ -29,7 +29,7 @@ fn value(p: &[u16], x: u16) -> u16
 // all.
 fn all_roots(p: &[u16], xs: &[u16]) -> bool
     requires { Below 2048 p.now × (length p.now ≡ length xs.now) }
-    ensures { result ≡ true → rootsAt 11 (monic (G 11) p.now) ≡ xs.now }
+    ensures { result ≡ true → roots_at 11 (monic (G 11) p.now) ≡ xs.now }
 {
     let mut bound: u16 = 2048;
     let mut i = xs.len();
@@ -63,7 +63,7 @@ fn scale(v: u16, f: &[u16], p: &mut [u16])
 // to the front of the list, if a guess finds as many. Returns whether it does; the list is as it was if not.
 pub fn tried_roots(n: usize, coeffs: &[u16], roots: &mut [u16]) -> bool
     requires { Leading n coeffs.now × (4 ≤ n) × (n ≤ 5) × (4 ≤ length roots.old) }
-    ensures { ListedIf (rootsAt 11 coeffs.now) roots.old (n - 1)
+    ensures { ListedIf (roots_at 11 coeffs.now) roots.old (n - 1)
         result roots.new }
 {
     let k = n - 1;

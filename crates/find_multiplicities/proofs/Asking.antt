@@ -8,14 +8,14 @@ use native.Mathlib.Omega.{arith}
 use lib.ListN.{length, take}
 use Rattle.slices.specs.Lists.{copied}
 use Rattle.slices.proofs.Lists.{copied-front}
-use Rattle.field.specs.Field.{rootsAt}
+use Rattle.field.specs.Field.{roots_at}
 use Rattle.input.specs.Limit.{limit}
 use Rattle.input.specs.Polynomials.{PolynomialIn}
 use Rattle.input.proofs.Polynomials.{roots_few}
 use Rattle.find_multiplicities.specs.Counting.{Countable}
 
-pub countable : {m n : ℕ} {f roots' mults : List ℕ} (roots : List ℕ) → PolynomialIn m f → n ≡ length (rootsAt m f) → roots' ≡ copied (rootsAt m f) roots → limit ≤ length mults
+pub countable : {m n : ℕ} {f roots' mults : List ℕ} (roots : List ℕ) → PolynomialIn m f → n ≡ length (roots_at m f) → roots' ≡ copied (roots_at m f) roots → limit ≤ length mults
     → Countable m f (take n roots') mults
 countable {m} {n} {f} {roots'} {mults} roots p e h l =
-    let all : take n roots' ≡ rootsAt m f = ap (take n) h ∙ copied-front (rootsAt m f) roots (sym e) in
+    let all : take n roots' ≡ roots_at m f = ap (take n) h ∙ copied-front (roots_at m f) roots (sym e) in
     record { polynomial = p; all = all; room = omega (arith, ap length all, roots_few p) }

@@ -16,11 +16,11 @@ use lib.ListN.{length, get_or, take, drop, replicate, set, get_or-append, length
 use lib.Seq.{drop-append-add, drop-cons, drop-drop, get_or-drop, length-take-le}
 use Rattle.algebra.specs.Field.{OnNumbers}
 use Rattle.algebra.specs.Polynomial.{Below}
-use Rattle.algebra.specs.Multiplicity.{left, multiplicitiesIn, multiplicity}
-use Rattle.algebra.proofs.StaysBelow.{below_at, rootsOf-below}
-use Rattle.algebra.proofs.RootList.{rootsOf-distinct}
+use Rattle.algebra.specs.Multiplicity.{left, multiplicities_in, multiplicity}
+use Rattle.algebra.proofs.StaysBelow.{below_at, roots_of-below}
+use Rattle.algebra.proofs.RootList.{roots_of-distinct}
 use Rattle.algebra.proofs.NumberMultiplicity as M
-use Rattle.field.specs.Field.{G, multiplicitiesAt, rootsAt}
+use Rattle.field.specs.Field.{G, multiplicities_at, roots_at}
 use Rattle.slices.specs.Lists.{copied}
 use Rattle.slices.proofs.Lists.{copied_behind, copied-front, length-copied}
 use Rattle.slices.proofs.Filling.{Filling, fill-from, fill_on, fill_stop}
@@ -34,8 +34,8 @@ use Rattle.find_multiplicities.specs.Counting.{Countable, CountableLent, Removab
 
 -- ---- lists
 
-length-counts : (m : ℕ) (f s : List ℕ) → length (multiplicitiesIn (G m) f s) ≡ length s
-unfolding multiplicitiesIn
+length-counts : (m : ℕ) (f s : List ℕ) → length (multiplicities_in (G m) f s) ≡ length s
+unfolding multiplicities_in
 length-counts m f [] = refl
 length-counts m f (r ∷ s) = ap suc (length-counts m (left (G m) f r) s)
 
@@ -48,8 +48,8 @@ pub record Counting (m : ℕ) (roots ls ts f₀ mults₀ f mults : List ℕ) (at
   pub at_most : at ≤ length f
   pub long : length f ≡ length f₀
   pub small : Below (2 ^ m) (drop at f)
-  pub filled : Filling (copied (multiplicitiesIn (G m) f₀ roots) mults₀) mults₀ mults i
-  pub ahead : drop i (multiplicitiesIn (G m) f₀ roots) ≡ multiplicitiesIn (G m) (drop at f) (drop i roots)
+  pub filled : Filling (copied (multiplicities_in (G m) f₀ roots) mults₀) mults₀ mults i
+  pub ahead : drop i (multiplicities_in (G m) f₀ roots) ≡ multiplicities_in (G m) (drop at f) (drop i roots)
 
 pub counting-from : {m : ℕ} {roots ls ts f mults : List ℕ} → Usable m roots ls ts f mults → Counting m roots ls ts f mults f mults 0 0
 counting-from {m} {roots} {ls} {ts} {f} {mults} g =
@@ -60,8 +60,8 @@ counting-from {m} {roots} {ls} {ts} {f} {mults} g =
       at_most = omega arith;
       long = refl;
       small = g.small;
-      filled = fill-from (copied (multiplicitiesIn (G m) f roots) mults) mults
-          (length-copied (multiplicitiesIn (G m) f roots) mults (omega (arith, length-counts m f roots)));
+      filled = fill-from (copied (multiplicities_in (G m) f roots) mults) mults
+          (length-copied (multiplicities_in (G m) f roots) mults (omega (arith, length-counts m f roots)));
       ahead = refl;
     }
 
@@ -96,11 +96,11 @@ module _ {m : ℕ} {roots ls ts f₀ mults₀ f mults : List ℕ} {at i : ℕ} (
   pub counting-on : {e : ℕ} {y : List ℕ} → i < length roots → Removed m (get_or roots i 0) (take (length f - at) (drop at f)) e y
       → length y ≡ length (take (length f - at) (drop at f))
       → Counting m roots ls ts f₀ mults₀ (take at f ++ (y ++ drop (length f - at) (drop at f))) (set mults i e) (at + e) (i + 1)
-  unfolding multiplicitiesIn copied
+  unfolding multiplicities_in copied
   counting-on {e} {y} l r n =
       let g : List ℕ = drop at f in
       let x : ℕ = get_or roots i 0 in
-      let all : List ℕ = multiplicitiesIn (G m) f₀ roots in
+      let all : List ℕ = multiplicities_in (G m) f₀ roots in
       let b = s.at_most in
       let room = s.given.room in
       let part : take (length f - at) g ≡ g = part-rest at f in
@@ -111,8 +111,8 @@ module _ {m : ℕ} {roots ls ts f₀ mults₀ f mults : List ℕ} {at i : ℕ} (
       let rest : drop (at + e) (take at f ++ (y ++ drop (length f - at) g)) ≡ left (G m) g x =
       ap (drop (at + e)) whole ∙ ap (λ k. drop (k + e) (take at f ++ y)) (sym front) ∙ drop-append-add (take at f) y e
       ∙ r.rest ∙ ap (λ u. left (G m) u x) part in
-      let next : drop i all ≡ multiplicity (G m) g x ∷ multiplicitiesIn (G m) (left (G m) g x) (drop (i + 1) roots) =
-      s.ahead ∙ ap (multiplicitiesIn (G m) g) (drop-cons roots i 0 l ∙ ap (λ k. x ∷ drop k roots) (sym (add-one i))) in
+      let next : drop i all ≡ multiplicity (G m) g x ∷ multiplicities_in (G m) (left (G m) g x) (drop (i + 1) roots) =
+      s.ahead ∙ ap (multiplicities_in (G m) g) (drop-cons roots i 0 l ∙ ap (λ k. x ∷ drop k roots) (sym (add-one i))) in
       let long : length (take at f ++ (y ++ drop (length f - at) g)) ≡ length f = ap length whole ∙ length-append (take at f) y ∙ omega arith in
       let plain : i + 0 ≡ i = omega arith in
       let first : get_or all i 0 ≡ multiplicity (G m) g x = ap (λ k. get_or all k 0) (sym plain) ∙ sym (get_or-drop i all 0 0) ∙ ap (λ u. get_or u 0 0) next in
@@ -124,13 +124,13 @@ module _ {m : ℕ} {roots ls ts f₀ mults₀ f mults : List ℕ} {at i : ℕ} (
         at_most = subst (λ k. at + e ≤ k) (sym long) (counting-sum r);
         long = long ∙ s.long;
         small = subst (Below (2 ^ m)) (sym rest)
-            (M.leftIn-below (numbers_of s.given.tables) (length g) g x (below_at (2 ^ m) roots s.given.elements i l) s.small);
+            (M.left_in-below (numbers_of s.given.tables) (length g) g x (below_at (2 ^ m) roots s.given.elements i l) s.small);
         filled = fill_on s.filled (omega arith) value;
-        ahead = sym (drop-drop 1 i all) ∙ ap (drop 1) next ∙ ap (λ u. multiplicitiesIn (G m) u (drop (i + 1) roots)) (sym rest);
+        ahead = sym (drop-drop 1 i all) ∙ ap (drop 1) next ∙ ap (λ u. multiplicities_in (G m) u (drop (i + 1) roots)) (sym rest);
       }
 
-  pub counting-end : length roots ≤ i → mults ≡ copied (multiplicitiesIn (G m) f₀ roots) mults₀
-  counting-end l = fill_stop s.filled (copied_behind i (multiplicitiesIn (G m) f₀ roots) mults₀ (omega (arith, length-counts m f₀ roots)))
+  pub counting-end : length roots ≤ i → mults ≡ copied (multiplicities_in (G m) f₀ roots) mults₀
+  counting-end l = fill_stop s.filled (copied_behind i (multiplicities_in (G m) f₀ roots) mults₀ (omega (arith, length-counts m f₀ roots)))
 
 -- ---- what it means
 
@@ -139,7 +139,7 @@ module _ {m : ℕ} {f roots mults : List ℕ} (g : Countable m f roots mults) wh
   N = (known-field m g.polynomial.field).numbers
 
   -- as many roots as the degree: each is simple
-  all-simple : {k : ℕ} → TopIs f k → length roots + 1 ≡ k → replicate (length roots) 1 ≡ multiplicitiesAt m f
+  all-simple : {k : ℕ} → TopIs f k → length roots + 1 ≡ k → replicate (length roots) 1 ≡ multiplicities_at m f
   unfolding N
   all-simple {k} t e =
       let n : k - 1 ≡ length roots = omega arith in
@@ -148,13 +148,13 @@ module _ {m : ℕ} {f roots mults : List ℕ} (g : Countable m f roots mults) wh
 
   -- and so ones are written
   pub simple-written : {k : ℕ} {mults' : List ℕ} → TopIs f k → length roots + 1 ≡ k → mults' ≡ copied (replicate (length roots) 1) mults
-      → mults' ≡ copied (multiplicitiesAt m f) mults
+      → mults' ≡ copied (multiplicities_at m f) mults
   simple-written t e h = h ∙ ap (λ l. copied l mults) (all-simple t e)
 
   -- no root: nothing is written
-  pub none : length roots ≡ 0 → mults ≡ copied (multiplicitiesAt m f) mults
+  pub none : length roots ≡ 0 → mults ≡ copied (multiplicities_at m f) mults
   unfolding copied
-  none e = go (rootsAt m f) (sym (ap length g.all) ∙ e)
+  none e = go (roots_at m f) (sym (ap length g.all) ∙ e)
     where
       go : (s : List ℕ) → length s ≡ 0 → mults ≡ copied (map (multiplicity (G m) f) s) mults
       go [] h = refl
@@ -168,19 +168,19 @@ module _ {m : ℕ} {f roots ls ts mults : List ℕ} (g : CountableLent m f roots
       let front : take (length f) w ≡ f = ap (take (length f)) e ∙ copied-front f d refl in
       record {
         tables = g.tables;
-        elements = subst (Below (2 ^ m)) (sym c.all) (rootsOf-below (G m) (2 ^ m) f);
+        elements = subst (Below (2 ^ m)) (sym c.all) (roots_of-below (G m) (2 ^ m) f);
         small = subst (Below (2 ^ m)) (sym front) c.polynomial.small;
         few = omega (arith, ap length front, c.polynomial.few);
         room = c.room;
       }
 
   -- and that it gives the multiplicities
-  pub lent-counts : (d : List ℕ) {w mults' : List ℕ} → w ≡ copied f d → mults' ≡ copied (multiplicitiesIn (G m) (take (length f) w) roots) mults
-      → mults' ≡ copied (multiplicitiesAt m f) mults
+  pub lent-counts : (d : List ℕ) {w mults' : List ℕ} → w ≡ copied f d → mults' ≡ copied (multiplicities_in (G m) (take (length f) w) roots) mults
+      → mults' ≡ copied (multiplicities_at m f) mults
   lent-counts d {w} e h =
       let c = g.countable in
-      let s : List ℕ = rootsAt m f in
+      let s : List ℕ = roots_at m f in
       let j = nonzero-place c.polynomial in
       h ∙ ap (λ u. copied u mults)
-      (ap₂ (λ (a b : List ℕ). multiplicitiesIn (G m) a b) (ap (take (length f)) e ∙ copied-front f d refl) c.all
-      ∙ M.taken_out (numbers_of g.tables) s f (rootsOf-below (G m) (2 ^ m) f) c.polynomial.small j.0 j.1 (rootsOf-distinct (G m) (2 ^ m) f))
+      (ap₂ (λ (a b : List ℕ). multiplicities_in (G m) a b) (ap (take (length f)) e ∙ copied-front f d refl) c.all
+      ∙ M.taken_out (numbers_of g.tables) s f (roots_of-below (G m) (2 ^ m) f) c.polynomial.small j.0 j.1 (roots_of-distinct (G m) (2 ^ m) f))

@@ -15,11 +15,11 @@ use borrow.Author.Tests.{eq-eqb, ne_eqb}
 use lib.ListN.{length, get_or, take, drop, length-append, length-drop, drop_of_length-le}
 use lib.Seq.{length-take-le, drop-append-add, drop_at}
 use Rattle.algebra.specs.Polynomial.{Below, eval}
-use Rattle.algebra.specs.Multiplicity.{left, leftIn, multiplicity, quotientBy, timesOut}
+use Rattle.algebra.specs.Multiplicity.{left, left_in, multiplicity, quotient_by, times_out}
 use Rattle.algebra.proofs.Multiplicity.{turn-root, turn-none}
-use Rattle.algebra.proofs.NumberMultiplicity.{quotientBy-below}
+use Rattle.algebra.proofs.NumberMultiplicity.{quotient_by-below}
 use Rattle.field.specs.Field.{G}
-use Rattle.poly.specs.Lent.{Lent, LogRow, held, logRow}
+use Rattle.poly.specs.Lent.{Lent, LogRow, held, log_row}
 use Rattle.poly.specs.Division.{Divisible, divided}
 use Rattle.poly.proofs.Logs.{held-row, log-at, logs-fit, numbers_of, row-is-row}
 use Rattle.poly.proofs.Parts.{part-rest, part_none}
@@ -29,7 +29,7 @@ use Rattle.find_multiplicities.specs.Counting.{Removable, Removed}
 -- e times it was taken out, and what is left stands from e on
 pub record Removing (m r : ℕ) (ls ts row f₀ f : List ℕ) (e : ℕ) : Type 0 where
   pub given : Removable m r ls ts f₀
-  pub row_is : row ≡ logRow m (r ∷ [])
+  pub row_is : row ≡ log_row m (r ∷ [])
   pub within : e ≤ length f
   pub long : length f ≡ length f₀
   pub small : Below (2 ^ m) (drop e f)
@@ -81,7 +81,7 @@ module _ {m r : ℕ} {ls ts row f₀ f : List ℕ} {e : ℕ} (s : Removing m r l
   pub removing-on : {v : ℕ} {y : List ℕ} → e < length f → v ≡ eval (G m) (take (length f - e) (drop e f)) r → v ≡ 0
       → y ≡ divided m (held m row) (take (length f - e) (drop e f))
       → Removing m r ls ts row f₀ (take e f ++ (y ++ drop (length f - e) (drop e f))) (e + 1)
-  unfolding quotientBy
+  unfolding quotient_by
   removing-on {v} {y} l h z d =
       let g : List ℕ = drop e f in
       let p : held m row ≡ r ∷ [] = ap (held m) s.row_is ∙ held-row s.given.tables (r ∷ []) (s.given.element, tt) in
@@ -89,9 +89,9 @@ module _ {m r : ℕ} {ls ts row f₀ f : List ℕ} {e : ℕ} (s : Removing m r l
       let whole : take e f ++ (y ++ drop (length f - e) (drop e f)) ≡ take e f ++ divided m (r ∷ []) g = ap (λ u. take e f ++ u) (part_none e f y ∙ w) in
       let front : length (take e f) ≡ e = length-take-le e f (omega arith) in
       let n : length g ≡ length f - e = length-drop e f in
-      let behind : drop (e + 1) (take e f ++ divided m (r ∷ []) g) ≡ quotientBy (G m) r g =
+      let behind : drop (e + 1) (take e f ++ divided m (r ∷ []) g) ≡ quotient_by (G m) r g =
       ap (λ i. drop (i + 1) (take e f ++ divided m (r ∷ []) g)) (sym front) ∙ drop-append-add (take e f) (divided m (r ∷ []) g) 1 ∙ divided-behind m (r ∷ []) g refl in
-      let rest : drop (e + 1) (take e f ++ (y ++ drop (length f - e) (drop e f))) ≡ quotientBy (G m) r g = ap (drop (e + 1)) whole ∙ behind in
+      let rest : drop (e + 1) (take e f ++ (y ++ drop (length f - e) (drop e f))) ≡ quotient_by (G m) r g = ap (drop (e + 1)) whole ∙ behind in
       let t = turn-root (G m) g r (omega arith) (eq-eqb (eval (G m) g r) 0 (sym (ap (λ u. eval (G m) u r) part) ∙ sym h ∙ z)) in
       let long : length (take e f ++ (y ++ drop (length f - e) (drop e f))) ≡ length f =
       ap length whole ∙ omega (arith, length-append (take e f) (divided m (r ∷ []) g), front, n, length-divided s.given.tables (r ∷ []) g (omega arith)) in
@@ -100,14 +100,14 @@ module _ {m r : ℕ} {ls ts row f₀ f : List ℕ} {e : ℕ} (s : Removing m r l
         row_is = s.row_is;
         within = omega arith;
         long = long ∙ s.long;
-        small = subst (Below (2 ^ m)) (sym rest) (quotientBy-below (numbers_of s.given.tables) r g s.given.element s.small);
+        small = subst (Below (2 ^ m)) (sym rest) (quotient_by-below (numbers_of s.given.tables) r g s.given.element s.small);
         count = ap (λ u. e + 1 + multiplicity (G m) u r) rest ∙ omega (arith, s.count, t.0);
         rest = ap (λ u. left (G m) u r) rest ∙ sym t.1 ∙ s.rest;
       }
 
   -- the end where nothing is left
   pub removing-end : length f ≤ e → Removed m r f₀ e f
-  unfolding timesOut leftIn
+  unfolding times_out left_in
   removing-end l =
       let none : drop e f ≡ [] = drop_of_length-le f {i = e} l in
       let w = s.within in

@@ -8,7 +8,7 @@
 use Rattle.std.specs.Prelude.{◌≡◌, List, ℕ, ◌^◌, ◌≤◌, ◌<◌, length, drop}
 use Rattle.algebra.specs.Polynomial.{Below}
 use Rattle.algebra.specs.Multiplicity.{multiplicity, left}
-use Rattle.field.specs.Field.{G, rootsAt}
+use Rattle.field.specs.Field.{G, roots_at}
 use Rattle.poly.specs.Lent.{Lent}
 use Rattle.input.specs.Polynomials.{PolynomialIn}
 
@@ -32,7 +32,7 @@ pub record Usable (m : ℕ) (roots ls ts f mults : List ℕ) : Type 0 where
 
 pub record Countable (m : ℕ) (f roots mults : List ℕ) : Type 0 where
   pub polynomial : PolynomialIn m f
-  pub all : roots ≡ rootsAt m f
+  pub all : roots ≡ roots_at m f
   pub room : length roots ≤ length mults
 
 pub record CountableLent (m : ℕ) (f roots ls ts mults : List ℕ) : Type 0 where

@@ -2,8 +2,8 @@
 // polynomial. Where there are as many roots as the degree each is simple, and nothing is divided. Otherwise z + r is
 // taken out by division (Ruffini), root after root, as often as the value there is 0.
 ghost use Rattle.std.specs.Prelude.{◌≡◌, ◌≤◌, length, replicate};
-ghost use Rattle.algebra.specs.Multiplicity.{multiplicitiesIn};
-ghost use Rattle.field.specs.Field.{G, multiplicitiesAt};
+ghost use Rattle.algebra.specs.Multiplicity.{multiplicities_in};
+ghost use Rattle.field.specs.Field.{G, multiplicities_at};
 ghost use Rattle.slices.specs.Lists.{copied};
 ghost use Rattle.find_multiplicities.specs.Counting.{Countable, CountableLent, Removable, Removed, Usable};
 
@@ -53,7 +53,7 @@ fn count_each(
 )
     requires { Usable m roots.now logs.now antilogs.now f.old mults.old }
     ensures { mults.new
-        ≡ copied (multiplicitiesIn (G m) f.old roots.now) mults.old }
+        ≡ copied (multiplicities_in (G m) f.old roots.now) mults.old }
 {
     let mut at = 0;
     let mut i = 0;
@@ -75,7 +75,7 @@ pub fn multiplicities_lent(
     mults: &mut [u16],
 )
     requires { CountableLent m coeffs.now roots.now logs.now antilogs.now mults.old }
-    ensures { mults.new ≡ copied (multiplicitiesAt m coeffs.now) mults.old }
+    ensures { mults.new ≡ copied (multiplicities_at m coeffs.now) mults.old }
 {
     let mut work = [0u16; COEFFICIENTS];
     let n = coeffs.len();
@@ -86,7 +86,7 @@ pub fn multiplicities_lent(
 // The same. The field's tables are lent here.
 fn count_in(m: u16, coeffs: &[u16], roots: &[u16], mults: &mut [u16])
     requires { Countable m coeffs.now roots.now mults.old }
-    ensures { mults.new ≡ copied (multiplicitiesAt m coeffs.now) mults.old }
+    ensures { mults.new ≡ copied (multiplicities_at m coeffs.now) mults.old }
 {
     match m {
         4 => multiplicities_lent(m, coeffs, roots, &logs4(m), &antilogs4(m), mults),
@@ -98,7 +98,7 @@ fn count_in(m: u16, coeffs: &[u16], roots: &[u16], mults: &mut [u16])
 // Writes the multiplicity of each root of an accepted polynomial to the front of mults, in the order of its roots.
 pub fn multiplicities_in(m: u16, coeffs: &[u16], roots: &[u16], mults: &mut [u16])
     requires { Countable m coeffs.now roots.now mults.old }
-    ensures { mults.new ≡ copied (multiplicitiesAt m coeffs.now) mults.old }
+    ensures { mults.new ≡ copied (multiplicities_at m coeffs.now) mults.old }
 {
     let n = roots.len();
     if n + 1 == top(coeffs) {

@@ -15,18 +15,18 @@ use lib.ListN.{length, take, get_or, replicate}
 use lib.Seq.{length-take-le, get_or-take}
 use Rattle.algebra.specs.Field.{OnNumbers}
 use Rattle.algebra.specs.Trial.{All, Distinct}
-use Rattle.algebra.specs.Polynomial.{eval, coef, isRoot, rootsOf, Below}
+use Rattle.algebra.specs.Polynomial.{eval, coef, is_root, roots_of, Below}
 use Rattle.algebra.proofs.Trial.{all-at}
 use Rattle.algebra.proofs.StaysBelow.{take_below}
 use Rattle.algebra.proofs.NumberEvaluation.{eval-same}
-use Rattle.algebra.proofs.RootList.{isRoot-is, rootsOf-empty}
+use Rattle.algebra.proofs.RootList.{is_root-is, roots_of-empty}
 use Rattle.slices.specs.Lists.{copied}
 use Rattle.slices.specs.Ordered.{Merged}
-use Rattle.slices.specs.Bounded.{allZero}
-use Rattle.slices.proofs.Bounded.{allZero-exactly}
+use Rattle.slices.specs.Bounded.{all_zero}
+use Rattle.slices.proofs.Bounded.{all_zero-exactly}
 use Rattle.slices.proofs.Lists.{length-copied, copied-front}
 use Rattle.slices.proofs.Ordered.{merged-kept, merged-count}
-use Rattle.field.specs.Field.{G, rootsAt}
+use Rattle.field.specs.Field.{G, roots_at}
 use Rattle.poly.specs.Monic.{TopIs}
 use Rattle.poly.proofs.Logs.{numbers_of}
 use Rattle.input.specs.Limit.{limit}
@@ -83,13 +83,13 @@ module _ {m : ℕ} {f ls ts chain : List ℕ} {end : ℕ} {roots : List ℕ} (a 
     where
       go : Dec (0 < j) → 0 < j
       go (yes h) = h
-      go (no h) = absurd (impossible a.searchable.polynomial.nonzero ((allZero-exactly f).1 (zeros f (λ i. t.above i (omega arith)))))
+      go (no h) = absurd (impossible a.searchable.polynomial.nonzero ((all_zero-exactly f).1 (zeros f (λ i. t.above i (omega arith)))))
         where
           zeros : (l : List ℕ) → ((i : ℕ) → get_or l i 0 ≡ 0) → l ≡ replicate (length l) 0
           zeros [] z = refl
           zeros (x ∷ l) z = ap₂ ◌∷◌ (z 0) (zeros l (λ i. z (suc i)))
 
-          impossible : allZero f ≡ false → allZero f ≡ true → ⊥
+          impossible : all_zero f ≡ false → all_zero f ≡ true → ⊥
           impossible u v = true≢false (sym v ∙ u)
 
   lead : get_or (take j f) (length (take j f) - 1) 0 ≢ 0
@@ -109,8 +109,8 @@ module _ {m : ℕ} {f ls ts chain : List ℕ} {end : ℕ} {roots : List ℕ} (a 
       fewer : (xs : List ℕ) → Distinct xs → All (λ x. (x < 2 ^ m) × (eval (G m) (take j f) x ≡ 0)) xs → length xs < 1
       fewer xs d e = let n = few-roots m a.searchable.tables.degree (take j f) xs (take_below (2 ^ m) j f small) led d e in omega (arith, long)
 
-      none : rootsAt m f ≡ []
-      none = rootsOf-empty N f small (λ z hz e. let n : 1 < 1 = fewer (z ∷ []) (tt, tt) ((hz, eval-cut z hz ∙ e), tt) in omega arith)
+      none : roots_at m f ≡ []
+      none = roots_of-empty N f small (λ z hz e. let n : 1 < 1 = fewer (z ∷ []) (tt, tt) ((hz, eval-cut z hz ∙ e), tt) in omega arith)
 
   -- ---- the roots, listed
 
@@ -144,11 +144,11 @@ module _ {m : ℕ} {f ls ts chain : List ℕ} {end : ℕ} {roots : List ℕ} (a 
       l = subst (λ u. Levelled m chain end u k xs) e l'
 
       -- each root stands there, and nothing else
-      members : (x : ℕ) → Memᴰ x (take k xs) ↔ ((x < 2 ^ m) × T (isRoot (G m) f x))
+      members : (x : ℕ) → Memᴰ x (take k xs) ↔ ((x < 2 ^ m) × T (is_root (G m) f x))
       members x = (
         λ i. let e = all-at (λ x. (x < 2 ^ m) × (eval (G m) (take j f) x ≡ 0)) (take k xs) l.roots i in
-            (e.0, (isRoot-is N f small x e.0).1 (sym (eval-cut x e.0) ∙ e.1)),
-        λ h. l.whole x h.0 (eval-cut x h.0 ∙ (isRoot-is N f small x h.0).0 h.1) (a.chained.reach x h.0),
+            (e.0, (is_root-is N f small x e.0).1 (sym (eval-cut x e.0) ∙ e.1)),
+        λ h. l.whole x h.0 (eval-cut x h.0 ∙ (is_root-is N f small x h.0).0 h.1) (a.chained.reach x h.0),
       )
 
       found-few : length (take k xs) ≤ limit
@@ -162,8 +162,8 @@ module _ {m : ℕ} {f ls ts chain : List ℕ} {end : ℕ} {roots : List ℕ} (a 
       found-room = let r = a.searchable.room in omega (arith, found-few)
 
       pub found_all : {n : ℕ} {roots' : List ℕ} → Merged 0 (take k xs) roots n roots' → SearchedOut m f roots n roots'
-      unfolding rootsOf
-      found_all g = let e = merged-kept (isRoot (G m) f) (2 ^ m) g members in record { count = e.0; slots = e.1 }
+      unfolding roots_of
+      found_all g = let e = merged-kept (is_root (G m) f) (2 ^ m) g members in record { count = e.0; slots = e.1 }
 
       pub found-small : {n : ℕ} {roots' : List ℕ} → Merged 0 (take k xs) roots n roots' → n ≤ limit
       found-small g = omega (arith, merged-count g (omega arith), found-few)

@@ -13,39 +13,39 @@ use borrow.Author.Tests.{ltb-false}
 use lib.Dec.{ltb}
 use lib.ListN.{length, take}
 use Rattle.refusals.specs.Order.{Passed}
-use Rattle.refusals.specs.Admitting.{Admits, withTest}
+use Rattle.refusals.specs.Admitting.{Admits, with_test}
 use Rattle.refusals.specs.declared.Refusal.TheVariants.{Room}
 use Rattle.refusals.specs.declared.Admission.{Admission}
 use Rattle.refusals.proofs.Admitting.{admits-also}
 use Rattle.refusals.proofs.Order.{failed, others}
 use Rattle.slices.specs.Lists.{copied}
 use Rattle.slices.proofs.Lists.{length-copied}
-use Rattle.field.specs.Field.{rootsAt, multiplicitiesAt}
+use Rattle.field.specs.Field.{roots_at, multiplicities_at}
 use Rattle.input.specs.Limit.{limit}
-use Rattle.input.specs.Polynomials.{polynomialTests, PolynomialIn}
+use Rattle.input.specs.Polynomials.{polynomial_tests, PolynomialIn}
 use Rattle.input.proofs.Polynomials.{polynomial-told, roots_few, passed-rest}
 use Rattle.input.proofs.RootMemory.{lists-accepted}
 use Rattle.find_multiplicities.specs.Counting.{Countable}
 use Rattle.find_multiplicities.proofs.Asking.{countable}
-use Rattle.find_search.specs.Calls.{searchTests, Searches}
+use Rattle.find_search.specs.Calls.{search_tests, Searches}
 use Rattle.find_search.specs.declared.Searched.TheVariants.{Seen}
 use Rattle.find_search.specs.Searching.{SearchedOut}
 
-pub search-room : (m : ℕ) (f roots : List ℕ) {us : List (ℕ × Bool)} → Passed (polynomialTests m f ((7, ltb (length roots) limit) ∷ us)) → limit ≤ length roots
+pub search-room : (m : ℕ) (f roots : List ℕ) {us : List (ℕ × Bool)} → Passed (polynomial_tests m f ((7, ltb (length roots) limit) ∷ us)) → limit ≤ length roots
 search-room m f roots h = ltb-false (length roots) limit (failed (passed-rest m f h))
 
-pub roots-room : {m n : ℕ} {f : List ℕ} → PolynomialIn m f → limit ≤ n → length (rootsAt m f) ≤ n
+pub roots-room : {m n : ℕ} {f : List ℕ} → PolynomialIn m f → limit ≤ n → length (roots_at m f) ≤ n
 roots-room p h = omega (arith, roots_few p)
 
 -- ---- both lists
 
 -- the second list's room is tested behind the first's
-pub both-rooms : (m : ℕ) (f roots mults : List ℕ) (found : Admission) {r : Admission} → Admits (polynomialTests m f ((7, ltb (length roots) limit) ∷ [])) found
-    → r ≡ withTest found (ltb (length mults) limit) Room → Admits (searchTests m f roots mults) r
+pub both-rooms : (m : ℕ) (f roots mults : List ℕ) (found : Admission) {r : Admission} → Admits (polynomial_tests m f ((7, ltb (length roots) limit) ∷ [])) found
+    → r ≡ with_test found (ltb (length mults) limit) Room → Admits (search_tests m f roots mults) r
 both-rooms m f roots mults found h e =
-    admits-also (polynomialTests m f ((7, ltb (length roots) limit) ∷ [])) found (ltb (length mults) limit) Room e h
+    admits-also (polynomial_tests m f ((7, ltb (length roots) limit) ∷ [])) found (ltb (length mults) limit) Room e h
 
-module _ (m : ℕ) (f roots mults : List ℕ) (p : Passed (searchTests m f roots mults)) where
+module _ (m : ℕ) (f roots mults : List ℕ) (p : Passed (search_tests m f roots mults)) where
   -- so it has room for the limit
   beside-room : limit ≤ length mults
   beside-room = ltb-false (length mults) limit (failed (others (passed-rest m f p)))
@@ -58,8 +58,8 @@ module _ (m : ℕ) (f roots mults : List ℕ) (p : Passed (searchTests m f roots
     pub searched-within : k ≤ length roots'
     unfolding told
     searched-within =
-        let few : length (rootsAt m f) ≤ length roots = roots-room told (search-room m f roots p) in
-        omega (arith, o.count, ap length o.slots, length-copied (rootsAt m f) roots few)
+        let few : length (roots_at m f) ≤ length roots = roots-room told (search-room m f roots p) in
+        omega (arith, o.count, ap length o.slots, length-copied (roots_at m f) roots few)
 
     -- they can be counted
     pub searched-counts : Countable m f (take k roots') mults
@@ -67,5 +67,5 @@ module _ (m : ℕ) (f roots mults : List ℕ) (p : Passed (searchTests m f roots
     searched-counts = countable roots told o.count o.slots beside-room
 
     -- and both lists are filled
-    pub searched-both : {mults' : List ℕ} → mults' ≡ copied (multiplicitiesAt m f) mults → Searches m f roots mults (Seen k) roots' mults'
+    pub searched-both : {mults' : List ℕ} → mults' ≡ copied (multiplicities_at m f) mults → Searches m f roots mults (Seen k) roots' mults'
     searched-both e = lists-accepted p (ap (λ (a : ℕ). (0, a ∷ [])) o.count) o.slots e

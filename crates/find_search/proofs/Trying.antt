@@ -14,19 +14,19 @@ use borrow.Author.Tests.{eq-eqb, ne_eqb}
 use lib.Dec.{lit≤}
 use lib.ListN.{length, drop, set, length-append, length-set}
 use Rattle.algebra.specs.Trial.{up_from, keep}
-use Rattle.algebra.specs.Polynomial.{eval, rootsOf}
+use Rattle.algebra.specs.Polynomial.{eval, roots_of}
 use Rattle.field.proofs.Known.{by_row, listed}
-use Rattle.field.specs.Field.{rootsAt, G}
+use Rattle.field.specs.Field.{roots_at, G}
 use Rattle.slices.specs.Lists.{copied}
 use Rattle.poly.specs.Lent.{Lent}
-use Rattle.find_search.specs.Searching.{SearchedOut, isRootAt, below, Tried, Noted}
+use Rattle.find_search.specs.Searching.{SearchedOut, is_root_at, below, Tried, Noted}
 
 -- one number more at the end
-upFrom-last : (k n : ℕ) → up_from k (suc n) ≡ up_from k n ++ (k + n) ∷ []
+up_from-last : (k n : ℕ) → up_from k (suc n) ≡ up_from k n ++ (k + n) ∷ []
 unfolding up_from
-upFrom-last k zero = ap (λ (x : ℕ). x ∷ []) (sym (add-zero k))
-upFrom-last k (suc n) =
-    ap (λ (l : List ℕ). k ∷ l) (upFrom-last (suc k) n ∙ ap (λ (x : ℕ). up_from (suc k) n ++ x ∷ []) (suc-add k n ∙ sym (add-suc k n)))
+up_from-last k zero = ap (λ (x : ℕ). x ∷ []) (sym (add-zero k))
+up_from-last k (suc n) =
+    ap (λ (l : List ℕ). k ∷ l) (up_from-last (suc k) n ∙ ap (λ (x : ℕ). up_from (suc k) n ++ x ∷ []) (suc-add k n ∙ sym (add-suc k n)))
 
 keep_append : (t : ℕ → Bool) (a b : List ℕ) → keep t (a ++ b) ≡ keep t a ++ keep t b
 keep_append t [] b = refl
@@ -39,10 +39,10 @@ keep_append t (x ∷ a) b = go (t x) (keep_append t a b)
 
 -- what passes below n, with n tried too
 kept-hit : (t : ℕ → Bool) (n : ℕ) → t n ≡ true → keep t (up_from 0 (suc n)) ≡ keep t (up_from 0 n) ++ n ∷ []
-kept-hit t n h = ap (keep t) (upFrom-last 0 n ∙ ap (λ (x : ℕ). up_from 0 n ++ x ∷ []) (zero-add n)) ∙ keep_append t (up_from 0 n) (n ∷ []) ∙ rw h refl
+kept-hit t n h = ap (keep t) (up_from-last 0 n ∙ ap (λ (x : ℕ). up_from 0 n ++ x ∷ []) (zero-add n)) ∙ keep_append t (up_from 0 n) (n ∷ []) ∙ rw h refl
 
 kept-miss : (t : ℕ → Bool) (n : ℕ) → t n ≡ false → keep t (up_from 0 (suc n)) ≡ keep t (up_from 0 n)
-kept-miss t n h = ap (keep t) (upFrom-last 0 n ∙ ap (λ (x : ℕ). up_from 0 n ++ x ∷ []) (zero-add n)) ∙ keep_append t (up_from 0 n) (n ∷ []) ∙ rw h (append-nil (keep t (up_from 0 n)))
+kept-miss t n h = ap (keep t) (up_from-last 0 n ∙ ap (λ (x : ℕ). up_from 0 n ++ x ∷ []) (zero-add n)) ∙ keep_append t (up_from 0 n) (n ∷ []) ∙ rw h (append-nil (keep t (up_from 0 n)))
   where
     append-nil : (l : List ℕ) → l ++ [] ≡ l
     append-nil [] = refl
@@ -93,20 +93,20 @@ tried-moved h e g = rw (e, g) h
 
 -- a root found has its slot, as all roots have
 pub tried-room : {m : ℕ} {f roots roots' : List ℕ} {x k : ℕ} → Tried m f roots x k roots' → x < 2 ^ m → eval (G m) f x ≡ 0
-    → length (rootsAt m f) ≤ length roots → k < length roots
-unfolding rootsOf
+    → length (roots_at m f) ≤ length roots → k < length roots
+unfolding roots_of
 tried-room {m} {f} {roots} {x = x} {k = k} h l z r =
     let d : ℕ = 2 ^ m - suc x in
-    let hit : length (below m f (suc x)) ≡ suc k = ap length (kept-hit (isRootAt m f) x (eq-eqb (eval (G m) f x) 0 z)) ∙ length-append (below m f x) (x ∷ []) ∙ (let c = h.count in omega arith) in
-    let more = kept-grows (isRootAt m f) (suc x) d in
+    let hit : length (below m f (suc x)) ≡ suc k = ap length (kept-hit (is_root_at m f) x (eq-eqb (eval (G m) f x) 0 z)) ∙ length-append (below m f x) (x ∷ []) ∙ (let c = h.count in omega arith) in
+    let more = kept-grows (is_root_at m f) (suc x) d in
     let all : suc x + d ≡ 2 ^ m = omega arith in
-    let most : length (below m f (suc x)) ≤ length (keep (isRootAt m f) (up_from 0 (2 ^ m))) = subst (λ (n : ℕ). length (below m f (suc x)) ≤ length (keep (isRootAt m f) (up_from 0 n))) all more in
+    let most : length (below m f (suc x)) ≤ length (keep (is_root_at m f) (up_from 0 (2 ^ m))) = subst (λ (n : ℕ). length (below m f (suc x)) ≤ length (keep (is_root_at m f) (up_from 0 n))) all more in
     omega arith
 
 pub tried-hit : {m : ℕ} {f roots roots' : List ℕ} {x k : ℕ} → Tried m f roots x k roots' → x < 2 ^ m → eval (G m) f x ≡ 0 → k < length roots
     → Tried m f roots (x + 1) (k + 1) (set roots' k x)
 tried-hit {m} {f} {roots} {roots'} {x} {k} h l z r =
-    let hit = kept-hit (isRootAt m f) x (eq-eqb (eval (G m) f x) 0 z) in
+    let hit = kept-hit (is_root_at m f) x (eq-eqb (eval (G m) f x) 0 z) in
     record {
       within = omega arith;
       count = ap (λ (n : ℕ). n + 1) h.count ∙ sym (ap (λ (n : ℕ). length (below m f n)) (add-one x) ∙ ap length hit ∙ length-append (below m f x) (x ∷ []));
@@ -121,7 +121,7 @@ tried-hit {m} {f} {roots} {roots'} {x} {k} h l z r =
 pub tried-miss : {m : ℕ} {f roots roots' : List ℕ} {x k : ℕ} → Tried m f roots x k roots' → x < 2 ^ m → (eval (G m) f x ≡ 0 → ⊥)
     → Tried m f roots (x + 1) k roots'
 tried-miss {m} {f} {roots} {roots'} {x} {k} h l z =
-    let miss = kept-miss (isRootAt m f) x (ne_eqb (eval (G m) f x) 0 z) in
+    let miss = kept-miss (is_root_at m f) x (ne_eqb (eval (G m) f x) 0 z) in
     record {
       within = omega arith;
       count = h.count ∙ sym (ap (λ (n : ℕ). length (below m f n)) (add-one x) ∙ ap length miss);
@@ -131,7 +131,7 @@ tried-miss {m} {f} {roots} {roots'} {x} {k} h l z =
     }
 
 pub tried-end : {m : ℕ} {f roots roots' : List ℕ} {x k : ℕ} → Tried m f roots x k roots' → 2 ^ m ≤ x → SearchedOut m f roots k roots'
-unfolding rootsOf
+unfolding roots_of
 tried-end {m} {f} {roots} {x = x} h l =
     let e : x ≡ 2 ^ m = (let w = h.within in omega arith) in
     record {
@@ -142,7 +142,7 @@ tried-end {m} {f} {roots} {x = x} h l =
 -- ---- an element noted
 
 pub tried-note : {m : ℕ} {f roots r r' : List ℕ} {x k k' v : ℕ} → Tried m f roots x k r → x < 2 ^ m → v ≡ eval (G m) f x
-    → length (rootsAt m f) ≤ length roots → Noted v x k r k' r' → Tried m f roots (x + 1) k' r'
+    → length (roots_at m f) ≤ length roots → Noted v x k r k' r' → Tried m f roots (x + 1) k' r'
 tried-note {m} {f} {roots} {r' = r'} {x} {k' = k'} {v = v} h l e room n = go (ℕ_discrete v 0)
   where
     go : Dec (v ≡ 0) → Tried m f roots (x + 1) k' r'
@@ -151,7 +151,7 @@ tried-note {m} {f} {roots} {r' = r'} {x} {k' = k'} {v = v} h l e room n = go (�
 
 -- where a root is found there is room for it
 pub note-room : {m : ℕ} {f roots r : List ℕ} {x k v : ℕ} → Tried m f roots x k r → x < 2 ^ m → v ≡ eval (G m) f x
-    → length (rootsAt m f) ≤ length roots → v ≡ 0 → k < length r
+    → length (roots_at m f) ≤ length roots → v ≡ 0 → k < length r
 note-room h l e room z = let r = tried-room h l (sym e ∙ z) room in let g = h.long in omega arith
 
 pub tried-next : {m : ℕ} {f roots r : List ℕ} {x y k : ℕ} → Tried m f roots x k r → y ≡ x → Tried m f roots y k r
@@ -174,7 +174,7 @@ pub tried-over : {m : ℕ} {f roots r r' : List ℕ} {x y k j : ℕ} → Tried m
 tried-over {m} {f} {roots} {x = x} {y = y} h s l =
     let d : ℕ = y - x in
     let all : x + d ≡ y = omega arith in
-    let more : length (below m f x) ≤ length (below m f y) = subst (λ (n : ℕ). length (below m f x) ≤ length (below m f n)) all (kept-grows (isRootAt m f) x d) in
+    let more : length (below m f x) ≤ length (below m f y) = subst (λ (n : ℕ). length (below m f x) ≤ length (below m f n)) all (kept-grows (is_root_at m f) x d) in
     record {
       within = s.within;
       count = s.count;
@@ -184,13 +184,13 @@ tried-over {m} {f} {roots} {x = x} {y = y} h s l =
     }
 
 pub searched-over : {m : ℕ} {f roots r r' : List ℕ} {x k j : ℕ} → Tried m f roots x j r → SearchedOut m f r k r' → SearchedOut m f roots k r'
-unfolding rootsOf
+unfolding roots_of
 searched-over {m} {f} {roots} {x = x} h s =
     let w = h.within in
     let d : ℕ = 2 ^ m - x in
     let all : x + d ≡ 2 ^ m = omega arith in
-    let more : length (below m f x) ≤ length (rootsAt m f) = subst (λ (n : ℕ). length (below m f x) ≤ length (below m f n)) all (kept-grows (isRootAt m f) x d) in
-    record { count = s.count; slots = s.slots ∙ ap (copied (rootsAt m f)) h.slots ∙ copied-over (below m f x) (rootsAt m f) roots more }
+    let more : length (below m f x) ≤ length (roots_at m f) = subst (λ (n : ℕ). length (below m f x) ≤ length (below m f n)) all (kept-grows (is_root_at m f) x d) in
+    record { count = s.count; slots = s.slots ∙ ap (copied (roots_at m f)) h.slots ∙ copied-over (below m f x) (roots_at m f) roots more }
 
 -- ---- how many elements there are
 

@@ -16,7 +16,7 @@ use lib.Count.{count_trailing_zeros, under}
 use lib.ListN.{length, set}
 use Rattle.algebra.specs.Polynomial.{eval}
 use Rattle.field.specs.Field.{G}
-use Rattle.poly_values.specs.Planes.{occupied, wordsAt, taps11}
+use Rattle.poly_values.specs.Planes.{occupied, words_at, taps11}
 use Rattle.poly_values.specs.Tables.{Values}
 use Rattle.poly_values.proofs.Finishing.{free-hit, free-miss}
 use Rattle.find_search.specs.Searching.{Tried, RootDigits, Wordable}
@@ -142,7 +142,7 @@ module _ {f roots : List ℕ} {free x k : ℕ} (w : Wordable f free x k roots) w
 
 -- ---- the word of the lanes that are 0
 
-pub free-from : {f p : List ℕ} → Values taps11 f p 32 → (w : ℕ) → w < 32 → {z : ℕ} → z ≡ occupied (wordsAt 11 p (w * 11)) → z < 2 ^ 64 → RootDigits f (w * 64) (bit_xor z 18446744073709551615)
+pub free-from : {f p : List ℕ} → Values taps11 f p 32 → (w : ℕ) → w < 32 → {z : ℕ} → z ≡ occupied (words_at 11 p (w * 11)) → z < 2 ^ 64 → RootDigits f (w * 64) (bit_xor z 18446744073709551615)
 free-from v w h {z} e b = record {
   small = xor_lt 64 z 18446744073709551615 b (omega arith);
   hit = λ l k d. free-hit v w h e l k d;

@@ -1,30 +1,30 @@
 -- What the plain search answers, for every input (docs/RULES.md section 3.5). The front of the first lent list is
 -- then the roots, ascending, and that of the second their multiplicities.
---   searchTests     its tests in their order, each behind its number
---   searchOutcome   its outcome: the number of roots
---   toldSearched    the number and the value of its answer
+--   search_tests     its tests in their order, each behind its number
+--   search_outcome   its outcome: the number of roots
+--   told_searched    the number and the value of its answer
 --   Searches        THE CONTRACT: the answers and lists that the search admits
 -- Assumes nothing.
 use Rattle.std.specs.Prelude.{Bool, List, [], ◌∷◌, ℕ, length}
 use Rattle.refusals.specs.Order.{outcome}
 use Rattle.refusals.specs.Numbers.{number_of}
-use Rattle.field.specs.Field.{rootsAt}
-use Rattle.input.specs.RootMemory.{roomTests, ListsRoots}
-use Rattle.input.specs.Polynomials.{polynomialTests}
+use Rattle.field.specs.Field.{roots_at}
+use Rattle.input.specs.RootMemory.{room_tests, ListsRoots}
+use Rattle.input.specs.Polynomials.{polynomial_tests}
 use Rattle.find_search.specs.declared.Searched.{Searched}
 use Rattle.find_search.specs.declared.Searched.TheVariants.{Seen, NotSearched}
 
-abbrev pub searchTests : ℕ → List ℕ → List ℕ → List ℕ → List (ℕ × Bool)
-searchTests m cs roots mults = polynomialTests m cs (roomTests roots mults)
+abbrev pub search_tests : ℕ → List ℕ → List ℕ → List ℕ → List (ℕ × Bool)
+search_tests m cs roots mults = polynomial_tests m cs (room_tests roots mults)
 
-abbrev pub searchOutcome : ℕ → List ℕ → List ℕ → List ℕ → ℕ × List ℕ
-searchOutcome m cs roots mults = outcome (searchTests m cs roots mults) (length (rootsAt m cs) ∷ [])
+abbrev pub search_outcome : ℕ → List ℕ → List ℕ → List ℕ → ℕ × List ℕ
+search_outcome m cs roots mults = outcome (search_tests m cs roots mults) (length (roots_at m cs) ∷ [])
 
-abbrev pub toldSearched : Searched → ℕ × List ℕ
-toldSearched (Seen s) = (0, s ∷ [])
-toldSearched (NotSearched k) = (number_of k, [])
+abbrev pub told_searched : Searched → ℕ × List ℕ
+told_searched (Seen s) = (0, s ∷ [])
+told_searched (NotSearched k) = (number_of k, [])
 
 -- the contract: an answer, and the lent lists afterwards
 abbrev pub Searches : ℕ → List ℕ → List ℕ → List ℕ → Searched → List ℕ → List ℕ → Type 0
 Searches m cs roots mults r =
-    ListsRoots (searchTests m cs roots mults) (length (rootsAt m cs) ∷ []) m cs roots mults (toldSearched r)
+    ListsRoots (search_tests m cs roots mults) (length (roots_at m cs) ∷ []) m cs roots mults (told_searched r)

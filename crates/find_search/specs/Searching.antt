@@ -9,8 +9,8 @@
 -- Assumes nothing.
 use Rattle.std.specs.Prelude.{◌≡◌, Bool, List, ℕ, ◌+◌, ◌/◌, ◌%◌, ◌^◌, ◌≤◌, ◌<◌, length, set}
 use Rattle.algebra.specs.Trial.{keep, up_from}
-use Rattle.algebra.specs.Polynomial.{eval, isRoot}
-use Rattle.field.specs.Field.{rootsAt, G}
+use Rattle.algebra.specs.Polynomial.{eval, is_root}
+use Rattle.field.specs.Field.{roots_at, G}
 use Rattle.slices.specs.Lists.{copied}
 use Rattle.poly.specs.Lent.{Lent}
 use Rattle.input.specs.Limit.{limit}
@@ -22,15 +22,15 @@ pub record Searchable (m : ℕ) (f ls ts roots : List ℕ) : Type 0 where
   pub room : limit ≤ length roots
 
 pub record SearchedOut (m : ℕ) (f roots : List ℕ) (k : ℕ) (roots' : List ℕ) : Type 0 where
-  pub count : k ≡ length (rootsAt m f)
-  pub slots : roots' ≡ copied (rootsAt m f) roots
+  pub count : k ≡ length (roots_at m f)
+  pub slots : roots' ≡ copied (roots_at m f) roots
 
 -- is f 0 at x?
-abbrev pub isRootAt : ℕ → List ℕ → ℕ → Bool
-isRootAt m f = isRoot (G m) f
+abbrev pub is_root_at : ℕ → List ℕ → ℕ → Bool
+is_root_at m f = is_root (G m) f
 
 abbrev pub below : ℕ → List ℕ → ℕ → List ℕ
-below m f x = keep (isRootAt m f) (up_from 0 x)
+below m f x = keep (is_root_at m f) (up_from 0 x)
 
 pub record Tried (m : ℕ) (f roots : List ℕ) (x k : ℕ) (roots' : List ℕ) : Type 0 where
   pub within : x ≤ 2 ^ m
@@ -51,5 +51,5 @@ pub record RootDigits (f : List ℕ) (x free : ℕ) : Type 0 where
 pub record Wordable (f : List ℕ) (free x k : ℕ) (roots : List ℕ) : Type 0 where
   pub tried : Tried 11 f roots x k roots
   pub digits : RootDigits f x free
-  pub room : length (rootsAt 11 f) ≤ length roots
+  pub room : length (roots_at 11 f) ≤ length roots
   pub within : x + 64 ≤ 2048

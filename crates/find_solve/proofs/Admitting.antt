@@ -14,30 +14,30 @@ use borrow.Author.Tests.{ltb-false}
 use lib.Dec.{ltb}
 use lib.ListN.{length, take}
 use Rattle.refusals.specs.Order.{Passed}
-use Rattle.refusals.specs.Admitting.{Admits, withTest}
+use Rattle.refusals.specs.Admitting.{Admits, with_test}
 use Rattle.refusals.specs.declared.Refusal.TheVariants.{Room}
 use Rattle.refusals.specs.declared.Admission.{Admission}
 use Rattle.refusals.proofs.Admitting.{admits-also}
 use Rattle.refusals.proofs.Order.{failed, others}
 use Rattle.slices.specs.Lists.{copied}
 use Rattle.slices.proofs.Lists.{length-copied}
-use Rattle.field.specs.Field.{rootsAt, multiplicitiesAt}
-use Rattle.input.specs.Cutoff.{highestCutoff, houseDefault, inForce}
-use Rattle.input.proofs.Cutoff.{inForce-least, inForce-most}
+use Rattle.field.specs.Field.{roots_at, multiplicities_at}
+use Rattle.input.specs.Cutoff.{highest_cutoff, house_default, in_force}
+use Rattle.input.proofs.Cutoff.{in_force-least, in_force-most}
 use Rattle.input.specs.Limit.{limit, widest}
-use Rattle.input.specs.Polynomials.{polynomialTests, PolynomialIn}
+use Rattle.input.specs.Polynomials.{polynomial_tests, PolynomialIn}
 use Rattle.input.proofs.Polynomials.{polynomial-told, roots_few, passed-rest}
 use Rattle.input.proofs.RootMemory.{lists-accepted}
-use Rattle.table_rules.specs.Layout.{byFactor}
-use Rattle.table_rules.specs.Splitting.{slotsBegun}
+use Rattle.table_rules.specs.Layout.{by_factor}
+use Rattle.table_rules.specs.Splitting.{slots_begun}
 use Rattle.table_rules.proofs.Demand.{begin-slots}
 use Rattle.table_rules.specs.Sizes.{slots}
 use Rattle.table_begin.specs.SplitPart.{Beginnable}
-use Rattle.table_rules.specs.Demand.{stepCount}
+use Rattle.table_rules.specs.Demand.{step_count}
 use Rattle.table_begin.proofs.Writing.{rows-room}
 use Rattle.find_multiplicities.specs.Counting.{Countable}
 use Rattle.find_multiplicities.proofs.Asking.{countable}
-use Rattle.find_solve.specs.Calls.{solveTests, Solves}
+use Rattle.find_solve.specs.Calls.{solve_tests, Solves}
 use Rattle.find_solve.specs.declared.Solved.TheVariants.{Found}
 use Rattle.find_solve.specs.Solving.{Stepping, Solvable, SolvedOut}
 use Rattle.find_solve.specs.declared.Counts.{Counts}
@@ -45,14 +45,14 @@ use Rattle.find_solve.proofs.Running.{begun-after}
 
 -- ---- what was let in
 
-pub admitted : (m c : ℕ) (f roots : List ℕ) {us : List (ℕ × Bool)} {k : ℕ} → Passed (polynomialTests m f ((6, ltb highestCutoff c) ∷ (7, ltb (length roots) limit) ∷ us)) → k ≡ inForce c
-    → PolynomialIn m f × (1 ≤ k) × (k ≤ highestCutoff) × (limit ≤ length roots)
+pub admitted : (m c : ℕ) (f roots : List ℕ) {us : List (ℕ × Bool)} {k : ℕ} → Passed (polynomial_tests m f ((6, ltb highest_cutoff c) ∷ (7, ltb (length roots) limit) ∷ us)) → k ≡ in_force c
+    → PolynomialIn m f × (1 ≤ k) × (k ≤ highest_cutoff) × (limit ≤ length roots)
 admitted m c f roots h e =
     let six = passed-rest m f h in
-    let most : c ≤ highestCutoff = ltb-false highestCutoff c (failed six) in (
+    let most : c ≤ highest_cutoff = ltb-false highest_cutoff c (failed six) in (
       polynomial-told m f h,
-      subst (λ (w : ℕ). 1 ≤ w) (sym e) (inForce-least houseDefault c (omega arith)),
-      subst (λ (w : ℕ). w ≤ highestCutoff) (sym e) (inForce-most houseDefault c (omega arith) most),
+      subst (λ (w : ℕ). 1 ≤ w) (sym e) (in_force-least house_default c (omega arith)),
+      subst (λ (w : ℕ). w ≤ highest_cutoff) (sym e) (in_force-most house_default c (omega arith) most),
       ltb-false (length roots) limit (failed (others six)),
     )
 
@@ -64,9 +64,9 @@ module _ {m c : ℕ} {f ls ts hs roots : List ℕ} (g : Solvable m c f ls ts hs 
   solve-begins e r = record { polynomial = g.polynomial; tables = g.tables; room = e; room-rows = rows-room m g.polynomial.field r }
 
   -- and stepped
-  pub begun-stepping : {table : List ℕ} → table ≡ slotsBegun byFactor slots m c f → Stepping m c f table
+  pub begun-stepping : {table : List ℕ} → table ≡ slots_begun by_factor slots m c f → Stepping m c f table
   begun-stepping {table} e =
-      subst (Stepping m c f) (sym (e ∙ begin-slots m g.polynomial.field c g.least f byFactor slots))
+      subst (Stepping m c f) (sym (e ∙ begin-slots m g.polynomial.field c g.least f by_factor slots))
       (begun-after g.polynomial g.least g.most 0 (omega arith))
 
 -- what the engine gives at the cutoff in force
@@ -77,12 +77,12 @@ solved-at {m} {f = f} {roots} {roots'} {r} e s = subst (λ (w : ℕ). SolvedOut 
 
 -- the second list's room is tested behind the first's
 pub both-rooms : (m c : ℕ) (f roots mults : List ℕ) (found : Admission) {r : Admission}
-    → Admits (polynomialTests m f ((6, ltb highestCutoff c) ∷ (7, ltb (length roots) limit) ∷ [])) found
-    → r ≡ withTest found (ltb (length mults) limit) Room → Admits (solveTests m c f roots mults) r
+    → Admits (polynomial_tests m f ((6, ltb highest_cutoff c) ∷ (7, ltb (length roots) limit) ∷ [])) found
+    → r ≡ with_test found (ltb (length mults) limit) Room → Admits (solve_tests m c f roots mults) r
 both-rooms m c f roots mults found h e =
-    admits-also (polynomialTests m f ((6, ltb highestCutoff c) ∷ (7, ltb (length roots) limit) ∷ [])) found (ltb (length mults) limit) Room e h
+    admits-also (polynomial_tests m f ((6, ltb highest_cutoff c) ∷ (7, ltb (length roots) limit) ∷ [])) found (ltb (length mults) limit) Room e h
 
-module _ (m c : ℕ) (f roots mults : List ℕ) (p : Passed (solveTests m c f roots mults)) where
+module _ (m c : ℕ) (f roots mults : List ℕ) (p : Passed (solve_tests m c f roots mults)) where
   -- it has room for the limit
   beside-room : limit ≤ length mults
   beside-room = ltb-false (length mults) limit (failed (others (others (passed-rest m f p))))
@@ -96,8 +96,8 @@ module _ (m c : ℕ) (f roots mults : List ℕ) (p : Passed (solveTests m c f ro
     unfolding told
     solved-within =
         let room : limit ≤ length roots = ltb-false (length roots) limit (failed (others (passed-rest m f p))) in
-        let few : length (rootsAt m f) ≤ length roots = omega (arith, roots_few told) in
-        omega (arith, o.count, ap length o.slots-are, length-copied (rootsAt m f) roots few)
+        let few : length (roots_at m f) ≤ length roots = omega (arith, roots_few told) in
+        omega (arith, o.count, ap length o.slots-are, length-copied (roots_at m f) roots few)
 
     -- they can be counted
     pub solved-counts : Countable m f (take r.s roots') mults
@@ -105,6 +105,6 @@ module _ (m c : ℕ) (f roots mults : List ℕ) (p : Passed (solveTests m c f ro
     solved-counts = countable roots told o.count o.slots-are beside-room
 
     -- and both lists are filled
-    pub solved-both : {mults' : List ℕ} → k ≡ inForce c → mults' ≡ copied (multiplicitiesAt m f) mults → Solves m c f roots mults (Found r.s r.steps) roots' mults'
+    pub solved-both : {mults' : List ℕ} → k ≡ in_force c → mults' ≡ copied (multiplicities_at m f) mults → Solves m c f roots mults (Found r.s r.steps) roots' mults'
     solved-both e h =
-        lists-accepted p (ap₂ (λ (a b : ℕ). (0, a ∷ b ∷ [])) o.count (o.steps ∙ ap (λ w. stepCount m w (rootsAt m f)) e)) o.slots-are h
+        lists-accepted p (ap₂ (λ (a b : ℕ). (0, a ∷ b ∷ [])) o.count (o.steps ∙ ap (λ w. step_count m w (roots_at m f)) e)) o.slots-are h

@@ -18,16 +18,16 @@ use lib.ListN.{length, get_or, set, take}
 use Rattle.algebra.specs.Field.{OnNumbers}
 use Rattle.algebra.specs.Routines.{norm}
 use Rattle.algebra.proofs.StaysBelow.{below-from, below_at}
-use Rattle.algebra.proofs.RootList.{rootsOf-norm, rootsOf-none, rootsOf-one}
+use Rattle.algebra.proofs.RootList.{roots_of-norm, roots_of-none, roots_of-one}
 use Rattle.field.specs.Rows.{known}
-use Rattle.slices.specs.Bounded.{allZero}
+use Rattle.slices.specs.Bounded.{all_zero}
 use Rattle.slices.specs.Lists.{copied}
-use Rattle.slices.proofs.Bounded.{allBelow-exactly}
-use Rattle.field.specs.Field.{field_at, mul, inverse, G, rootsAt}
+use Rattle.slices.proofs.Bounded.{all_below-exactly}
+use Rattle.field.specs.Field.{field_at, mul, inverse, G, roots_at}
 use Rattle.poly.proofs.Monics.{norm-skip, norm-lead}
 use Rattle.input.proofs.Fields.{known-field}
-use Rattle.table_rules.specs.Demand.{stepCount}
-use Rattle.table_rules.specs.Splitting.{traceBitAt}
+use Rattle.table_rules.specs.Demand.{step_count}
+use Rattle.table_rules.specs.Splitting.{trace_bit_at}
 use Rattle.table_rules.proofs.Counting.{count_left, left-none}
 use Rattle.find_solve.specs.Solving.{AtMostLinear, SolvedOut}
 use Rattle.find_solve.specs.declared.Counts.{Counts}
@@ -46,8 +46,8 @@ set_first (y ∷ s) x h = refl
 -- ---- roots and steps
 
 -- no part of them has more
-few-steps : (m c : ℕ) (roots : List ℕ) → length roots ≤ c → stepCount m c roots ≡ 0
-few-steps m c roots h = count_left (traceBitAt m) c m roots ∙ left-none (traceBitAt m) c m 0 roots h
+few-steps : (m c : ℕ) (roots : List ℕ) → length roots ≤ c → step_count m c roots ≡ 0
+few-steps m c roots h = count_left (trace_bit_at m) c m roots ∙ left-none (trace_bit_at m) c m 0 roots h
 
 module _ {m n : ℕ} {f : List ℕ} (g : AtMostLinear m f n) where
   N : OnNumbers (G m) (2 ^ m)
@@ -60,8 +60,8 @@ module _ {m n : ℕ} {f : List ℕ} (g : AtMostLinear m f n) where
       go : Dec (0 < n) → 0 < n
       go (yes p) = p
       go (no z) =
-          let zeros : allZero f ≡ true =
-          (allBelow-exactly 1 f).1 (below-from 1 f (λ i l. let e : get_or f i 0 ≡ 0 = g.top.above i (omega arith) in omega arith)) in
+          let zeros : all_zero f ≡ true =
+          (all_below-exactly 1 f).1 (below-from 1 f (λ i l. let e : get_or f i 0 ≡ 0 = g.top.above i (omega arith) in omega arith)) in
           absurd (let b : ◌≡◌ {A = Bool} true false = sym zeros ∙ g.polynomial.nonzero in let o : ◌≡◌ {A = ℕ} 0 1 = cc in let x : ⊥ = omega arith in x)
 
   -- the coefficients below the leading one, divided by it
@@ -71,8 +71,8 @@ module _ {m n : ℕ} {f : List ℕ} (g : AtMostLinear m f n) where
       norm-skip m f n (length f) g.top.within g.top.above ∙ ap (λ (i : ℕ). norm (G m) i f) e
       ∙ norm-lead m k f (λ z. nonzero (ap (λ (i : ℕ). get_or f i 0) (let h : n - 1 ≡ k = omega arith in h) ∙ z))
 
-  pub low-none : n ≡ 1 → rootsAt m f ≡ []
-  low-none e = sym (rootsOf-norm N f g.polynomial.small (led 0 e)) ∙ rootsOf-none N
+  pub low-none : n ≡ 1 → roots_at m f ≡ []
+  low-none e = sym (roots_of-norm N f g.polynomial.small (led 0 e)) ∙ roots_of-none N
 
   -- what the quotient asks
   pub low-inverts : n ≡ 2 → (known m ≡ true) × (0 < get_or f 1 0) × (get_or f 1 0 < 2 ^ m)
@@ -83,7 +83,7 @@ module _ {m n : ℕ} {f : List ℕ} (g : AtMostLinear m f n) where
   pub low-multiplies : n ≡ 2 → (known m ≡ true) × (get_or f 0 0 < 2 ^ m)
   low-multiplies e = (g.polynomial.field, below_at (2 ^ m) f g.polynomial.small 0 (omega (arith, g.top.within)))
 
-  pub low-one : n ≡ 2 → {v x : ℕ} → v ≡ inverse (field_at m) (get_or f 1 0) → x ≡ mul (field_at m) v (get_or f 0 0) → rootsAt m f ≡ x ∷ []
+  pub low-one : n ≡ 2 → {v x : ℕ} → v ≡ inverse (field_at m) (get_or f 1 0) → x ≡ mul (field_at m) v (get_or f 0 0) → roots_at m f ≡ x ∷ []
   low-one e {v} {x} a b =
       let w : ℕ = mul (field_at m) (inverse (field_at m) (get_or f 1 0)) (get_or f 0 0) in
       let two : 2 ≤ length f = omega (arith, g.top.within) in
@@ -91,25 +91,25 @@ module _ {m n : ℕ} {f : List ℕ} (g : AtMostLinear m f n) where
       let small = g.polynomial.small in
       let below : w < 2 ^ m = N.mul-below (inverse (field_at m) (get_or f 1 0)) (get_or f 0 0)
       (N.inv-below (get_or f 1 0) (below_at (2 ^ m) f small 1 (omega arith))) (below_at (2 ^ m) f small 0 (omega arith)) in
-      sym (rootsOf-norm N f small made) ∙ rootsOf-one N w below
+      sym (roots_of-norm N f small made) ∙ roots_of-one N w below
       ∙ ap (λ (y : ℕ). y ∷ []) (sym (b ∙ ap (λ (y : ℕ). mul (field_at m) y (get_or f 0 0)) a))
 
 -- ---- what the whole call answers
 
 module _ {m : ℕ} {f : List ℕ} (roots : List ℕ) {r : Counts} (zero-steps : r.steps ≡ 0) (c : ℕ) (least : 1 ≤ c) where
   -- no root: the list is as it was
-  pub low-empty : rootsAt m f ≡ [] → r.s ≡ 0 → SolvedOut m c f roots r roots
+  pub low-empty : roots_at m f ≡ [] → r.s ≡ 0 → SolvedOut m c f roots r roots
   unfolding copied
   low-empty e z = record {
     count = z ∙ sym (ap length e);
-    steps = zero-steps ∙ sym (ap (stepCount m c) e ∙ few-steps m c [] (omega arith));
+    steps = zero-steps ∙ sym (ap (step_count m c) e ∙ few-steps m c [] (omega arith));
     slots-are = sym (ap (λ (l : List ℕ). copied l roots) e);
   }
 
   -- one root: it is written
-  pub low-single : {x : ℕ} → rootsAt m f ≡ x ∷ [] → r.s ≡ 1 → 1 ≤ length roots → SolvedOut m c f roots r (set roots 0 x)
+  pub low-single : {x : ℕ} → roots_at m f ≡ x ∷ [] → r.s ≡ 1 → 1 ≤ length roots → SolvedOut m c f roots r (set roots 0 x)
   low-single {x} e o l = record {
     count = o ∙ sym (ap length e);
-    steps = zero-steps ∙ sym (ap (stepCount m c) e ∙ few-steps m c (x ∷ []) least);
+    steps = zero-steps ∙ sym (ap (step_count m c) e ∙ few-steps m c (x ∷ []) least);
     slots-are = set_first roots x l ∙ sym (ap (λ (l : List ℕ). copied l roots) e);
   }

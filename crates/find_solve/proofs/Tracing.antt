@@ -23,44 +23,44 @@ use lib.ListN.{length, get_or, take, drop, replicate, length-append, length-map,
 use lib.Seq.{drop_at, take_all, take-append-le, drop-append-le, length-take-le}
 use Rattle.algebra.specs.Field.{OnNumbers, power, trace}
 use Rattle.algebra.specs.Trial.{All, up_from}
-use Rattle.algebra.specs.Polynomial.{Below, add, eval, isRoot, rootsOf, traceOf}
-use Rattle.algebra.specs.Routines.{monic, rem, norm, gcd, euclid, monicRoots}
+use Rattle.algebra.specs.Polynomial.{Below, add, eval, is_root, roots_of, trace_of}
+use Rattle.algebra.specs.Routines.{monic, rem, norm, gcd, euclid, monic_roots}
 use Rattle.algebra.proofs.Trial.{all_keep, all_map, distinct-keep, keep-passed}
 use Rattle.algebra.proofs.Lengths.{length-rem, length-add, length-add-left}
-use Rattle.algebra.proofs.StaysBelow.{add-below, eval-below, keep-below, monic-below, norm-below, power_below, rem_below, replicate-below, rootsOf-below, traceOf-below}
+use Rattle.algebra.proofs.StaysBelow.{add-below, eval-below, keep-below, monic-below, norm-below, power_below, rem_below, replicate-below, roots_of-below, trace_of-below}
 use Rattle.field.specs.Rows.{known}
 use Rattle.algebra.proofs.NumberMonic.{norm-made}
 use Rattle.algebra.proofs.NumberEvaluation.{eval_add, eval-top}
 use Rattle.algebra.proofs.NumberDivision.{eval-rem}
-use Rattle.algebra.proofs.NumberSteps.{eval-traceOf, split-same}
-use Rattle.algebra.proofs.RootList.{eval-one, rootsOf-distinct, rootsOf-norm}
+use Rattle.algebra.proofs.NumberSteps.{eval-trace_of, split-same}
+use Rattle.algebra.proofs.RootList.{eval-one, roots_of-distinct, roots_of-norm}
 use Rattle.slices.proofs.Lists.{take-zeros, drop-zeros}
 use Rattle.input.proofs.Fields.{degree-within}
 use Rattle.input.specs.Limit.{limit, widest}
 use Rattle.input.specs.Polynomials.{PolynomialIn}
 use Rattle.table_rules.specs.Groups.{group}
-use Rattle.table_rules.specs.Entries.{entry_at, firstAbove}
-use Rattle.table_rules.specs.Layout.{byFactor}
+use Rattle.table_rules.specs.Entries.{entry_at, first_above}
+use Rattle.table_rules.specs.Layout.{by_factor}
 use Rattle.table_rules.specs.Table.{Table, decode}
-use Rattle.table_rules.specs.Splitting.{traceBitAt, firstFactor, halvingAt}
-use Rattle.table_rules.specs.Demand.{groupsAfter}
-use Rattle.table_rules.proofs.Layouts.{byFactor-lawful}
+use Rattle.table_rules.specs.Splitting.{trace_bit_at, first_factor, halving_at}
+use Rattle.table_rules.specs.Demand.{groups_after}
+use Rattle.table_rules.proofs.Layouts.{by_factor-lawful}
 use Rattle.table_rules.proofs.Soundness.{decode-encode}
 use Rattle.table_rules.proofs.Demand.{demand-3}
-use Rattle.field.specs.Field.{G, rootsAt}
+use Rattle.field.specs.Field.{G, roots_at}
 use Rattle.poly.specs.Lent.{Lent, LogRow, held}
-use Rattle.poly_powers.specs.Powers.{Summable, traceSum}
+use Rattle.poly_powers.specs.Powers.{Summable, trace_sum}
 use Rattle.poly.proofs.Logs.{field_of, numbers_of, held-long}
 use Rattle.poly_powers.proofs.TraceLoops.{rows_fit, next_place, part-front, part-long}
-use Rattle.poly_powers.proofs.TraceValues.{traceSum-below, powerRows-long, powerRows-row, trace-value}
+use Rattle.poly_powers.proofs.TraceValues.{trace_sum-below, power_rows-long, power_rows-row, trace-value}
 use Rattle.table_rules.specs.Sizes.{slots}
 use Rattle.table_slots.specs.Verdicts.{Chosen}
 use Rattle.table_step.specs.Parting.{StepReady}
-use Rattle.table_slots.specs.Slots.{taken_of, levelAt, factorAt}
+use Rattle.table_slots.specs.Slots.{taken_of, level_at, factor_at}
 use Rattle.table_begin.specs.SplitPart.{Powered}
 use Rattle.table_step.proofs.Commons.{level-fits, level-power}
 use Rattle.table_step.proofs.Replacing.{factor-is, level-below-width}
-use Rattle.find_solve.specs.Solving.{Stepping, Traced, Traceable, TracedTo, Advancing, Advanced, Running, Solvable, levelSum, levelSums}
+use Rattle.find_solve.specs.Solving.{Stepping, Traced, Traceable, TracedTo, Advancing, Advanced, Running, Solvable, level_sum, level_sums}
 use Rattle.find_solve.proofs.Running.{width-now, long-now, run_on}
 
 -- ---- the sum of a level
@@ -74,28 +74,28 @@ add_most m n p q h g = go (dec_lt (length p) (length q))
     go (no j) = omega (arith, length-add-left (G m) p q (omega arith))
 
 -- nor is a sum of rows
-sum-most : (m n k b : ℕ) (rows : List ℕ) → length (traceSum m n k b rows) ≤ n
-unfolding traceSum
+sum-most : (m n k b : ℕ) (rows : List ℕ) → length (trace_sum m n k b rows) ≤ n
+unfolding trace_sum
 sum-most m n zero b rows = omega arith
 sum-most m n (suc k) b rows =
     let h : length (take n rows) ≤ n = simp length-take (omega arith) in
-    add_most m n (map ((G m).mul b) (held m (take n rows))) (traceSum m n k ((G m).mul b b) (drop n rows))
+    add_most m n (map ((G m).mul b) (held m (take n rows))) (trace_sum m n k ((G m).mul b b) (drop n rows))
     (omega (arith, length-map (held m (take n rows)) ((G m).mul b), held-long m (take n rows))) (sum-most m n k ((G m).mul b b) (drop n rows))
 
 -- as long as a row
-level-long : (m n : ℕ) (rows : List ℕ) (k : ℕ) → length (levelSum m n rows k) ≡ n
-unfolding levelSum
+level-long : (m n : ℕ) (rows : List ℕ) (k : ℕ) → length (level_sum m n rows k) ≡ n
+unfolding level_sum
 level-long m n rows k =
     let z : length (replicate {A = ℕ} n 0) ≡ n = length-replicate n 0 in
-    length-add-left (G m) (replicate n 0) (traceSum m n m (power (G m) 2 k) rows) (omega (arith, sum-most m n m (power (G m) 2 k) rows)) ∙ z
+    length-add-left (G m) (replicate n 0) (trace_sum m n m (power (G m) 2 k) rows) (omega (arith, sum-most m n m (power (G m) 2 k) rows)) ∙ z
 
 -- and its coefficients are elements
-level-below : {m : ℕ} {ls ts : List ℕ} → Lent m ls ts → (n : ℕ) (rows : List ℕ) (k : ℕ) → Below (2 ^ m) (levelSum m n rows k)
-unfolding levelSum
+level-below : {m : ℕ} {ls ts : List ℕ} → Lent m ls ts → (n : ℕ) (rows : List ℕ) (k : ℕ) → Below (2 ^ m) (level_sum m n rows k)
+unfolding level_sum
 level-below {m} l n rows k =
     let N : OnNumbers (G m) (2 ^ m) = numbers_of l in
-    add-below N (replicate n 0) (traceSum m n m (power (G m) 2 k) rows) (replicate-below (2 ^ m) n 0 N.zero-below)
-    (traceSum-below l n m (power (G m) 2 k) rows (power_below N 2 k (field_of l).two))
+    add-below N (replicate n 0) (trace_sum m n m (power (G m) 2 k) rows) (replicate-below (2 ^ m) n 0 N.zero-below)
+    (trace_sum-below l n m (power (G m) 2 k) rows (power_below N 2 k (field_of l).two))
 
 -- ---- `trace_to`
 
@@ -145,16 +145,16 @@ module _ {m : ℕ} {ls ts : List ℕ} {n : ℕ} {rows : List ℕ} {i : ℕ} {tra
 
   -- one level more
   pub levelling-on : {y : List ℕ} → k ≤ i
-      → y ≡ add (G m) (take (at + n - at) (drop at traces)) (traceSum m (length (take (at + n - at) (drop at traces))) m (get_or ts (2 * k) 0) rows)
+      → y ≡ add (G m) (take (at + n - at) (drop at traces)) (trace_sum m (length (take (at + n - at) (drop at traces))) m (get_or ts (2 * k) 0) rows)
       → Levelling m ls ts n rows i traces₀ (take at traces ++ (y ++ drop (at + n - at) (drop at traces))) (k + 1) (at + n)
-  unfolding levelSum levelSums
+  unfolding level_sum level_sums
   levelling-on {y} h e =
       let r = levelling-room h in
       let z = zeros-at h in
       let d : at + n - at ≡ n = omega arith in
       let s : k + 1 ≡ suc k = omega arith in
-      let to : y ≡ levelSum m n rows k =
-      e ∙ ap₂ (λ u b. add (G m) u (traceSum m (length u) m b rows)) z (base h) ∙ ap (λ j. add (G m) (replicate n 0) (traceSum m j m (power (G m) 2 k) rows)) (length-replicate n 0) in
+      let to : y ≡ level_sum m n rows k =
+      e ∙ ap₂ (λ u b. add (G m) u (trace_sum m (length u) m b rows)) z (base h) ∙ ap (λ j. add (G m) (replicate n 0) (trace_sum m j m (power (G m) 2 k) rows)) (length-replicate n 0) in
       let ly : length y ≡ n = ap length to ∙ level-long m n rows k in
       let t₁ : List ℕ = take at traces ++ (y ++ drop (at + n - at) (drop at traces)) in
       let l₁ : length t₁ ≡ length traces = ap (λ j. length (take at traces ++ (y ++ drop j (drop at traces)))) d ∙ part-long at n y traces r ly in
@@ -175,7 +175,7 @@ module _ {m : ℕ} {ls ts : List ℕ} {n : ℕ} {rows : List ℕ} {i : ℕ} {tra
           level = p.given.level;
           traced = record {
             front = ap (λ j. take j t₁) (sym q) ∙ fr
-                ∙ ap₂ (λ u v. u ++ v) (ap (λ j. take j traces) p.place ∙ p.given.traced.front) to ∙ ap (levelSums m n rows) (sym s);
+                ∙ ap₂ (λ u v. u ++ v) (ap (λ j. take j traces) p.place ∙ p.given.traced.front) to ∙ ap (level_sums m n rows) (sym s);
             rest = ap (λ j. drop j t₁) (sym q) ∙ bk ∙ ap (λ j. replicate j 0) (ap₂ (λ a b. a - b) (sym l₁) q);
           };
         };
@@ -189,33 +189,33 @@ module _ {m : ℕ} {ls ts : List ℕ} {n : ℕ} {rows : List ℕ} {i : ℕ} {tra
 -- ---- where the sum of a level stands
 
 module _ (m n : ℕ) (rows : List ℕ) where
-  sums-long : (k : ℕ) → length (levelSums m n rows k) ≡ k * n
-  unfolding levelSums
+  sums-long : (k : ℕ) → length (level_sums m n rows k) ≡ k * n
+  unfolding level_sums
   sums-long zero = omega arith
   sums-long (suc k) =
       let a : suc k * n ≡ k * n + n = suc-mul k n in
-      omega (arith, length-append (levelSums m n rows k) (levelSum m n rows k), sums-long k, level-long m n rows k)
+      omega (arith, length-append (level_sums m n rows k) (level_sum m n rows k), sums-long k, level-long m n rows k)
 
-  sum-at : (k i : ℕ) → i < k → take n (drop (i * n) (levelSums m n rows k)) ≡ levelSum m n rows i
-  unfolding levelSums
+  sum-at : (k i : ℕ) → i < k → take n (drop (i * n) (level_sums m n rows k)) ≡ level_sum m n rows i
+  unfolding level_sums
   sum-at zero i h = absurd (let x : ⊥ = omega arith in x)
   sum-at (suc k) i h = go (dec_lt i k) (λ j. sum-at k i j)
     where
-      go : Dec (i < k) → (i < k → take n (drop (i * n) (levelSums m n rows k)) ≡ levelSum m n rows i)
-          → take n (drop (i * n) (levelSums m n rows k ++ levelSum m n rows k)) ≡ levelSum m n rows i
+      go : Dec (i < k) → (i < k → take n (drop (i * n) (level_sums m n rows k)) ≡ level_sum m n rows i)
+          → take n (drop (i * n) (level_sums m n rows k ++ level_sum m n rows k)) ≡ level_sum m n rows i
       go (yes j) rec =
           let a : suc i * n ≤ k * n = mul-le-mul_right n j in
           let b : suc i * n ≡ i * n + n = suc-mul i n in
           let e = sums-long k in
-          ap (take n) (drop-append-le (i * n) (levelSums m n rows k) (levelSum m n rows k) (omega arith))
-          ∙ take-append-le n (drop (i * n) (levelSums m n rows k)) (levelSum m n rows k) (omega (arith, length-drop (i * n) (levelSums m n rows k))) ∙ rec j
+          ap (take n) (drop-append-le (i * n) (level_sums m n rows k) (level_sum m n rows k) (omega arith))
+          ∙ take-append-le n (drop (i * n) (level_sums m n rows k)) (level_sum m n rows k) (omega (arith, length-drop (i * n) (level_sums m n rows k))) ∙ rec j
       go (no j) rec =
           let e : k ≡ i = omega arith in
-          ap (take n) (drop_at (levelSums m n rows k) (levelSum m n rows k) (i * n) (sums-long k ∙ ap (λ a. a * n) e))
-          ∙ take_all n (levelSum m n rows k) (omega (arith, level-long m n rows k)) ∙ ap (levelSum m n rows) e
+          ap (take n) (drop_at (level_sums m n rows k) (level_sum m n rows k) (i * n) (sums-long k ∙ ap (λ a. a * n) e))
+          ∙ take_all n (level_sum m n rows k) (omega (arith, level-long m n rows k)) ∙ ap (level_sum m n rows) e
 
   -- in the list that holds them
-  traced-at : {i k : ℕ} {traces : List ℕ} → i < k → k * n ≤ length traces → Traced m n rows k traces → take n (drop (i * n) traces) ≡ levelSum m n rows i
+  traced-at : {i k : ℕ} {traces : List ℕ} → i < k → k * n ≤ length traces → Traced m n rows k traces → take n (drop (i * n) traces) ≡ level_sum m n rows i
   traced-at {i} {k} {traces} h r t =
       let a : suc i * n ≤ k * n = mul-le-mul_right n h in
       let b : suc i * n ≡ i * n + n = suc-mul i n in
@@ -261,70 +261,70 @@ module _ {m n : ℕ} {f ls ts rows : List ℕ} (l : Lent m ls ts) (hf : Below (2
     zeros-value = eval-top N [] n tt r hr
 
     -- and the sum of the level is Tr(a^i r)
-    level-value : eval (G m) (levelSum m n rows i) r ≡ eval (G m) (traceOf (G m) m (power (G m) 2 i)) r
-    unfolding levelSum
+    level-value : eval (G m) (level_sum m n rows i) r ≡ eval (G m) (trace_of (G m) m (power (G m) 2 i)) r
+    unfolding level_sum
     level-value =
         let b : ℕ = power (G m) 2 i in
         let hb = small_power i in
         let w : List ℕ = rem (G m) g.low z in
-        let t : List ℕ = traceSum m n m b rows in
-        let ht = traceSum-below l n m b rows hb in
+        let t : List ℕ = trace_sum m n m b rows in
+        let ht = trace_sum-below l n m b rows hb in
         let same : eval (G m) t r ≡ trace (G m) m ((G m).mul b r) =
-        ap₂ (λ k u. eval (G m) (traceSum m k m b u) r) (sym g.long) g.rows_are
+        ap₂ (λ k u. eval (G m) (trace_sum m k m b u) r) (sym g.long) g.rows_are
         ∙ trace-value l g.low small_low r hr root m b w hb (rem_below N g.low z small_low small-z) (length-rem (G m) g.low z)
         ∙ ap (λ x. trace (G m) m ((G m).mul b x)) z-value in
         eval_add N (replicate n 0) t (replicate-below (2 ^ m) n 0 N.zero-below) ht r hr
         ∙ ap (λ x. (G m).add x (eval (G m) t r)) zeros-value ∙ N.zero-add (eval (G m) t r) (eval-below N t r ht hr) ∙ same
-        ∙ sym (eval-traceOf N m b r hb hr)
+        ∙ sym (eval-trace_of N m b r hb hr)
 
   -- the roots are roots of the polynomial made monic
-  all-roots : All (λ r. (r < 2 ^ m) × (eval (G m) (monic (G m) g.low) r ≡ 0)) (rootsAt m f)
-  unfolding rootsOf
+  all-roots : All (λ r. (r < 2 ^ m) × (eval (G m) (monic (G m) g.low) r ≡ 0)) (roots_at m f)
+  unfolding roots_of
   all-roots =
       let F : List ℕ = monic (G m) g.low in
       let small : Below (2 ^ m) F = monic-below N g.low small_low in
-      let rs : List ℕ = rootsAt m F in
-      let both : All (λ r. (r < 2 ^ m) × T (isRoot (G m) F r)) rs =
-      all_both (λ r. r < 2 ^ m) (λ r. T (isRoot (G m) F r)) rs (rootsOf-below (G m) (2 ^ m) F) (keep-passed (isRoot (G m) F) (up_from 0 (2 ^ m))) in
-      subst (All (λ r. (r < 2 ^ m) × (eval (G m) F r ≡ 0))) (rootsOf-norm N f hf g.made)
+      let rs : List ℕ = roots_at m F in
+      let both : All (λ r. (r < 2 ^ m) × T (is_root (G m) F r)) rs =
+      all_both (λ r. r < 2 ^ m) (λ r. T (is_root (G m) F r)) rs (roots_of-below (G m) (2 ^ m) F) (keep-passed (is_root (G m) F) (up_from 0 (2 ^ m))) in
+      subst (All (λ r. (r < 2 ^ m) × (eval (G m) F r ≡ 0))) (roots_of-norm N f hf g.made)
       (all_map (λ r h. (h.0, (N.zero_test (eval (G m) F r) (eval-below N F r small h.0)).0 h.1)) rs both)
 
   -- so the sum parts the product over a group as Tr(a^i z) does
-  group-same : (i : ℕ) (w : List Bool) → let p : List ℕ = monicRoots (G m) (group (traceBitAt m) w (rootsAt m f)) in
-      gcd (G m) p (levelSum m n rows i) ≡ gcd (G m) p (traceOf (G m) m (power (G m) 2 i))
+  group-same : (i : ℕ) (w : List Bool) → let p : List ℕ = monic_roots (G m) (group (trace_bit_at m) w (roots_at m f)) in
+      gcd (G m) p (level_sum m n rows i) ≡ gcd (G m) p (trace_of (G m) m (power (G m) 2 i))
   group-same i w =
       let b : ℕ = power (G m) 2 i in
-      split-same N (group (traceBitAt m) w (rootsAt m f)) (levelSum m n rows i) (traceOf (G m) m b)
-      (keep-below (2 ^ m) _ (rootsAt m f) (rootsOf-below (G m) (2 ^ m) f)) (level-below l n rows i) (traceOf-below N m b (small_power i))
-      (distinct-keep _ (rootsAt m f) (rootsOf-distinct (G m) (2 ^ m) f))
-      (all_keep (λ r. eval (G m) (levelSum m n rows i) r ≡ eval (G m) (traceOf (G m) m b) r) _ (rootsAt m f)
-      (all_map (λ r h. level-value i r h.0 h.1) (rootsAt m f) all-roots))
+      split-same N (group (trace_bit_at m) w (roots_at m f)) (level_sum m n rows i) (trace_of (G m) m b)
+      (keep-below (2 ^ m) _ (roots_at m f) (roots_of-below (G m) (2 ^ m) f)) (level-below l n rows i) (trace_of-below N m b (small_power i))
+      (distinct-keep _ (roots_at m f) (roots_of-distinct (G m) (2 ^ m) f))
+      (all_keep (λ r. eval (G m) (level_sum m n rows i) r ≡ eval (G m) (trace_of (G m) m b) r) _ (roots_at m f)
+      (all_map (λ r h. level-value i r h.0 h.1) (roots_at m f) all-roots))
 
   -- what holds of the empty list and of the product over each group holds of each factor
-  each-entry : (Q : List ℕ → Type 0) → Q [] → ((w : List Bool) → Q (monicRoots (G m) (group (traceBitAt m) w (rootsAt m f)))) → (ws : List (List Bool)) (k : ℕ)
-      → Q (entry_at (map (λ w. (length w, monicRoots (G m) (group (traceBitAt m) w (rootsAt m f)))) ws) k).1
+  each-entry : (Q : List ℕ → Type 0) → Q [] → ((w : List Bool) → Q (monic_roots (G m) (group (trace_bit_at m) w (roots_at m f)))) → (ws : List (List Bool)) (k : ℕ)
+      → Q (entry_at (map (λ w. (length w, monic_roots (G m) (group (trace_bit_at m) w (roots_at m f)))) ws) k).1
   each-entry Q empty whole [] k = empty
   each-entry Q empty whole (w ∷ ws) zero = whole w
   each-entry Q empty whole (w ∷ ws) (suc k) = each-entry Q empty whole ws k
 
   -- THE LAW: the factor that a step splits is parted by the sum of any level as by the trace
   begun-same : {c : ℕ} {table : List ℕ} {o : ℕ} → Stepping m c f table → Chosen table o → (i : ℕ)
-      → gcd (G m) (factorAt table o) (levelSum m n rows i) ≡ (halvingAt m).low i (factorAt table o)
+      → gcd (G m) (factor_at table o) (level_sum m n rows i) ≡ (halving_at m).low i (factor_at table o)
   unfolding gcd euclid
   begun-same {c} {table} {o} s h i =
       let k : ℕ = taken_of table in
-      let t : Table = groupsAfter m c (rootsAt m f) k in
-      let is : decode byFactor table ≡ t = ap (decode byFactor) s.slots-are ∙ decode-encode byFactor-lawful slots t in
+      let t : Table = groups_after m c (roots_at m f) k in
+      let is : decode by_factor table ≡ t = ap (decode by_factor) s.slots-are ∙ decode-encode by_factor-lawful slots t in
       let D = (demand-3 m s.field c s.least f).order k in
       let b : ℕ = power (G m) 2 i in
-      let Q : List ℕ → Type 0 = λ p. gcd (G m) p (levelSum m n rows i) ≡ gcd (G m) p (traceOf (G m) m b) in
-      subst Q (sym (factor-is table h ∙ ap (λ u. (firstFactor u).1) is))
-      (subst (λ fs. Q (entry_at fs (firstAbove c t.factors)).1) (sym D.3) (each-entry Q refl (group-same i) D.0 (firstAbove c t.factors)))
+      let Q : List ℕ → Type 0 = λ p. gcd (G m) p (level_sum m n rows i) ≡ gcd (G m) p (trace_of (G m) m b) in
+      subst Q (sym (factor-is table h ∙ ap (λ u. (first_factor u).1) is))
+      (subst (λ fs. Q (entry_at fs (first_above c t.factors)).1) (sym D.3) (each-entry Q refl (group-same i) D.0 (first_above c t.factors)))
 
 -- ---- `advance`
 
 module _ {m : ℕ} {ls ts : List ℕ} {n : ℕ} {rows traces : List ℕ} {k : ℕ} {table : List ℕ} {o : ℕ} (g : Advancing m ls ts n rows traces k table o) where
-  module _ {i : ℕ} (at : i ≡ levelAt table o) where
+  module _ {i : ℕ} (at : i ≡ level_at table o) where
     -- the sums up to the level can be taken
     pub advance-asks : Traceable m ls ts n rows traces k i
     advance-asks = subst (Traceable m ls ts n rows traces k) (sym at) g.traceable
@@ -339,15 +339,15 @@ module _ {m : ℕ} {ls ts : List ℕ} {n : ℕ} {rows traces : List ℕ} {k : �
     advance-ready {j} {traces₁} t e =
         let d : i * n + n - i * n ≡ n = omega arith in
         let r : j * n ≤ length traces₁ = subst (λ x. j * n ≤ x) (sym e) (le_trans (mul-le-mul_right n t.within) g.traceable.room) in
-        let is : levelSum m n rows i ≡ take (i * n + n - i * n) (drop (i * n) traces₁) = sym (ap (λ x. take x (drop (i * n) traces₁)) d ∙ traced-at m n rows t.above r t.traced) in
-        let few : length (levelSum m n rows i) ≤ limit = omega (arith, level-long m n rows i, g.few) in
+        let is : level_sum m n rows i ≡ take (i * n + n - i * n) (drop (i * n) traces₁) = sym (ap (λ x. take x (drop (i * n) traces₁)) d ∙ traced-at m n rows t.above r t.traced) in
+        let few : length (level_sum m n rows i) ≤ limit = omega (arith, level-long m n rows i, g.few) in
         subst (StepReady table ls ts o) is (record {
           chosen = g.chosen;
           tables = subst (λ w. Lent w ls ts) (sym g.width) g.traceable.tables;
-          small = subst (λ w. Below (2 ^ w) (levelSum m n rows i)) (sym g.width) (level-below g.traceable.tables n rows i);
+          small = subst (λ w. Below (2 ^ w) (level_sum m n rows i)) (sym g.width) (level-below g.traceable.tables n rows i);
           few = few;
-          same = subst (λ w. gcd (G w) (factorAt table o) (levelSum m n rows i) ≡ (halvingAt w).low (levelAt table o) (factorAt table o)) (sym g.width)
-              (ap (λ x. gcd (G m) (factorAt table o) (levelSum m n rows x)) at ∙ g.same);
+          same = subst (λ w. gcd (G w) (factor_at table o) (level_sum m n rows i) ≡ (halving_at w).low (level_at table o) (factor_at table o)) (sym g.width)
+              (ap (λ x. gcd (G m) (factor_at table o) (level_sum m n rows x)) at ∙ g.same);
         })
 
 -- ---- `run`
@@ -370,7 +370,7 @@ pub record Going (m c : ℕ) (f : List ℕ) (n : ℕ) (rows traces₀ table₀ t
 
 module _ {m c : ℕ} {f ls ts : List ℕ} {n : ℕ} {rows traces₀ table₀ : List ℕ} (g : Running m c f ls ts n rows traces₀ table₀) where
   pub going-from : Going m c f n rows traces₀ table₀ traces₀ table₀ 0
-  unfolding levelSums
+  unfolding level_sums
   going-from =
       let z : 0 * n ≡ 0 = omega arith in
       let e : length traces₀ - 0 * n ≡ (widest * limit) = omega (arith, ap length g.zeros, length-replicate {A = ℕ} (widest * limit) 0) in
@@ -395,7 +395,7 @@ module _ {m c : ℕ} {f ls ts : List ℕ} {n : ℕ} {rows traces₀ table₀ : L
         let z1 : List ℕ = rem (G m) q.low (0 ∷ 1 ∷ []) in
         let lz : length z1 ≡ length q.low = length-rem (G m) q.low (0 ∷ 1 ∷ []) in
         let hz : Below (2 ^ m) z1 = rem_below (numbers_of g.tables) q.low (0 ∷ 1 ∷ []) small (small-z g.tables g.polynomial.small q) in
-        let long : length rows ≡ m * n = ap length q.rows_are ∙ powerRows-long g.tables q.low small m z1 lz ∙ ap (λ j. m * j) q.long in
+        let long : length rows ≡ m * n = ap length q.rows_are ∙ power_rows-long g.tables q.low small m z1 lz ∙ ap (λ j. m * j) q.long in
         let fit : m * n ≤ widest * limit = powers-fit m n g.tables.degree few in
         let width = width-now w.stepping in
         record {
@@ -404,14 +404,14 @@ module _ {m c : ℕ} {f ls ts : List ℕ} {n : ℕ} {rows traces₀ table₀ : L
           few = few;
           traceable = record {
             tables = g.tables;
-            logs = subst (LogRow m) (sym q.rows_are) (powerRows-row g.tables q.low small m z1 hz);
+            logs = subst (LogRow m) (sym q.rows_are) (power_rows-row g.tables q.low small m z1 hz);
             rows_long = omega arith;
             room = omega (arith, w.long-traces, ap length g.zeros, length-replicate {A = ℕ} (widest * limit) 0);
             within = w.within;
             level = omega (arith, level-below-width table h, width);
             traced = w.traced;
           };
-          same = begun-same g.tables g.polynomial.small q w.stepping h (levelAt table o);
+          same = begun-same g.tables g.polynomial.small q w.stepping h (level_at table o);
         }
 
     -- and what it leaves

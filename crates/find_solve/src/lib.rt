@@ -12,7 +12,7 @@
 // In field 11 degrees 1 to 4 take no table and no lent memory (crate find_direct): a quotient, the quadratic's formula,
 // or a guess that is tried. The steps that a table would take are then counted from the roots' trace bits.
 ghost use Rattle.std.specs.Prelude.{◌≤◌, length};
-ghost use Rattle.input.specs.Cutoff.{highestCutoff};
+ghost use Rattle.input.specs.Cutoff.{highest_cutoff};
 ghost use Rattle.input.specs.Limit.{limit};
 ghost use Rattle.input.specs.Polynomials.{PolynomialIn};
 ghost use Rattle.find_direct.specs.Listing.{Leading};
@@ -182,7 +182,7 @@ fn solve_low(m: u16, n: usize, coeffs: &[u16], roots: &mut [u16]) -> Counts
 
 // The roots and steps of an accepted polynomial, at a cutoff from 1 to 3, by traces. The field's tables are lent here.
 fn solve_traced(m: u16, c: u16, coeffs: &[u16], roots: &mut [u16]) -> Counts
-    requires { PolynomialIn m coeffs.now × (1 ≤ c) × (c ≤ highestCutoff) × (limit ≤ length roots.old) }
+    requires { PolynomialIn m coeffs.now × (1 ≤ c) × (c ≤ highest_cutoff) × (limit ≤ length roots.old) }
     ensures { SolvedOut m c coeffs.now roots.old result roots.new }
 {
     match m {
@@ -204,7 +204,7 @@ fn solve_traced(m: u16, c: u16, coeffs: &[u16], roots: &mut [u16]) -> Counts
 // 4, at a cutoff from 1 to 3. Its roots tell the steps; where a guess fails the table is begun and stepped.
 fn solve_direct(n: usize, c: u16, coeffs: &[u16], roots: &mut [u16]) -> Counts
     requires { Leading n coeffs.now × (2 ≤ n) × (n ≤ 5)
-        × (1 ≤ c) × (c ≤ highestCutoff) × (limit ≤ length roots.old) }
+        × (1 ≤ c) × (c ≤ highest_cutoff) × (limit ≤ length roots.old) }
     ensures { SolvedOut 11 c coeffs.now roots.old result roots.new }
 {
     match direct_roots(n, coeffs, roots) {
@@ -220,7 +220,7 @@ fn solve_direct(n: usize, c: u16, coeffs: &[u16], roots: &mut [u16]) -> Counts
 // The roots and steps of an accepted polynomial, at a cutoff from 1 to 3. In field 11 degrees 1 to 4 are solved
 // directly.
 pub fn solve_in(m: u16, c: u16, coeffs: &[u16], roots: &mut [u16]) -> Counts
-    requires { PolynomialIn m coeffs.now × (1 ≤ c) × (c ≤ highestCutoff) × (limit ≤ length roots.old) }
+    requires { PolynomialIn m coeffs.now × (1 ≤ c) × (c ≤ highest_cutoff) × (limit ≤ length roots.old) }
     ensures { SolvedOut m c coeffs.now roots.old result roots.new }
 {
     let n = top(coeffs);

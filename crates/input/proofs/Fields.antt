@@ -12,7 +12,7 @@ use native.Mathlib.Omega.{arith}
 use lib.Bits.{bit_xor}
 use Rattle.algebra.specs.Field.{Ops, OnNumbers, power, squared}
 use Rattle.algebra.proofs.StaysBelow.{power_below}
-use Rattle.field.specs.Rows.{known, ListedRow, polyOf}
+use Rattle.field.specs.Rows.{known, ListedRow, poly_of}
 use Rattle.field.proofs.Known.{by_row, listed}
 use Rattle.field.specs.Field.{numbers, field_at, G}
 use Rattle.field.proofs.Generator.{Generated, generated, small}
@@ -33,7 +33,7 @@ pub record BinaryField (G : Ops ℕ) (m a : ℕ) : Type 0 where
 -- each row has it
 pub known-field : (m : ℕ) → known m ≡ true → BinaryField (G m) m 2
 known-field m k =
-    let l : ListedRow m (polyOf m) = listed m k in
+    let l : ListedRow m (poly_of m) = listed m k in
     let gen : Generated (field_at m) = generated l in
     record {
       numbers = on-numbers (field_at m) gen;

@@ -26,24 +26,24 @@ use Rattle.field.specs.Rows.{known, IsRow}
 use Rattle.field.specs.declared.rows.Row.{Row}
 use Rattle.field.proofs.Known.{listed-on}
 use Rattle.input.specs.Limit.{limit}
-use Rattle.input.specs.Polynomials.{polynomialTests}
-use Rattle.input.specs.Values.{Measured, valueTests}
+use Rattle.input.specs.Polynomials.{polynomial_tests}
+use Rattle.input.specs.Values.{Measured, value_tests}
 
 -- ---- which refusal the code's tests show
 
 module _ {m : ℕ} (n top : ℕ) {row : Row} (i : IsRow m row) where
   -- there are no coefficients
-  pub empty-given : n ≡ 0 → Given 2 (valueTests m n top [])
+  pub empty-given : n ≡ 0 → Given 2 (value_tests m n top [])
   empty-given e = fails (listed-on i) (holds (eq-eqb n 0 e))
 
   module _ (some : n ≡ 0 → ⊥) where
     -- there are too many
-    pub long-given : suc limit < n → Given 3 (valueTests m n top [])
+    pub long-given : suc limit < n → Given 3 (value_tests m n top [])
     long-given h = fails (listed-on i) (fails (ne_eqb n 0 some) (holds (lt-ltb (suc limit) n h)))
 
     module _ (few : n ≤ suc limit) where
       -- one is no element
-      pub element-given : row.size ≤ top → Given 4 (valueTests m n top [])
+      pub element-given : row.size ≤ top → Given 4 (value_tests m n top [])
       element-given h =
           fails (listed-on i) (fails (ne_eqb n 0 some) (fails (le-ltb (suc limit) n few)
           (holds (ap not (le-ltb top (2 ^ m) (subst (λ k. k ≤ top) i.size h))))))
@@ -54,13 +54,13 @@ module _ {m : ℕ} (n top : ℕ) {row : Row} (i : IsRow m row) where
         elements = ap not (lt-ltb top (2 ^ m) (subst (λ k. top < k) i.size below))
 
         -- all are 0
-        pub zero-given : top ≡ 0 → Given 5 (valueTests m n top [])
+        pub zero-given : top ≡ 0 → Given 5 (value_tests m n top [])
         zero-given e =
             fails (listed-on i)
             (fails (ne_eqb n 0 some) (fails (le-ltb (suc limit) n few) (fails elements (holds (lt-ltb top 1 (omega arith))))))
 
         -- or one is not
-        pub values-in : (top ≡ 0 → ⊥) → Passed (valueTests m n top [])
+        pub values-in : (top ≡ 0 → ⊥) → Passed (value_tests m n top [])
         values-in u =
             passes (listed-on i)
             (passes (ne_eqb n 0 some) (passes (le-ltb (suc limit) n few) (passes elements (passes (le-ltb top 1 (omega arith)) none))))
@@ -85,11 +85,11 @@ abbrev shape : ℕ → List ℕ → Bool → Bool → List (ℕ × Bool) → Lis
 shape m cs b c more = (1, not (known m)) ∷ (2, eqb (length cs) 0) ∷ (3, ltb (suc limit) (length cs)) ∷ (4, not b) ∷ (5, c) ∷ more
 
 pub values-admit : (m : ℕ) (cs : List ℕ) {n top : ℕ} (us : List (ℕ × Bool)) (r : Admission) → Measured cs n top
-    → Admits (valueTests m n top us) r → Admits (polynomialTests m cs us) r
+    → Admits (value_tests m n top us) r → Admits (polynomial_tests m cs us) r
 values-admit m cs {n} {top} us r s h =
-    go (ltb (suc limit) (length cs)) refl (subst (λ k. Admits (valueTests m k top us) r) s.count h)
+    go (ltb (suc limit) (length cs)) refl (subst (λ k. Admits (value_tests m k top us) r) s.count h)
   where
-    go : (b : Bool) → ltb (suc limit) (length cs) ≡ b → Admits (valueTests m (length cs) top us) r → Admits (polynomialTests m cs us) r
+    go : (b : Bool) → ltb (suc limit) (length cs) ≡ b → Admits (value_tests m (length cs) top us) r → Admits (polynomial_tests m cs us) r
     go true e h = admits-cut _ _ 3 _ _ (ltb (suc limit) (length cs)) e r h
     go false e h =
         let l = s.largest (ltb-false (suc limit) (length cs) e) in

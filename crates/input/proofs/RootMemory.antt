@@ -9,7 +9,7 @@ use Prim.Native.Nat.{ℕ}
 use Rattle.refusals.specs.Order.{Given, Passed}
 use Rattle.refusals.proofs.Order.{refused, accepted, unwritten, written}
 use Rattle.slices.specs.Lists.{copied}
-use Rattle.field.specs.Field.{rootsAt, multiplicitiesAt}
+use Rattle.field.specs.Field.{roots_at, multiplicities_at}
 use Rattle.input.specs.RootMemory.{ListsRoots}
 
 module _ {tests : List (ℕ × Bool)} {values : List ℕ} {m : ℕ} {cs roots mults : List ℕ} where
@@ -18,8 +18,8 @@ module _ {tests : List (ℕ × Bool)} {values : List ℕ} {m : ℕ} {cs roots mu
   lists-refused g = record { answer = sym (refused values g); list = sym (unwritten _ roots g); beside = sym (unwritten _ mults g) }
 
   -- what is let in fills both
-  pub lists-accepted : {told : ℕ × List ℕ} {roots' mults' : List ℕ} → Passed tests → told ≡ (0, values) → roots' ≡ copied (rootsAt m cs) roots
-      → mults' ≡ copied (multiplicitiesAt m cs) mults → ListsRoots tests values m cs roots mults told roots' mults'
+  pub lists-accepted : {told : ℕ × List ℕ} {roots' mults' : List ℕ} → Passed tests → told ≡ (0, values) → roots' ≡ copied (roots_at m cs) roots
+      → mults' ≡ copied (multiplicities_at m cs) mults → ListsRoots tests values m cs roots mults told roots' mults'
   lists-accepted p t r e = record { answer = t ∙ sym (accepted values p); list = r ∙ sym (written _ roots p); beside = e ∙ sym (written _ mults p) }
 
 -- two answers that it admits are one, and so are both lists

@@ -3,9 +3,9 @@
 // records.
 ghost use Rattle.std.specs.Prelude.{◌≡◌, [], ◌∷◌, ltb, length};
 ghost use Rattle.refusals.specs.Admitting.{Admits};
-ghost use Rattle.input.specs.Cutoff.{highestCutoff, inForce};
-ghost use Rattle.input.specs.Polynomials.{polynomialTests};
-ghost use Rattle.input.specs.Values.{Measured, valueTests};
+ghost use Rattle.input.specs.Cutoff.{highest_cutoff, in_force};
+ghost use Rattle.input.specs.Polynomials.{polynomial_tests};
+ghost use Rattle.input.specs.Values.{Measured, value_tests};
 
 use field::rows::{FoundRow, row_of};
 use refusals::{Admission, Refusal, also};
@@ -30,7 +30,7 @@ pub const POWER_ROWS: usize = WIDEST * LIMIT;
 
 // The cutoff in force.
 pub fn in_force(cutoff: u16) -> u16
-    ensures { result ≡ inForce cutoff }
+    ensures { result ≡ in_force cutoff }
 {
     if cutoff == 0 {
         return HOUSE_DEFAULT;
@@ -40,7 +40,7 @@ pub fn in_force(cutoff: u16) -> u16
 
 // Refusals 1 to 5, of a field degree, the number of coefficients and the largest of them.
 fn admit_values(m: u16, n: usize, top: u16) -> Admission
-    ensures { Admits (valueTests m n top []) result }
+    ensures { Admits (value_tests m n top []) result }
 {
     let found = row_of(m);
     let FoundRow::At(row) = found else {
@@ -63,7 +63,7 @@ fn admit_values(m: u16, n: usize, top: u16) -> Admission
 
 // Refusals 1 to 6, of these and a cutoff: what the whole call, begin and the reader of records ask.
 pub fn admit_call(m: u16, n: usize, top: u16, cutoff: u16) -> Admission
-    ensures { Admits (valueTests m n top ((6, ltb highestCutoff cutoff) ∷ [])) result }
+    ensures { Admits (value_tests m n top ((6, ltb highest_cutoff cutoff) ∷ [])) result }
 {
     let above = HIGHEST_CUTOFF < cutoff;
     also(admit_values(m, n, top), above, Refusal::Cutoff)
@@ -90,7 +90,7 @@ fn largest(coeffs: &[u16]) -> u16
 
 // Refusals 1 to 5 and 7, of a polynomial and of lent slots that are too few.
 pub fn admit_room(m: u16, coeffs: &[u16], short: bool) -> Admission
-    ensures { Admits (polynomialTests m coeffs.now ((7, short) ∷ [])) result }
+    ensures { Admits (polynomial_tests m coeffs.now ((7, short) ∷ [])) result }
 {
     also(
         admit_values(m, coeffs.len(), largest(coeffs)),
@@ -101,8 +101,8 @@ pub fn admit_room(m: u16, coeffs: &[u16], short: bool) -> Admission
 
 // Refusals 1 to 7, of a polynomial, a cutoff, and lent slots that are too few or not as many as they must be.
 pub fn admit(m: u16, coeffs: &[u16], cutoff: u16, short: bool) -> Admission
-    ensures { Admits (polynomialTests m coeffs.now
-        ((6, ltb highestCutoff cutoff) ∷ (7, short) ∷ [])) result }
+    ensures { Admits (polynomial_tests m coeffs.now
+        ((6, ltb highest_cutoff cutoff) ∷ (7, short) ∷ [])) result }
 {
     let found = admit_call(m, coeffs.len(), largest(coeffs), cutoff);
     also(found, short, Refusal::Room)

@@ -5,7 +5,7 @@
 use mathlib.Core.Path.{◌≡◌, refl, sym, ap, ap₂, ◌∙◌}
 use mathlib.Core.List.{List, [], ◌∷◌}
 use Prim.Native.Nat.{ℕ}
-use Rattle.job_lines.specs.Printing.{toldNext, Turned}
+use Rattle.job_lines.specs.Printing.{told_next, Turned}
 use Rattle.job_lines.specs.declared.Next.{Next}
 use Rattle.job_lines.specs.declared.Next.TheVariants.{Over, On}
 use Rattle.job_lines.specs.declared.Turn.{Turn}
@@ -15,12 +15,12 @@ next_of : List ℕ → Next
 next_of [] = Over
 next_of (at ∷ l) = On at
 
-next-back : (n : Next) → next_of (toldNext n) ≡ n
+next-back : (n : Next) → next_of (told_next n) ≡ n
 unfolding next_of
 next-back Over = refl
 next-back (On at) = refl
 
-pub next-told : (n o : Next) → toldNext n ≡ toldNext o → n ≡ o
+pub next-told : (n o : Next) → told_next n ≡ told_next o → n ≡ o
 next-told n o e = sym (next-back n) ∙ ap next_of e ∙ next-back o
 
 pub turned-once : {file old s t : List ℕ} {at k : ℕ} {q r : Turn} → Turned file at k old q s → Turned file at k old r t → (q ≡ r) × (s ≡ t)

@@ -7,14 +7,14 @@ use mathlib.Core.List.{List, [], ◌∷◌}
 use Prim.Native.Nat.{ℕ}
 use Rattle.algebra.specs.Trial.{up_from}
 use Rattle.algebra.specs.Field.{power, trace}
-use Rattle.algebra.specs.Polynomial.{eval, rootsOf}
-use Rattle.field.specs.Rows.{known_in, polyIn}
+use Rattle.algebra.specs.Polynomial.{eval, roots_of}
+use Rattle.field.specs.Rows.{known_in, poly_in}
 use Rattle.field.specs.Field.{mul}
-use Rattle.input.specs.Cutoff.{inForceBy}
-use Rattle.table_rules.specs.Groups.{groupsAt, groupCount, sumBelow, agrees}
-use Rattle.table_rules.specs.Groups.{bitWords as bitWords}
+use Rattle.input.specs.Cutoff.{in_force_by}
+use Rattle.table_rules.specs.Groups.{groups_at, group_count, sum_below, agrees}
+use Rattle.table_rules.specs.Groups.{bit_words as bit_words}
 use Rattle.job_records.specs.Layout.{words}
-use Rattle.job_text.specs.Lines.{decimalIn, decimal, spaced}
+use Rattle.job_text.specs.Lines.{decimal_in, decimal, spaced}
 use Rattle.job_records.proofs.Example.{sample, sample-reads}
 use Rattle.job_lines.specs.Printing.{lines_from, LinesOf}
 
@@ -25,5 +25,5 @@ sample-text =
     ∷ 51 ∷ 32 ∷ 48 ∷ 32 ∷ 51 ∷ 32 ∷ 48 ∷ 32 ∷ 49 ∷ 32 ∷ 54 ∷ 32 ∷ 55 ∷ 10 ∷ []
 
 pub sample-lines : LinesOf sample sample-text
-unfolding lines_from decimalIn decimal spaced words known_in polyIn rootsOf up_from eval mul trace power bitWords groupsAt groupCount sumBelow agrees inForceBy
+unfolding lines_from decimal_in decimal spaced words known_in poly_in roots_of up_from eval mul trace power bit_words groups_at group_count sum_below agrees in_force_by
 sample-lines = record { outcomes = _; read = sample-reads; lines = refl }

@@ -6,12 +6,12 @@
 use mathlib.Core.Path.{◌≡◌, refl, sym, ap, ap₂, ◌∙◌, subst}
 use mathlib.Core.List.{List, [], ◌∷◌, ◌++◌, append-nil}
 use Prim.Native.Nat.{ℕ, ◌+◌}
-use Rattle.job_records.specs.Reading.{Outcome, readAt}
+use Rattle.job_records.specs.Reading.{Outcome, read_at}
 use Rattle.job_records.specs.Files.{Reads}
 use Rattle.job_records.specs.Files.Reads.{over, stop, on}
 use Rattle.job_records.proofs.Forward.{never}
 use Rattle.job_records.proofs.Whole.{reads, reads-once}
-use Rattle.job_lines.specs.Printing.{line_for, lines_from, LinesOf, onFrom, Prints}
+use Rattle.job_lines.specs.Printing.{line_for, lines_from, LinesOf, on_from, Prints}
 use Rattle.job_lines.specs.Printing.Prints.{last, more}
 
 pub lines_are : (file : List ℕ) → (text : List ℕ) × LinesOf file text
@@ -26,16 +26,16 @@ Lined file at k text = (os : List Outcome) × Reads file at os × (text ≡ line
 
 lined : {file : List ℕ} {at k : ℕ} {text : List ℕ} → Prints file at k text → Lined file at k text
 unfolding lines_from Lined
-lined {file} (last {at = at} {k = k} e) = go (readAt file at) refl e
+lined {file} (last {at = at} {k = k} e) = go (read_at file at) refl e
   where
-    go : (o : Outcome) → readAt file at ≡ o → onFrom o ≡ [] → Lined file at k (line_for file k (readAt file at))
+    go : (o : Outcome) → read_at file at ≡ o → on_from o ≡ [] → Lined file at k (line_for file k (read_at file at))
     go Outcome.ends f g = ([], over f, ap (line_for file k) f)
     go (Outcome.gives n []) f g = (Outcome.gives n [] ∷ [], stop f, ap (line_for file k) f ∙ sym (append-nil _))
     go (Outcome.gives n (next ∷ vs)) f g = never (cc)
-lined {file} (more {at = at} {k = k} {next = next} {text = text} e p) = go (readAt file at) refl e (lined p)
+lined {file} (more {at = at} {k = k} {next = next} {text = text} e p) = go (read_at file at) refl e (lined p)
   where
-    go : (o : Outcome) → readAt file at ≡ o → onFrom o ≡ next ∷ [] → Lined file next (k + 1) text
-        → Lined file at k (line_for file k (readAt file at) ++ text)
+    go : (o : Outcome) → read_at file at ≡ o → on_from o ≡ next ∷ [] → Lined file next (k + 1) text
+        → Lined file at k (line_for file k (read_at file at) ++ text)
     go Outcome.ends f g r = never (cc)
     go (Outcome.gives n []) f g r = never (cc)
     go (Outcome.gives n (behind ∷ vs)) f g r =

@@ -1,10 +1,10 @@
 -- What is printed for a record, and for a file (docs/RULES.md section 6).
---   turnedLine  the line of a record that is refused;  solvedLine  of one that is accepted: the roots and the steps of
+--   turned_line  the line of a record that is refused;  solved_line  of one that is accepted: the roots and the steps of
 --               the whole call
---   lineBy      the line of a number with the values that reading gave;  line_for  of what reading gave
+--   line_by      the line of a number with the values that reading gave;  line_for  of what reading gave
 --   lines_from   the lines of what reading gave, one after the other; the first has the number k
 --   LinesOf     a text is the lines of a file
---   onFrom      the place to go on, or nothing, of what reading gave;  toldNext  of the code's answer
+--   on_from      the place to go on, or nothing, of what reading gave;  told_next  of the code's answer
 --   Turned      what a turn leaves: the line at the front of the lent text, and all else there as it was
 --   TurnedBy    the same of what was read, wherever it stands: at every place of a file that gives it with these bytes
 --   Ahead       a number lies behind what was read, wherever that stands in a file of at most 65,536 bytes
@@ -12,11 +12,11 @@
 -- Assumes nothing.
 use Rattle.std.specs.Prelude.{◌≡◌, List, [], ◌∷◌, ◌++◌, ℕ, ◌+◌, ◌≤◌, length}
 use Rattle.slices.specs.Lists.{pasted}
-use Rattle.field.specs.Field.{rootsAt}
-use Rattle.table_rules.specs.Demand.{stepsAt}
-use Rattle.job_records.specs.Layout.{headLength, words, part}
+use Rattle.field.specs.Field.{roots_at}
+use Rattle.table_rules.specs.Demand.{steps_at}
+use Rattle.job_records.specs.Layout.{head_length, words, part}
 use Rattle.job_records.specs.Cutoffs.{asked}
-use Rattle.job_records.specs.Reading.{Outcome, toldRead, readAt, bytes_of}
+use Rattle.job_records.specs.Reading.{Outcome, told_read, read_at, bytes_of}
 use Rattle.job_records.specs.Files.{Reads}
 use Rattle.job_records.specs.declared.Read.{Read}
 use Rattle.job_text.specs.Lines.{line_of}
@@ -24,24 +24,24 @@ use Rattle.job_lines.specs.declared.Next.{Next}
 use Rattle.job_lines.specs.declared.Next.TheVariants.{Over, On}
 use Rattle.job_lines.specs.declared.Turn.{Turn}
 
-abbrev pub turnedLine : ℕ → ℕ → List ℕ
-turnedLine k number = line_of k number 0 []
+abbrev pub turned_line : ℕ → ℕ → List ℕ
+turned_line k number = line_of k number 0 []
 
-abbrev pub solvedLine : ℕ → ℕ → ℕ → List ℕ → List ℕ
-solvedLine k m c cs = line_of k 0 (stepsAt m c cs) (rootsAt m cs)
+abbrev pub solved_line : ℕ → ℕ → ℕ → List ℕ → List ℕ
+solved_line k m c cs = line_of k 0 (steps_at m c cs) (roots_at m cs)
 
 -- an accepted record has more values than the place to go on
-abbrev pub lineBy : List ℕ → ℕ → ℕ → List ℕ → List ℕ
-lineBy file k number [] = turnedLine k number
-lineBy file k number (next ∷ []) = turnedLine k number
-lineBy file k number (next ∷ m ∷ []) = turnedLine k number
-lineBy file k number (next ∷ m ∷ start ∷ []) = turnedLine k number
-lineBy file k number (next ∷ m ∷ start ∷ len ∷ cutoff) = solvedLine k m (asked cutoff) (words (part file start len))
+abbrev pub line_by : List ℕ → ℕ → ℕ → List ℕ → List ℕ
+line_by file k number [] = turned_line k number
+line_by file k number (next ∷ []) = turned_line k number
+line_by file k number (next ∷ m ∷ []) = turned_line k number
+line_by file k number (next ∷ m ∷ start ∷ []) = turned_line k number
+line_by file k number (next ∷ m ∷ start ∷ len ∷ cutoff) = solved_line k m (asked cutoff) (words (part file start len))
 
 -- where reading ends there is no line
 abbrev pub line_for : List ℕ → ℕ → Outcome → List ℕ
 line_for file k Outcome.ends = []
-line_for file k (Outcome.gives number values) = lineBy file k number values
+line_for file k (Outcome.gives number values) = line_by file k number values
 
 unfoldable pub lines_from : List ℕ → ℕ → List Outcome → List ℕ
 lines_from file k [] = []
@@ -55,30 +55,30 @@ pub record LinesOf (file text : List ℕ) : Type 0 where
 
 -- ---- turn by turn
 
-abbrev pub onFrom : Outcome → List ℕ
-onFrom Outcome.ends = []
-onFrom (Outcome.gives number []) = []
-onFrom (Outcome.gives number (next ∷ values)) = next ∷ []
+abbrev pub on_from : Outcome → List ℕ
+on_from Outcome.ends = []
+on_from (Outcome.gives number []) = []
+on_from (Outcome.gives number (next ∷ values)) = next ∷ []
 
-abbrev pub toldNext : Next → List ℕ
-toldNext Over = []
-toldNext (On next) = next ∷ []
+abbrev pub told_next : Next → List ℕ
+told_next Over = []
+told_next (On next) = next ∷ []
 
 pub record Turned (file : List ℕ) (at k : ℕ) (old : List ℕ) (r : Turn) (new : List ℕ) : Type 0 where
-  pub ended : r.len ≡ length (line_for file k (readAt file at))
-  pub bytes : new ≡ pasted 0 (line_for file k (readAt file at)) old
-  pub goes : toldNext r.next ≡ onFrom (readAt file at)
+  pub ended : r.len ≡ length (line_for file k (read_at file at))
+  pub bytes : new ≡ pasted 0 (line_for file k (read_at file at)) old
+  pub goes : told_next r.next ≡ on_from (read_at file at)
 
 abbrev pub TurnedBy : Read → List ℕ → ℕ → List ℕ → Turn → List ℕ → Type 0
-TurnedBy read bytes k old r new = (file : List ℕ) (at : ℕ) → toldRead read ≡ readAt file at → bytes ≡ bytes_of file read
+TurnedBy read bytes k old r new = (file : List ℕ) (at : ℕ) → told_read read ≡ read_at file at → bytes ≡ bytes_of file read
     → Turned file at k old r new
 
 abbrev pub Ahead : Read → List ℕ → ℕ → Type 0
-Ahead read bytes n = (file : List ℕ) (at : ℕ) → toldRead read ≡ readAt file at → bytes ≡ bytes_of file read
-    → length file ≤ 65536 → at ≤ length file → at + headLength ≤ n
+Ahead read bytes n = (file : List ℕ) (at : ℕ) → told_read read ≡ read_at file at → bytes ≡ bytes_of file read
+    → length file ≤ 65536 → at ≤ length file → at + head_length ≤ n
 
 pub data Prints (file : List ℕ) : ℕ → ℕ → List ℕ → Type 0 where
-  last : {at k : ℕ} → onFrom (readAt file at) ≡ [] → Prints file at k (line_for file k (readAt file at))
-  more : {at k next : ℕ} {text : List ℕ} → onFrom (readAt file at) ≡ next ∷ []
+  last : {at k : ℕ} → on_from (read_at file at) ≡ [] → Prints file at k (line_for file k (read_at file at))
+  more : {at k next : ℕ} {text : List ℕ} → on_from (read_at file at) ≡ next ∷ []
       → Prints file next (k + 1) text
-      → Prints file at k (line_for file k (readAt file at) ++ text)
+      → Prints file at k (line_for file k (read_at file at) ++ text)

@@ -4,9 +4,9 @@ ghost use Rattle.std.specs.Prelude.{◌≤◌, length};
 ghost use Rattle.refusals.specs.Numbers.{number_of};
 ghost use Rattle.job_records.specs.Layout.{words};
 ghost use Rattle.job_records.specs.Reading.{Stands};
-ghost use Rattle.job_text.specs.Lines.{Wrote, longestLine};
-ghost use Rattle.job_solve.specs.Solving.{cutoffOf, Accepted};
-ghost use Rattle.job_lines.specs.Printing.{turnedLine, solvedLine, TurnedBy};
+ghost use Rattle.job_text.specs.Lines.{Wrote, longest_line};
+ghost use Rattle.job_solve.specs.Solving.{cutoff_of, Accepted};
+ghost use Rattle.job_lines.specs.Printing.{turned_line, solved_line, TurnedBy};
 
 use input::LIMIT;
 use job_records::{Job, Read};
@@ -30,8 +30,8 @@ pub struct Turn {
 
 // The line of a refused record, to the front of out; its length.
 fn turned_line(k: u32, refusal: Refusal, out: &mut [u8]) -> usize
-    requires { longestLine ≤ length out.old }
-    ensures { Wrote (turnedLine k (number_of refusal)) 0 out.old result out.new }
+    requires { longest_line ≤ length out.old }
+    ensures { Wrote (turned_line k (number_of refusal)) 0 out.old result out.new }
 {
     let none = [0u16; 1];
     line(k, refusals::number(refusal), 0, 0, &none, out)
@@ -39,8 +39,8 @@ fn turned_line(k: u32, refusal: Refusal, out: &mut [u8]) -> usize
 
 // The line of an accepted record, to the front of out; its length.
 fn solved_line(k: u32, job: Job, bytes: &[u8], out: &mut [u8]) -> usize
-    requires { Accepted job (words bytes.now) × (longestLine ≤ length out.old) }
-    ensures { Wrote (solvedLine k job.m (cutoffOf job) (words bytes.now))
+    requires { Accepted job (words bytes.now) × (longest_line ≤ length out.old) }
+    ensures { Wrote (solved_line k job.m (cutoff_of job) (words bytes.now))
         0 out.old result out.new }
 {
     let mut roots = [0u16; LIMIT];
@@ -50,7 +50,7 @@ fn solved_line(k: u32, job: Job, bytes: &[u8], out: &mut [u8]) -> usize
 
 // The line of what was read, with its coefficient bytes, to the front of out, and where reading goes on.
 pub fn take_turn(read: Read, bytes: &[u8], k: u32, out: &mut [u8]) -> Turn
-    requires { (longestLine ≤ length out.old) × Stands read bytes.now }
+    requires { (longest_line ≤ length out.old) × Stands read bytes.now }
     ensures { TurnedBy read bytes.now k out.old result out.new }
 {
     match read {

@@ -13,7 +13,7 @@ use Rattle.job_writer.specs.Calls.{Writes}
 use Rattle.job_writer.specs.declared.Written.{Written}
 use Rattle.job_writer.specs.declared.Written.TheVariants.{Bytes}
 use Rattle.job_writer.proofs.Contract.{bytes-say}
-use Rattle.job_lists.specs.Lines.{lineEnd, endsWhole}
+use Rattle.job_lists.specs.Lines.{line_end, ends_whole}
 use Rattle.job_lists.specs.Calls.{Lists, ListsAt}
 use Rattle.job_lists.specs.Calls.ListsAt.{cut, whole}
 use Rattle.job_lists.specs.Calls.Lists.{illegible, blank, alone, asks}
@@ -21,7 +21,7 @@ use Rattle.job_lists.specs.declared.Listed.{Listed}
 use Rattle.job_lists.specs.declared.Listed.TheVariants.{Answer}
 
 pub record-whole : {text room : List ℕ} {at : ℕ} {ended : Bool} {l : Listed} {r : Written} {after : List ℕ}
-    → ListsAt text at ended room l after → l ≡ Answer r → endsWhole text (lineEnd text at) ended ≡ true
+    → ListsAt text at ended room l after → l ≡ Answer r → ends_whole text (line_end text at) ended ≡ true
 record-whole (cut f) e = never (cc)
 record-whole (whole t p) e = t
 

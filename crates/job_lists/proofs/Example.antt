@@ -7,20 +7,20 @@
 use mathlib.Core.Path.{◌≡◌, refl}
 use mathlib.Core.Bool.{false}
 use mathlib.Core.List.{[], ◌∷◌}
-use Rattle.job_lists.specs.Lines.{isDigit, isBlank, legible, capped, numbersFrom, numbersOf}
+use Rattle.job_lists.specs.Lines.{is_digit, is_blank, legible, capped, numbers_from, numbers_of}
 
-pub sample-numbers : numbersOf (52 ∷ 32 ∷ 48 ∷ 32 ∷ 49 ∷ 32 ∷ 50 ∷ 32 ∷ 51 ∷ []) ≡ 4 ∷ 0 ∷ 1 ∷ 2 ∷ 3 ∷ []
-unfolding isDigit capped numbersFrom
+pub sample-numbers : numbers_of (52 ∷ 32 ∷ 48 ∷ 32 ∷ 49 ∷ 32 ∷ 50 ∷ 32 ∷ 51 ∷ []) ≡ 4 ∷ 0 ∷ 1 ∷ 2 ∷ 3 ∷ []
+unfolding is_digit capped numbers_from
 sample-numbers = refl
 
-pub sample-blanks : numbersOf (9 ∷ 49 ∷ 49 ∷ 32 ∷ 9 ∷ 51 ∷ 13 ∷ []) ≡ 11 ∷ 3 ∷ []
-unfolding isDigit capped numbersFrom
+pub sample-blanks : numbers_of (9 ∷ 49 ∷ 49 ∷ 32 ∷ 9 ∷ 51 ∷ 13 ∷ []) ≡ 11 ∷ 3 ∷ []
+unfolding is_digit capped numbers_from
 sample-blanks = refl
 
-pub sample-high : numbersOf (54 ∷ 53 ∷ 53 ∷ 52 ∷ 48 ∷ []) ≡ 65535 ∷ []
-unfolding isDigit capped numbersFrom
+pub sample-high : numbers_of (54 ∷ 53 ∷ 53 ∷ 52 ∷ 48 ∷ []) ≡ 65535 ∷ []
+unfolding is_digit capped numbers_from
 sample-high = refl
 
 pub sample-letter : legible (52 ∷ 32 ∷ 120 ∷ []) ≡ false
-unfolding isDigit isBlank legible
+unfolding is_digit is_blank legible
 sample-letter = refl

@@ -7,18 +7,18 @@
 use Rattle.std.specs.Prelude.{◌≡◌, Bool, true, false, List, [], ◌∷◌, ℕ}
 use Rattle.job_writer.specs.Calls.{Writes}
 use Rattle.job_writer.specs.declared.Written.{Written}
-use Rattle.job_lists.specs.Lines.{lineEnd, line_at, endsWhole, legible, numbersOf}
+use Rattle.job_lists.specs.Lines.{line_end, line_at, ends_whole, legible, numbers_of}
 use Rattle.job_lists.specs.declared.Listed.{Listed}
 use Rattle.job_lists.specs.declared.Listed.TheVariants.{Blank, Illegible, CutOff, Answer}
 
 pub data Lists (line room : List ℕ) : Listed → List ℕ → Type 0 where
   illegible : legible line ≡ false → Lists line room Illegible room
-  blank : legible line ≡ true → numbersOf line ≡ [] → Lists line room Blank room
-  alone : {m : ℕ} → legible line ≡ true → numbersOf line ≡ m ∷ [] → Lists line room Illegible room
+  blank : legible line ≡ true → numbers_of line ≡ [] → Lists line room Blank room
+  alone : {m : ℕ} → legible line ≡ true → numbers_of line ≡ m ∷ [] → Lists line room Illegible room
   asks : {m c : ℕ} {roots : List ℕ} {r : Written} {after : List ℕ} → legible line ≡ true
-      → numbersOf line ≡ m ∷ c ∷ roots → Writes m c roots room r after → Lists line room (Answer r) after
+      → numbers_of line ≡ m ∷ c ∷ roots → Writes m c roots room r after → Lists line room (Answer r) after
 
 pub data ListsAt (text : List ℕ) (at : ℕ) (ended : Bool) (room : List ℕ) : Listed → List ℕ → Type 0 where
-  cut : endsWhole text (lineEnd text at) ended ≡ false → ListsAt text at ended room CutOff room
-  whole : {l : Listed} {after : List ℕ} → endsWhole text (lineEnd text at) ended ≡ true
+  cut : ends_whole text (line_end text at) ended ≡ false → ListsAt text at ended room CutOff room
+  whole : {l : Listed} {after : List ℕ} → ends_whole text (line_end text at) ended ≡ true
       → Lists (line_at text at) room l after → ListsAt text at ended room l after

@@ -1,6 +1,6 @@
 // Lists of jobs as text: where a line ends, whether it is whole, and the record that it asks for.
 ghost use Rattle.std.specs.Prelude.{◌≡◌, ◌≤◌, length};
-ghost use Rattle.job_lists.specs.Lines.{lineEnd, endsWhole};
+ghost use Rattle.job_lists.specs.Lines.{line_end, ends_whole};
 ghost use Rattle.job_lists.specs.Calls.{Lists, ListsAt};
 
 use job_writer::Written;
@@ -27,7 +27,7 @@ pub struct TakenLine {
 
 // Where the line at a place ends: before the next line feed, or at the end of the text.
 fn line_end(text: &[u8], at: usize) -> usize
-    ensures { result ≡ lineEnd text.now at }
+    ensures { result ≡ line_end text.now at }
 {
     let mut end = at;
     while end < text.len() {
@@ -41,7 +41,7 @@ fn line_end(text: &[u8], at: usize) -> usize
 
 // Is a line whole that ends at a place: does a line feed end it, or the end of the input?
 fn is_whole(text: &[u8], end: usize, ended: bool) -> bool
-    ensures { result ≡ endsWhole text.now end ended }
+    ensures { result ≡ ends_whole text.now end ended }
 {
     if ended {
         return true;
@@ -72,7 +72,7 @@ fn line_record(line: &[u8], room: &mut [u8]) -> Listed
 pub fn record_at(text: &[u8], at: usize, ended: bool, room: &mut [u8]) -> TakenLine
     requires { at ≤ length text.now }
     ensures lists_at { ListsAt text.now at ended room.old result.listed room.new }
-    ensures end_value { result.end ≡ lineEnd text.now at }
+    ensures end_value { result.end ≡ line_end text.now at }
 {
     let end = line_end(text, at);
     if !is_whole(text, end, ended) {

@@ -2,15 +2,15 @@
 ghost use Rattle.std.specs.Prelude.{◌≡◌, true, ◌-◌, ◌≤◌, length, take};
 ghost use Rattle.slices.specs.Lists.{copied};
 ghost use Rattle.job_text.specs.Lines.{Wrote};
-ghost use Rattle.job_lists.specs.Lines.{isDigit, isLegible, legible, capped, mostNumbers, numbersOf};
-ghost use Rattle.job_lists.specs.Words.{grownWord, heldList};
+ghost use Rattle.job_lists.specs.Lines.{is_digit, is_legible, legible, capped, most_numbers, numbers_of};
+ghost use Rattle.job_lists.specs.Words.{grown_word, held_list};
 
 use input::LIMIT;
 
-// How many numbers of a line count (specs/Lines.antt `mostNumbers`).
+// How many numbers of a line count (specs/Lines.antt `most_numbers`).
 pub const MOST_NUMBERS: usize = 3 + LIMIT;
 
-// The highest number that counts (specs/Lines.antt `highestNumber`).
+// The highest number that counts (specs/Lines.antt `highest_number`).
 const HIGHEST: u32 = 65535;
 
 // The word that stands open, by its number.
@@ -21,7 +21,7 @@ enum Word {
 }
 
 fn is_digit(b: u8) -> bool
-    ensures { result ≡ isDigit b }
+    ensures { result ≡ is_digit b }
 {
     if b < b'0' {
         return false;
@@ -31,7 +31,7 @@ fn is_digit(b: u8) -> bool
 
 // Is the byte a digit or a blank?
 fn is_legible(b: u8) -> bool
-    ensures { result ≡ isLegible b }
+    ensures { result ≡ is_legible b }
 {
     if is_digit(b) {
         return true;
@@ -70,8 +70,8 @@ fn cap(x: u32) -> u16
 
 // The word with one digit more.
 fn grow(word: Word, b: u8) -> Word
-    requires { isDigit b ≡ true }
-    ensures { result ≡ grownWord word b }
+    requires { is_digit b ≡ true }
+    ensures { result ≡ grown_word word b }
 {
     let digit = (b - b'0') as u32;
     match word {
@@ -83,8 +83,8 @@ fn grow(word: Word, b: u8) -> Word
 // Puts the number of the word that stands open behind the n numbers of the room, unless that is one too many; how many
 // there are then.
 fn close(word: Word, n: usize, room: &mut [u16]) -> usize
-    requires { mostNumbers ≤ length room.old }
-    ensures { Wrote (take (mostNumbers - n) (heldList word)) n room.old result room.new }
+    requires { most_numbers ≤ length room.old }
+    ensures { Wrote (take (most_numbers - n) (held_list word)) n room.old result room.new }
 {
     match word {
         Word::Shut => n,
@@ -100,9 +100,9 @@ fn close(word: Word, n: usize, room: &mut [u16]) -> usize
 
 // Puts the numbers of the line that count to the front of the room; how many there are.
 pub fn numbers(line: &[u8], room: &mut [u16]) -> usize
-    requires { mostNumbers ≤ length room.old }
-    ensures { (result ≡ length (numbersOf line.now))
-        × (room.new ≡ copied (numbersOf line.now) room.old) }
+    requires { most_numbers ≤ length room.old }
+    ensures { (result ≡ length (numbers_of line.now))
+        × (room.new ≡ copied (numbers_of line.now) room.old) }
 {
     let mut n = 0;
     let mut word = Word::Shut;

@@ -10,7 +10,7 @@ use mathlib.Core.List.{List, [], ◌∷◌}
 use Prim.Native.Nat.{ℕ, ◌+◌}
 use Rattle.refusals.proofs.Numbers.{by_number, refused-back}
 use Rattle.refusals.proofs.Told.{way_back}
-use Rattle.job_records.specs.Reading.{Outcome, toldRead, ReadsAt, Spelled}
+use Rattle.job_records.specs.Reading.{Outcome, told_read, ReadsAt, Spelled}
 use Rattle.job_records.specs.Files.{Halts}
 use Rattle.job_records.specs.Files.Halts.{over, stop, on}
 use Rattle.job_records.specs.declared.Stop.{Stop}
@@ -18,44 +18,44 @@ use Rattle.job_records.specs.declared.Ending.{Ending}
 use Rattle.job_records.specs.declared.Ending.TheVariants.{Halted}
 use Rattle.refusals.specs.declared.Refusal.{Refusal}
 use Rattle.job_records.proofs.Forward.{never}
-use Rattle.job_records.proofs.Cutoffs.{cutoffFrom, cutoff-back}
+use Rattle.job_records.proofs.Cutoffs.{cutoff_from, cutoff-back}
 use Rattle.job_records.specs.declared.Read.{Read}
 use Rattle.job_records.specs.declared.Read.TheVariants.{End, Record, Refused, Stopped}
 
 -- the answer that a number and its values stand for
-answerFrom : ℕ → List ℕ → Read
-answerFrom k [] = by_number Stopped End k
-answerFrom k (next ∷ []) = by_number (λ r. Refused r next) End k
-answerFrom k (next ∷ m ∷ []) = End
-answerFrom k (next ∷ m ∷ start ∷ []) = End
-answerFrom k (next ∷ m ∷ start ∷ len ∷ cs) = Record (record { m = m; cutoff = cutoffFrom cs; start = start; len = len; next = next })
+answer_from : ℕ → List ℕ → Read
+answer_from k [] = by_number Stopped End k
+answer_from k (next ∷ []) = by_number (λ r. Refused r next) End k
+answer_from k (next ∷ m ∷ []) = End
+answer_from k (next ∷ m ∷ start ∷ []) = End
+answer_from k (next ∷ m ∷ start ∷ len ∷ cs) = Record (record { m = m; cutoff = cutoff_from cs; start = start; len = len; next = next })
 
 answer_of : Outcome → Read
 answer_of Outcome.ends = End
-answer_of (Outcome.gives k values) = answerFrom k values
+answer_of (Outcome.gives k values) = answer_from k values
 
-read_back : (r : Read) → answer_of (toldRead r) ≡ r
-unfolding answer_of answerFrom
+read_back : (r : Read) → answer_of (told_read r) ≡ r
+unfolding answer_of answer_from
 read_back End = refl
 read_back (Record j) =
     ap (λ c. Record (record { m = j.m; cutoff = c; start = j.start; len = j.len; next = j.next })) (cutoff-back j.cutoff)
 read_back (Refused k next) = refused-back (λ r. Refused r next) End k
 read_back (Stopped k) = refused-back Stopped End k
 
-read_told : (r s : Read) → toldRead r ≡ toldRead s → r ≡ s
-read_told = way_back toldRead answer_of read_back
+read_told : (r s : Read) → told_read r ≡ told_read s → r ≡ s
+read_told = way_back told_read answer_of read_back
 
 pub read-coincide : (file : List ℕ) (at : ℕ) (r s : Read) → ReadsAt file at r → ReadsAt file at s → r ≡ s
 read-coincide file at r s h k = read_told r s (h ∙ sym k)
 
 -- a struct is told by its fields
-stopOf : ℕ → ℕ → Refusal → Stop
-stopOf k at r = record { record_number = k; at = at; refusal = r }
+stop_of : ℕ → ℕ → Refusal → Stop
+stop_of k at r = record { record_number = k; at = at; refusal = r }
 
 same_stop : (s t : Stop) → s.record_number ≡ t.record_number → s.at ≡ t.at → s.refusal ≡ t.refusal → s ≡ t
-unfolding stopOf
+unfolding stop_of
 same_stop s t a b c =
-    let e : stopOf s.record_number s.at s.refusal ≡ stopOf t.record_number t.at t.refusal = cc in e
+    let e : stop_of s.record_number s.at s.refusal ≡ stop_of t.record_number t.at t.refusal = cc in e
 
 pub halts-once : {file : List ℕ} {at k : ℕ} {r s : Ending} → Halts file at k r → Halts file at k s → r ≡ s
 halts-once (over e) (over f) = refl

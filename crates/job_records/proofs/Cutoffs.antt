@@ -8,13 +8,13 @@ use mathlib.Core.List.{List, [], ◌∷◌}
 use Prim.Native.Nat.{ℕ}
 use borrow.Author.Tests.{eqb-true, eqb-false}
 use lib.Dec.{eqb}
-use Rattle.job_records.specs.Cutoffs.{statedCutoff, statedBy, asked}
+use Rattle.job_records.specs.Cutoffs.{stated_cutoff, stated_by, asked}
 use Rattle.job_records.specs.declared.Cutoff.{Cutoff}
 use Rattle.job_records.specs.declared.Cutoff.TheVariants.{House, Stated}
 use Rattle.job_records.proofs.Forward.{never}
 
 -- by whether the byte is 0
-told : (c : ℕ) (cutoff : Cutoff) (b : Bool) → eqb c 0 ≡ b → statedBy cutoff ≡ cond b [] (c ∷ [])
+told : (c : ℕ) (cutoff : Cutoff) (b : Bool) → eqb c 0 ≡ b → stated_by cutoff ≡ cond b [] (c ∷ [])
     → cutoff ≡ Stated 0 → ⊥
 told c House true e f s = never (cc)
 told c House false e f s = never (cc)
@@ -26,10 +26,10 @@ told c (Stated n) false e f s =
     zero : Stated n ≡ Stated 0 → n ≡ 0
     zero s = cc
 
-pub never-zero : (c : ℕ) (cutoff : Cutoff) → statedBy cutoff ≡ statedCutoff c → cutoff ≡ Stated 0 → ⊥
+pub never-zero : (c : ℕ) (cutoff : Cutoff) → stated_by cutoff ≡ stated_cutoff c → cutoff ≡ Stated 0 → ⊥
 never-zero c cutoff e = told c cutoff (eqb c 0) refl e
 
-pub asked-stated : (c : ℕ) → asked (statedCutoff c) ≡ c
+pub asked-stated : (c : ℕ) → asked (stated_cutoff c) ≡ c
 asked-stated c = go (eqb c 0) refl
   where
     go : (b : Bool) → eqb c 0 ≡ b → asked (cond b [] (c ∷ [])) ≡ c
@@ -37,11 +37,11 @@ asked-stated c = go (eqb c 0) refl
     go false e = refl
 
 -- the cutoff that is stated by nothing, or by a number
-unfoldable pub cutoffFrom : List ℕ → Cutoff
-cutoffFrom [] = House
-cutoffFrom (c ∷ l) = Stated c
+unfoldable pub cutoff_from : List ℕ → Cutoff
+cutoff_from [] = House
+cutoff_from (c ∷ l) = Stated c
 
-pub cutoff-back : (c : Cutoff) → cutoffFrom (statedBy c) ≡ c
-unfolding cutoffFrom
+pub cutoff-back : (c : Cutoff) → cutoff_from (stated_by c) ≡ c
+unfolding cutoff_from
 cutoff-back House = refl
 cutoff-back (Stated c) = refl

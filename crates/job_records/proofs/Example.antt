@@ -9,7 +9,7 @@ use Rattle.refusals.specs.Order.{decide}
 use Rattle.field.specs.Rows.{known_in}
 use Rattle.slices.specs.Bounded.{all_below}
 use Rattle.job_records.specs.Layout.{words}
-use Rattle.job_records.specs.Reading.{Outcome, judged, readHere}
+use Rattle.job_records.specs.Reading.{Outcome, judged, read_here}
 use Rattle.job_records.specs.Files.{Reads}
 use Rattle.job_records.specs.Files.Reads.{over, on}
 
@@ -21,5 +21,5 @@ sample =
 
 pub sample-reads : Reads sample 0 (
     Outcome.gives 0 (13 ∷ 4 ∷ 5 ∷ 8 ∷ 1 ∷ []) ∷ Outcome.gives 1 (20 ∷ []) ∷ Outcome.gives 0 (33 ∷ 4 ∷ 25 ∷ 8 ∷ []) ∷ [])
-unfolding readHere judged decide known_in all_below words
+unfolding read_here judged decide known_in all_below words
 sample-reads = on refl (on refl (on refl (over refl)))

@@ -1,14 +1,14 @@
 -- What reading gives at a place of a file (docs/RULES.md sections 5.2 and 5.3).
 --   Outcome      reading ends, or it gives a number with its values
---   toldRead        the outcome of each answer of the code: a place to go on comes first among the values; an accepted
+--   told_read        the outcome of each answer of the code: a place to go on comes first among the values; an accepted
 --                   record also has
 --                its m, where its coefficient bytes start, how many they are, and the cutoff that it states
---   startTests   the tests of the bytes from a place on: one byte remains, no mark, any later shortage
---   callTests, recordTests  the tests of a complete record, in the whole call's order, and those of the record at the
+--   start_tests   the tests of the bytes from a place on: one byte remains, no mark, any later shortage
+--   call_tests, record_tests  the tests of a complete record, in the whole call's order, and those of the record at the
 --                           front of bytes
 --   judged       the outcome of a complete record at a place
---   readHere     the outcome of the bytes from a place on
---   readAt       the outcome at a place of a file
+--   read_here     the outcome of the bytes from a place on
+--   read_at       the outcome at a place of a file
 --   ReadsAt      THE CONTRACT of the reader: the answers that it admits there
 --   HandsBack    an outcome at a place accepts: it gives m, the cutoff as stated, the coefficient bytes as that part
 --                of
@@ -22,11 +22,11 @@ use Rattle.std.specs.Prelude.{Bool, not, List, [], ◌∷◌, ◌≡◌, ℕ, �
 use Rattle.refusals.specs.Order.{decide}
 use Rattle.refusals.specs.Numbers.{number_of}
 use Rattle.slices.specs.Lists.{copied}
-use Rattle.input.specs.Cutoff.{highestCutoff}
-use Rattle.input.specs.Polynomials.{polynomialTests}
-use Rattle.job_records.specs.Layout.{headLength, marked, degreeByte, cutoffByte}
-use Rattle.job_records.specs.Layout.{bodyLength, recordLength, words, part, coefficients}
-use Rattle.job_records.specs.Cutoffs.{statedCutoff, statedBy}
+use Rattle.input.specs.Cutoff.{highest_cutoff}
+use Rattle.input.specs.Polynomials.{polynomial_tests}
+use Rattle.job_records.specs.Layout.{head_length, marked, degree_byte, cutoff_byte}
+use Rattle.job_records.specs.Layout.{body_length, record_length, words, part, coefficients}
+use Rattle.job_records.specs.Cutoffs.{stated_cutoff, stated_by}
 use Rattle.job_records.specs.declared.Cutoff.{Cutoff}
 use Rattle.job_records.specs.declared.Read.{Read}
 use Rattle.job_records.specs.declared.Read.TheVariants.{End, Record, Refused, Stopped}
@@ -37,51 +37,51 @@ pub data Outcome : Type 0 where
   ends : Outcome
   gives : (number : ℕ) (values : List ℕ) → Outcome
 
-abbrev pub toldRead : Read → Outcome
-toldRead End = Outcome.ends
-toldRead (Record j) = Outcome.gives 0 (j.next ∷ j.m ∷ j.start ∷ j.len ∷ statedBy j.cutoff)
-toldRead (Refused k next) = Outcome.gives (number_of k) (next ∷ [])
-toldRead (Stopped k) = Outcome.gives (number_of k) []
+abbrev pub told_read : Read → Outcome
+told_read End = Outcome.ends
+told_read (Record j) = Outcome.gives 0 (j.next ∷ j.m ∷ j.start ∷ j.len ∷ stated_by j.cutoff)
+told_read (Refused k next) = Outcome.gives (number_of k) (next ∷ [])
+told_read (Stopped k) = Outcome.gives (number_of k) []
 
-abbrev pub startTests : List ℕ → List (ℕ × Bool)
-startTests rest =
-    (12, ltb (length rest) 2) ∷ (11, not (marked rest)) ∷ (12, ltb (length rest) (recordLength rest)) ∷ []
+abbrev pub start_tests : List ℕ → List (ℕ × Bool)
+start_tests rest =
+    (12, ltb (length rest) 2) ∷ (11, not (marked rest)) ∷ (12, ltb (length rest) (record_length rest)) ∷ []
 
-abbrev pub callTests : ℕ → ℕ → List ℕ → List (ℕ × Bool)
-callTests m c cs = polynomialTests m cs ((6, ltb highestCutoff c) ∷ [])
+abbrev pub call_tests : ℕ → ℕ → List ℕ → List (ℕ × Bool)
+call_tests m c cs = polynomial_tests m cs ((6, ltb highest_cutoff c) ∷ [])
 
 -- the tests of the record that stands first in these bytes
-abbrev pub recordTests : List ℕ → List (ℕ × Bool)
-recordTests r = callTests (degreeByte r) (cutoffByte r) (coefficients r)
+abbrev pub record_tests : List ℕ → List (ℕ × Bool)
+record_tests r = call_tests (degree_byte r) (cutoff_byte r) (coefficients r)
 
 -- refused or accepted, reading goes on behind the record
 unfoldable pub judged : ℕ → List ℕ → Outcome
 judged at r =
-    decide (recordTests r) (λ k. Outcome.gives k ((at + recordLength r) ∷ []))
-    (Outcome.gives 0 ((at + recordLength r) ∷ degreeByte r ∷ (at + headLength) ∷ bodyLength r
-    ∷ statedCutoff (cutoffByte r)))
+    decide (record_tests r) (λ k. Outcome.gives k ((at + record_length r) ∷ []))
+    (Outcome.gives 0 ((at + record_length r) ∷ degree_byte r ∷ (at + head_length) ∷ body_length r
+    ∷ stated_cutoff (cutoff_byte r)))
 
 -- 11 and 12 say of no place to go on
-unfoldable pub readHere : ℕ → List ℕ → Outcome
-readHere at [] = Outcome.ends
-readHere at (b ∷ bs) = decide (startTests (b ∷ bs)) (λ k. Outcome.gives k []) (judged at (b ∷ bs))
+unfoldable pub read_here : ℕ → List ℕ → Outcome
+read_here at [] = Outcome.ends
+read_here at (b ∷ bs) = decide (start_tests (b ∷ bs)) (λ k. Outcome.gives k []) (judged at (b ∷ bs))
 
-abbrev pub readAt : List ℕ → ℕ → Outcome
-readAt file at = readHere at (drop at file)
+abbrev pub read_at : List ℕ → ℕ → Outcome
+read_at file at = read_here at (drop at file)
 
 -- the contract of the reader: the answers that it admits at a place
 abbrev pub ReadsAt : List ℕ → ℕ → Read → Type 0
-ReadsAt file at r = toldRead r ≡ readAt file at
+ReadsAt file at r = told_read r ≡ read_at file at
 
 -- the part of the file that the values name is the record's coefficient bytes, and all of it lies in the file
 pub record HandsBack (file : List ℕ) (at : ℕ) (o : Outcome) : Type 0 where
   pub gives : o
       ≡ Outcome.gives 0
-      ((at + recordLength (drop at file)) ∷ degreeByte (drop at file) ∷ (at + headLength) ∷ bodyLength (drop at file)
-      ∷ statedCutoff (cutoffByte (drop at file)))
-  pub bytes : part file (at + headLength) (bodyLength (drop at file))
-      ≡ part (drop at file) headLength (bodyLength (drop at file))
-  pub inside : at + recordLength (drop at file) ≤ length file
+      ((at + record_length (drop at file)) ∷ degree_byte (drop at file) ∷ (at + head_length) ∷ body_length (drop at file)
+      ∷ stated_cutoff (cutoff_byte (drop at file)))
+  pub bytes : part file (at + head_length) (body_length (drop at file))
+      ≡ part (drop at file) head_length (body_length (drop at file))
+  pub inside : at + record_length (drop at file) ≤ length file
 
 -- the coefficient bytes of what was read; none where no record was accepted
 abbrev pub bytes_of : List ℕ → Read → List ℕ
@@ -94,13 +94,13 @@ bytes_of file (Stopped k) = []
 pub record Stands (r : Read) (bytes : List ℕ) : Type 0 where
   pub file : List ℕ
   pub at : ℕ
-  pub read : toldRead r ≡ readAt file at
+  pub read : told_read r ≡ read_at file at
   pub lent : bytes ≡ bytes_of file r
 
 abbrev pub answered : ℕ → ℕ → Cutoff → ℕ → Admission → Read
 answered at m cutoff len In =
-    Record (record { m = m; cutoff = cutoff; start = at + headLength; len = len; next = at + headLength + len })
-answered at m cutoff len (Out k) = Refused k (at + headLength + len)
+    Record (record { m = m; cutoff = cutoff; start = at + head_length; len = len; next = at + head_length + len })
+answered at m cutoff len (Out k) = Refused k (at + head_length + len)
 
 pub record Spelled (bytes room : List ℕ) (n : ℕ) (after : List ℕ) : Type 0 where
   pub count : n ≡ length (words bytes)

@@ -1,7 +1,7 @@
 // The file's slice and a place in it in one struct, with thin functions over it. Each takes the struct apart and calls
 // what reads a slice. The program `roots` walks with it.
 ghost use Rattle.std.specs.Prelude.{◌≡◌};
-ghost use Rattle.job_records.specs.Reading.{toldRead, readAt, bytes_of};
+ghost use Rattle.job_records.specs.Reading.{told_read, read_at, bytes_of};
 
 use crate::{Read, body_of, read_record};
 
@@ -21,7 +21,7 @@ pub fn new<'a>(file: &'a [u8], at: usize) -> Reader<'a>
 
 // What stands at the reader's place.
 pub fn next<'a>(r: Reader<'a>) -> Read
-    ensures { toldRead result ≡ readAt r.entry.file.now r.entry.at }
+    ensures { told_read result ≡ read_at r.entry.file.now r.entry.at }
 {
     read_record(r.file, r.at)
 }

@@ -3,10 +3,10 @@
 ghost use Rattle.std.specs.Prelude.{◌≡◌, ◌+◌, ◌*◌, ◌≤◌, ◌<◌, ◌^◌, length, drop};
 ghost use Rattle.refusals.specs.Admitting.{Admits};
 ghost use Rattle.input.specs.Values.{Measured};
-ghost use Rattle.job_records.specs.Layout.{headLength, degreeByte, word, words, part};
-ghost use Rattle.job_records.specs.Cutoffs.{statedCutoff, statedBy, asked};
+ghost use Rattle.job_records.specs.Layout.{head_length, degree_byte, word, words, part};
+ghost use Rattle.job_records.specs.Cutoffs.{stated_cutoff, stated_by, asked};
 ghost use Rattle.job_records.specs.Files.{Halts};
-ghost use Rattle.job_records.specs.Reading.{toldRead, answered, bytes_of, readHere, ReadsAt, callTests, Spelled};
+ghost use Rattle.job_records.specs.Reading.{told_read, answered, bytes_of, read_here, ReadsAt, call_tests, Spelled};
 
 use input::{COEFFICIENTS, admit_call};
 use refusals::{Admission, Refusal};
@@ -71,7 +71,7 @@ fn word(low: u8, high: u8) -> u16
 
 // House default or stated number.
 fn cutoff_of(c: u8) -> Cutoff
-    ensures { statedBy result ≡ statedCutoff c }
+    ensures { stated_by result ≡ stated_cutoff c }
 {
     if c == 0 {
         Cutoff::House
@@ -82,7 +82,7 @@ fn cutoff_of(c: u8) -> Cutoff
 
 // The number of the cutoff that a record asks for: 0 for the house default.
 pub fn asked(cutoff: Cutoff) -> u16
-    ensures { result ≡ asked (statedBy cutoff) }
+    ensures { result ≡ asked (stated_by cutoff) }
 {
     match cutoff {
         Cutoff::House => 0,
@@ -112,14 +112,14 @@ fn largest(bytes: &[u8]) -> u16
 // The whole call's tests 1 to 6 on the fields of a complete record.
 fn admit_record(m: u8, c: u8, n: u8, bytes: &[u8]) -> Admission
     requires { length bytes.now ≡ 2 * n }
-    ensures { Admits (callTests m c (words bytes.now)) result }
+    ensures { Admits (call_tests m c (words bytes.now)) result }
 {
     admit_call(m as u16, n as usize, largest(bytes), c as u16)
 }
 
 // The answer for a complete record at a place: where it is refused, the place to go on.
 fn answer(at: usize, m: u8, cutoff: Cutoff, len: usize, found: Admission) -> Read
-    requires { at + headLength + len < 2 ^ 64 }
+    requires { at + head_length + len < 2 ^ 64 }
     ensures { result ≡ answered at m cutoff len found }
 {
     let start = at + HEAD;
@@ -139,7 +139,7 @@ fn answer(at: usize, m: u8, cutoff: Cutoff, len: usize, found: Admission) -> Rea
 // What the bytes from a place on begin with; there is at least one.
 fn read_here(at: usize, rest: &[u8]) -> Read
     requires { (0 < length rest.now) × (at + length rest.now < 2 ^ 64) }
-    ensures { toldRead result ≡ readHere at rest.now }
+    ensures { told_read result ≡ read_here at rest.now }
 {
     if rest.len() < 2 {
         return Read::Stopped(Refusal::Short); // one byte remains
@@ -206,8 +206,8 @@ pub fn read_through(file: &[u8]) -> Ending
 
 // The m of the record at a place, whose head is all there: also of one that is refused.
 pub fn degree_byte(file: &[u8], at: usize) -> u8
-    requires { at + headLength ≤ length file.now }
-    ensures { result ≡ degreeByte (drop at file.now) }
+    requires { at + head_length ≤ length file.now }
+    ensures { result ≡ degree_byte (drop at file.now) }
 {
     file[at + 2]
 }

@@ -20,10 +20,10 @@ use Rattle.refusals.specs.Order.Passed.{none}
 use Rattle.refusals.proofs.Order.{cases, refused, accepted, written, failed, passes}
 use Rattle.slices.specs.Lists.{copied}
 use Rattle.slices.proofs.Lists.{copied-front, copied_behind}
-use Rattle.job_records.specs.Files.{joinedFile}
+use Rattle.job_records.specs.Files.{joined_file}
 use Rattle.job_records.proofs.Forward.{never}
-use Rattle.job_salvage.specs.Pieces.{keptRecords, keptFile, stretches, total, AllAcceptable}
-use Rattle.job_salvage.specs.Calls.{salvageTests, toldSalvaged, Salvages}
+use Rattle.job_salvage.specs.Pieces.{kept_records, kept_file, stretches, total, AllAcceptable}
+use Rattle.job_salvage.specs.Calls.{salvage_tests, told_salvaged, Salvages}
 use Rattle.job_salvage.specs.declared.Salvaged.{Salvaged}
 use Rattle.job_salvage.specs.declared.Salvaged.TheVariants.{Kept}
 use Rattle.job_salvage.proofs.Whole.{lengths-add, few-records, all-kept, kept_back}
@@ -32,35 +32,35 @@ use Rattle.job_salvage.proofs.Coincide.{salvaged-told}
 -- an answer that keeps
 pub record Says (file room : List ℕ) (records bytes : ℕ) (after : List ℕ) : Type 0 where
   pub fits : length file ≤ length room
-  pub count : records ≡ length (keptRecords file)
-  pub long : bytes ≡ length (keptFile file)
-  pub holds : after ≡ copied (keptFile file) room
+  pub count : records ≡ length (kept_records file)
+  pub long : bytes ≡ length (kept_file file)
+  pub holds : after ≡ copied (kept_file file) room
 
 module _ (file room : List ℕ) where
   -- the bytes, then the records
   abbrev values : List ℕ
-  values = length (keptFile file) ∷ length (keptRecords file) ∷ []
+  values = length (kept_file file) ∷ length (kept_records file) ∷ []
 
   pub kept-says : {r : Salvaged} {records bytes : ℕ} (after : List ℕ) → Salvages file room r after → r ≡ Kept records bytes
       → Says file room records bytes after
-  kept-says {r} {records} {bytes} after h e = go (cases (salvageTests file room))
+  kept-says {r} {records} {bytes} after h e = go (cases (salvage_tests file room))
     where
-      told : bytes ∷ records ∷ [] ≡ (outcome (salvageTests file room) values).1
-      told = ap (λ x. (toldSalvaged x).1) (sym e) ∙ ap (λ o. o.1) h.0
+      told : bytes ∷ records ∷ [] ≡ (outcome (salvage_tests file room) values).1
+      told = ap (λ x. (told_salvaged x).1) (sym e) ∙ ap (λ o. o.1) h.0
 
-      go : ((k : ℕ) × Given k (salvageTests file room)) ⊎ Passed (salvageTests file room) → Says file room records bytes after
+      go : ((k : ℕ) × Given k (salvage_tests file room)) ⊎ Passed (salvage_tests file room) → Says file room records bytes after
       go (inl g) = let f : bytes ∷ records ∷ [] ≡ [] = told ∙ ap (λ o. o.1) (refused _ g.1) in never (cc)
       go (inr p) =
           let f : bytes ∷ records ∷ [] ≡ values = told ∙ ap (λ o. o.1) (accepted _ p) in
-          let n : records ≡ length (keptRecords file) = cc in
-          let b : bytes ≡ length (keptFile file) = cc in
+          let n : records ≡ length (kept_records file) = cc in
+          let b : bytes ≡ length (kept_file file) = cc in
           record { fits = ltb-false (length room) (length file) (failed p); count = n; long = b; holds = h.1 ∙ written _ _ p }
 
   says-kept : {r : Salvaged} (after : List ℕ) → length file ≤ length room → Salvages file room r after
-      → (r ≡ Kept (length (keptRecords file)) (length (keptFile file))) × (after ≡ copied (keptFile file) room)
+      → (r ≡ Kept (length (kept_records file)) (length (kept_file file))) × (after ≡ copied (kept_file file) room)
   says-kept {r} after l h =
       let p = passes (le-ltb (length room) (length file) l) none in
-      (salvaged-told r (Kept (length (keptRecords file)) (length (keptFile file))) (h.0 ∙ accepted _ p), h.1 ∙ written _ _ p)
+      (salvaged-told r (Kept (length (kept_records file)) (length (kept_file file))) (h.0 ∙ accepted _ p), h.1 ∙ written _ _ p)
 
 module _ {file room after : List ℕ} {records bytes : ℕ} (s : Says file room records bytes after) where
   pub few-kept : records ≤ length file
@@ -69,25 +69,25 @@ module _ {file room after : List ℕ} {records bytes : ℕ} (s : Says file room 
   pub answer-adds : bytes + total (stretches file) ≡ length file
   answer-adds = omega (arith, s.long, lengths-add file)
 
-  pub copied-kept : take bytes after ≡ keptFile file
-  copied-kept = ap (take bytes) s.holds ∙ copied-front (keptFile file) room (sym s.long)
+  pub copied-kept : take bytes after ≡ kept_file file
+  copied-kept = ap (take bytes) s.holds ∙ copied-front (kept_file file) room (sym s.long)
 
   pub nothing-behind : drop bytes after ≡ drop bytes room
-  nothing-behind = ap (drop bytes) s.holds ∙ copied_behind bytes (keptFile file) room (omega (arith, s.long))
+  nothing-behind = ap (drop bytes) s.holds ∙ copied_behind bytes (kept_file file) room (omega (arith, s.long))
 
 -- of acceptable records all is kept
-pub answer_back : {rs : List (List ℕ)} (room after : List ℕ) {r : Salvaged} → AllAcceptable rs → length (joinedFile rs) ≤ length room
-    → Salvages (joinedFile rs) room r after → (r ≡ Kept (length rs) (length (joinedFile rs))) × (after ≡ copied (joinedFile rs) room)
+pub answer_back : {rs : List (List ℕ)} (room after : List ℕ) {r : Salvaged} → AllAcceptable rs → length (joined_file rs) ≤ length room
+    → Salvages (joined_file rs) room r after → (r ≡ Kept (length rs) (length (joined_file rs))) × (after ≡ copied (joined_file rs) room)
 answer_back {rs} room after {r} a l h =
     let k = kept_back a in
-    let e = says-kept (joinedFile rs) room after l h in
-    (e.0 ∙ ap (λ ks. Kept (length ks) (length (joinedFile ks))) k, e.1 ∙ ap (λ ks. copied (joinedFile ks) room) k)
+    let e = says-kept (joined_file rs) room after l h in
+    (e.0 ∙ ap (λ ks. Kept (length ks) (length (joined_file ks))) k, e.1 ∙ ap (λ ks. copied (joined_file ks) room) k)
 
 -- what was kept is a file of acceptable records
 pub answer-again : {file room after : List ℕ} {records bytes : ℕ} (room' after' : List ℕ) {r : Salvaged} → Says file room records bytes after
     → bytes ≤ length room' → Salvages (take bytes after) room' r after' → (r ≡ Kept records bytes) × (take bytes after' ≡ take bytes after)
 answer-again {file} {room} {after} {records} {bytes} room' after' {r} s l h =
-    let f : take bytes after ≡ keptFile file = copied-kept s in
-    let b : length (keptFile file) ≡ bytes = sym s.long in
+    let f : take bytes after ≡ kept_file file = copied-kept s in
+    let b : length (kept_file file) ≡ bytes = sym s.long in
     let e = answer_back room' after' (all-kept file) (omega arith) (subst (λ x. Salvages x room' r after') f h) in
-    (e.0 ∙ ap₂ Kept (sym s.count) b, ap (take bytes) e.1 ∙ copied-front (keptFile file) room' b ∙ sym f)
+    (e.0 ∙ ap₂ Kept (sym s.count) b, ap (take bytes) e.1 ∙ copied-front (kept_file file) room' b ∙ sym f)

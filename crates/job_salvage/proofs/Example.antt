@@ -9,14 +9,14 @@ use Rattle.refusals.specs.Order.{decide}
 use Rattle.field.specs.Rows.{known_in}
 use Rattle.slices.specs.Bounded.{all_below}
 use Rattle.job_records.specs.Layout.{words}
-use Rattle.job_records.specs.Reading.{judged, readHere}
+use Rattle.job_records.specs.Reading.{judged, read_here}
 use Rattle.job_records.proofs.Example.{sample}
-use Rattle.job_salvage.specs.Pieces.{piecesBehind, recordsOf, stretch, stretchesFrom, keptRecords, stretches}
+use Rattle.job_salvage.specs.Pieces.{pieces_behind, records_of, stretch, stretches_from, kept_records, stretches}
 
-pub sample-kept : keptRecords sample ≡ take 13 sample ∷ drop 20 sample ∷ []
-unfolding readHere judged decide known_in all_below words piecesBehind recordsOf
+pub sample-kept : kept_records sample ≡ take 13 sample ∷ drop 20 sample ∷ []
+unfolding read_here judged decide known_in all_below words pieces_behind records_of
 sample-kept = refl
 
 pub sample-dropped : stretches sample ≡ (13, 7) ∷ []
-unfolding readHere judged decide known_in all_below words piecesBehind stretch stretchesFrom
+unfolding read_here judged decide known_in all_below words pieces_behind stretch stretches_from
 sample-dropped = refl

@@ -15,47 +15,47 @@ use native.Mathlib.Nat.{add-zero}
 use native.Mathlib.Omega.{arith}
 use lib.ListN.{length, get_or, take, drop, length-drop, take-append-drop, drop_of_length-le}
 use lib.Seq.{length-take-le, drop-cons, drop-drop, drop-nil}
-use Rattle.job_records.specs.Layout.{recordLength, part}
-use Rattle.job_records.specs.Reading.{readHere}
-use Rattle.job_salvage.specs.Pieces.{keeps, frontRecord, Piece, piecesBehind, pieces, bytes_of}
+use Rattle.job_records.specs.Layout.{record_length, part}
+use Rattle.job_records.specs.Reading.{read_here}
+use Rattle.job_salvage.specs.Pieces.{keeps, front_record, Piece, pieces_behind, pieces, bytes_of}
 use Rattle.job_salvage.specs.Calls.{NoneKept, NextIs}
 use Rattle.job_salvage.specs.Calls.NextIs.{found, nothing}
 use Rattle.job_salvage.proofs.Keeping.{keeps-whole}
 
 -- ---- at the front of bytes
 
-pieces-behind : (k : ℕ) (bs : List ℕ) → piecesBehind k bs ≡ pieces (drop k bs)
-unfolding piecesBehind
+pieces-behind : (k : ℕ) (bs : List ℕ) → pieces_behind k bs ≡ pieces (drop k bs)
+unfolding pieces_behind
 pieces-behind zero bs = refl
 pieces-behind (suc k) [] = refl
 pieces-behind (suc k) (b ∷ bs) = pieces-behind k bs
 
-pub pieces_kept : (r : List ℕ) → keeps r ≡ true → pieces r ≡ Piece.kept (frontRecord r) ∷ pieces (drop (recordLength r) r)
-unfolding piecesBehind readHere
+pub pieces_kept : (r : List ℕ) → keeps r ≡ true → pieces r ≡ Piece.kept (front_record r) ∷ pieces (drop (record_length r) r)
+unfolding pieces_behind read_here
 pieces_kept [] e = absurd (true≢false (sym e))
 pieces_kept (b ∷ bs) e =
-    let n : recordLength (b ∷ bs) ≡ suc (recordLength (b ∷ bs) - 1) = omega arith in
-    rw e (ap (λ ps. Piece.kept (frontRecord (b ∷ bs)) ∷ ps) (pieces-behind (recordLength (b ∷ bs) - 1) bs ∙ ap (λ k. pieces (drop k (b ∷ bs))) (sym n)))
+    let n : record_length (b ∷ bs) ≡ suc (record_length (b ∷ bs) - 1) = omega arith in
+    rw e (ap (λ ps. Piece.kept (front_record (b ∷ bs)) ∷ ps) (pieces-behind (record_length (b ∷ bs) - 1) bs ∙ ap (λ k. pieces (drop k (b ∷ bs))) (sym n)))
 
 pub pieces-dropped : (b : ℕ) (bs : List ℕ) → keeps (b ∷ bs) ≡ false → pieces (b ∷ bs) ≡ Piece.dropped b ∷ pieces bs
-unfolding piecesBehind
+unfolding pieces_behind
 pieces-dropped b bs e = rw e
 
 -- ---- at a place of a file
 
 pub pieces-over : (file : List ℕ) {at : ℕ} → length file ≤ at → pieces (drop at file) ≡ []
-unfolding piecesBehind
+unfolding pieces_behind
 pieces-over file {at} h = ap pieces (drop_of_length-le file h)
 
 -- bytes, each dropped
-unfoldable pub allDropped : List ℕ → List Piece
-allDropped [] = []
-allDropped (b ∷ bs) = Piece.dropped b ∷ allDropped bs
+unfoldable pub all_dropped : List ℕ → List Piece
+all_dropped [] = []
+all_dropped (b ∷ bs) = Piece.dropped b ∷ all_dropped bs
 
 -- d bytes further
 gap-on : (file : List ℕ) (d at : ℕ) → at + d ≤ length file → NoneKept file at (at + d)
-    → pieces (drop at file) ≡ allDropped (part file at d) ++ pieces (drop (at + d) file)
-unfolding allDropped
+    → pieces (drop at file) ≡ all_dropped (part file at d) ++ pieces (drop (at + d) file)
+unfolding all_dropped
 gap-on file zero at h none = ap (λ i. pieces (drop i file)) (sym (add-zero at))
 gap-on file (suc d) at h none =
     let c : drop at file ≡ get_or file at 0 ∷ drop (suc at) file = drop-cons file at 0 (omega arith) in
@@ -63,18 +63,18 @@ gap-on file (suc d) at h none =
     let e : suc at + d ≡ at + suc d = omega arith in
     ap pieces c ∙ pieces-dropped (get_or file at 0) (drop (suc at) file) no
     ∙ ap (λ ps. Piece.dropped (get_or file at 0) ∷ ps) (gap-on file d (suc at) (omega arith) (λ i a b. none i (omega arith) (omega arith)))
-    ∙ ap₂ (λ l i. allDropped (take (suc d) l) ++ pieces (drop i file)) (sym c) e
+    ∙ ap₂ (λ l i. all_dropped (take (suc d) l) ++ pieces (drop i file)) (sym c) e
 
 pieces-gap : (file : List ℕ) {at start : ℕ} → at ≤ start → start ≤ length file → NoneKept file at start
-    → pieces (drop at file) ≡ allDropped (part file at (start - at)) ++ pieces (drop start file)
+    → pieces (drop at file) ≡ all_dropped (part file at (start - at)) ++ pieces (drop start file)
 pieces-gap file {at} {start} a b none =
     let e : at + (start - at) ≡ start = omega arith in
-    gap-on file (start - at) at (omega arith) (λ i l h. none i l (omega arith)) ∙ ap (λ i. allDropped (part file at (start - at)) ++ pieces (drop i file)) e
+    gap-on file (start - at) at (omega arith) (λ i l h. none i l (omega arith)) ∙ ap (λ i. all_dropped (part file at (start - at)) ++ pieces (drop i file)) e
 
 -- a record of these bytes, where there are any
-unfoldable pub recordIn : List ℕ → List Piece
-recordIn [] = []
-recordIn (b ∷ bs) = Piece.kept (b ∷ bs) ∷ []
+unfoldable pub record_in : List ℕ → List Piece
+record_in [] = []
+record_in (b ∷ bs) = Piece.kept (b ∷ bs) ∷ []
 
 -- from `at` on: dropped up to the start, a record up to the end, and what is behind; where there is no record, the end
 -- is that of the file
@@ -84,22 +84,22 @@ pub record Gap (file : List ℕ) (at start end : ℕ) : Type 0 where
   pub within : end ≤ length file
   pub onward : at < end
   pub last : start ≡ end → end ≡ length file
-  pub are : pieces (drop at file) ≡ allDropped (part file at (start - at)) ++ (recordIn (part file start (end - start)) ++ pieces (drop end file))
+  pub are : pieces (drop at file) ≡ all_dropped (part file at (start - at)) ++ (record_in (part file start (end - start)) ++ pieces (drop end file))
 
 -- a record is no empty list
-record-in : (r : List ℕ) → 0 < length r → recordIn r ≡ Piece.kept r ∷ []
-unfolding recordIn
+record-in : (r : List ℕ) → 0 < length r → record_in r ≡ Piece.kept r ∷ []
+unfolding record_in
 record-in [] h = absurd (omega arith)
 record-in (b ∷ bs) h = refl
 
 pub next-gap : {file : List ℕ} {at start end : ℕ} → at < length file → NextIs file at start end → Gap file at start end
-unfolding recordIn
+unfolding record_in
 next-gap {file} {at} l (found {start = start} a b none here) =
     let r : List ℕ = drop start file in
-    let w : recordLength r ≤ length r = keeps-whole r here in
-    let n : start + recordLength r - start ≡ recordLength r = omega arith in
-    let is : recordIn (part file start (start + recordLength r - start)) ≡ Piece.kept (frontRecord r) ∷ [] =
-    ap (λ k. recordIn (part file start k)) n ∙ record-in (frontRecord r) (omega (arith, length-take-le (recordLength r) r w)) in
+    let w : record_length r ≤ length r = keeps-whole r here in
+    let n : start + record_length r - start ≡ record_length r = omega arith in
+    let is : record_in (part file start (start + record_length r - start)) ≡ Piece.kept (front_record r) ∷ [] =
+    ap (λ k. record_in (part file start k)) n ∙ record-in (front_record r) (omega (arith, length-take-le (record_length r) r w)) in
     record {
       ahead = a;
       behind = omega arith;
@@ -107,8 +107,8 @@ next-gap {file} {at} l (found {start = start} a b none here) =
       onward = omega arith;
       last = λ e. absurd (let b : ⊥ = omega arith in b);
       are = pieces-gap file a (omega arith) none
-          ∙ ap (λ ps. allDropped (part file at (start - at)) ++ ps) (pieces_kept r here
-          ∙ ap₂ (λ ps bs. ps ++ pieces bs) (sym is) (drop-drop (recordLength r) start file));
+          ∙ ap (λ ps. all_dropped (part file at (start - at)) ++ ps) (pieces_kept r here
+          ∙ ap₂ (λ ps bs. ps ++ pieces bs) (sym is) (drop-drop (record_length r) start file));
     }
 next-gap {file} {at} l (nothing none) =
     let n : length file - length file ≡ 0 = omega arith in
@@ -119,22 +119,22 @@ next-gap {file} {at} l (nothing none) =
       onward = l;
       last = λ e. refl;
       are = pieces-gap file (omega arith) (omega arith) none
-          ∙ ap (λ k. allDropped (part file at (length file - at)) ++ (recordIn (part file (length file) k) ++ pieces (drop (length file) file))) (sym n);
+          ∙ ap (λ k. all_dropped (part file at (length file - at)) ++ (record_in (part file (length file) k) ++ pieces (drop (length file) file))) (sym n);
     }
 
 -- ---- all of them
 
-pub pieces_whole : (k : ℕ) (bs : List ℕ) → bytes_of (piecesBehind k bs) ≡ drop k bs
-unfolding piecesBehind bytes_of
+pub pieces_whole : (k : ℕ) (bs : List ℕ) → bytes_of (pieces_behind k bs) ≡ drop k bs
+unfolding pieces_behind bytes_of
 pieces_whole k [] = sym (drop-nil k)
 pieces_whole (suc k) (b ∷ bs) = pieces_whole k bs
 pieces_whole zero (b ∷ bs) = go (keeps (b ∷ bs)) refl (λ k. pieces_whole k bs)
   where
-    n : recordLength (b ∷ bs) ≡ suc (recordLength (b ∷ bs) - 1)
+    n : record_length (b ∷ bs) ≡ suc (record_length (b ∷ bs) - 1)
     n = omega arith
 
-    go : (t : Bool) → keeps (b ∷ bs) ≡ t → ((k : ℕ) → bytes_of (piecesBehind k bs) ≡ drop k bs) → bytes_of (piecesBehind 0 (b ∷ bs)) ≡ b ∷ bs
+    go : (t : Bool) → keeps (b ∷ bs) ≡ t → ((k : ℕ) → bytes_of (pieces_behind k bs) ≡ drop k bs) → bytes_of (pieces_behind 0 (b ∷ bs)) ≡ b ∷ bs
     go true e more =
-        rw e (ap (λ l. frontRecord (b ∷ bs) ++ l) (more (recordLength (b ∷ bs) - 1) ∙ ap (λ k. drop k (b ∷ bs)) (sym n))
-        ∙ take-append-drop (recordLength (b ∷ bs)) (b ∷ bs))
+        rw e (ap (λ l. front_record (b ∷ bs) ++ l) (more (record_length (b ∷ bs) - 1) ∙ ap (λ k. drop k (b ∷ bs)) (sym n))
+        ∙ take-append-drop (record_length (b ∷ bs)) (b ∷ bs))
     go false e more = rw e (ap (λ l. b ∷ l) (more 0))

@@ -2,23 +2,23 @@
 -- dropped.
 --   accepts        does an outcome of the reader accept a record?
 --   keeps          is a record kept where these bytes begin: would the reader accept it?
---   frontRecord    the record at the front of bytes
+--   front_record    the record at the front of bytes
 --   Piece          a record that is kept, or a byte that is dropped
---   piecesBehind   the pieces of bytes whose first k belong to the record before
+--   pieces_behind   the pieces of bytes whose first k belong to the record before
 --   pieces         THE PIECES OF A FILE, in order
---   recordsOf      the records among pieces;  droppedOf  how many bytes are dropped among them
+--   records_of      the records among pieces;  dropped_of  how many bytes are dropped among them
 --   bytes_of        the bytes of pieces, one after the other
 --   stretch        a dropped stretch, start and length, before others; none where it is empty
---   stretchesFrom  the dropped stretches of pieces, joined where adjacent, where n bytes from a start on are dropped
+--   stretches_from  the dropped stretches of pieces, joined where adjacent, where n bytes from a start on are dropped
 --                  already
---   keptRecords, keptFile, stretches   of a file: the records kept, the file that they make, the stretches dropped
+--   kept_records, kept_file, stretches   of a file: the records kept, the file that they make, the stretches dropped
 --   total          how many bytes stretches have
 --   Acceptable     bytes are one record that is kept;  AllAcceptable  each of these is
 -- Assumes nothing.
 use Rattle.std.specs.Prelude.{◌≡◌, Bool, true, false, cond, List, [], ◌∷◌, ◌++◌, ℕ, zero, suc, ◌+◌, ◌-◌, eqb, length, take}
-use Rattle.job_records.specs.Layout.{recordLength}
-use Rattle.job_records.specs.Reading.{Outcome, readHere}
-use Rattle.job_records.specs.Files.{Complete, joinedFile}
+use Rattle.job_records.specs.Layout.{record_length}
+use Rattle.job_records.specs.Reading.{Outcome, read_here}
+use Rattle.job_records.specs.Files.{Complete, joined_file}
 
 -- under the number 0
 abbrev pub accepts : Outcome → Bool
@@ -27,35 +27,35 @@ accepts (Outcome.gives k values) = eqb k 0
 
 -- what stands before them does not matter
 abbrev pub keeps : List ℕ → Bool
-keeps bytes = accepts (readHere 0 bytes)
+keeps bytes = accepts (read_here 0 bytes)
 
-abbrev pub frontRecord : List ℕ → List ℕ
-frontRecord bytes = take (recordLength bytes) bytes
+abbrev pub front_record : List ℕ → List ℕ
+front_record bytes = take (record_length bytes) bytes
 
 pub data Piece : Type 0 where
   kept : (bytes : List ℕ) → Piece
   dropped : (byte : ℕ) → Piece
 
 -- behind a kept record it goes on, else one byte further
-unfoldable pub piecesBehind : ℕ → List ℕ → List Piece
-piecesBehind k [] = []
-piecesBehind (suc k) (b ∷ bs) = piecesBehind k bs
-piecesBehind zero (b ∷ bs) =
-    cond (keeps (b ∷ bs)) (Piece.kept (frontRecord (b ∷ bs)) ∷ piecesBehind (recordLength (b ∷ bs) - 1) bs)
-    (Piece.dropped b ∷ piecesBehind 0 bs)
+unfoldable pub pieces_behind : ℕ → List ℕ → List Piece
+pieces_behind k [] = []
+pieces_behind (suc k) (b ∷ bs) = pieces_behind k bs
+pieces_behind zero (b ∷ bs) =
+    cond (keeps (b ∷ bs)) (Piece.kept (front_record (b ∷ bs)) ∷ pieces_behind (record_length (b ∷ bs) - 1) bs)
+    (Piece.dropped b ∷ pieces_behind 0 bs)
 
 abbrev pub pieces : List ℕ → List Piece
-pieces file = piecesBehind 0 file
+pieces file = pieces_behind 0 file
 
-unfoldable pub recordsOf : List Piece → List (List ℕ)
-recordsOf [] = []
-recordsOf (Piece.kept r ∷ ps) = r ∷ recordsOf ps
-recordsOf (Piece.dropped b ∷ ps) = recordsOf ps
+unfoldable pub records_of : List Piece → List (List ℕ)
+records_of [] = []
+records_of (Piece.kept r ∷ ps) = r ∷ records_of ps
+records_of (Piece.dropped b ∷ ps) = records_of ps
 
-unfoldable pub droppedOf : List Piece → ℕ
-droppedOf [] = 0
-droppedOf (Piece.kept r ∷ ps) = droppedOf ps
-droppedOf (Piece.dropped b ∷ ps) = suc (droppedOf ps)
+unfoldable pub dropped_of : List Piece → ℕ
+dropped_of [] = 0
+dropped_of (Piece.kept r ∷ ps) = dropped_of ps
+dropped_of (Piece.dropped b ∷ ps) = suc (dropped_of ps)
 
 unfoldable pub bytes_of : List Piece → List ℕ
 bytes_of [] = []
@@ -66,19 +66,19 @@ unfoldable pub stretch : ℕ → ℕ → List (ℕ × ℕ) → List (ℕ × ℕ)
 stretch start zero more = more
 stretch start (suc n) more = (start, suc n) ∷ more
 
-unfoldable pub stretchesFrom : ℕ → ℕ → List Piece → List (ℕ × ℕ)
-stretchesFrom start n [] = stretch start n []
-stretchesFrom start n (Piece.dropped b ∷ ps) = stretchesFrom start (suc n) ps
-stretchesFrom start n (Piece.kept r ∷ ps) = stretch start n (stretchesFrom (start + n + length r) 0 ps)
+unfoldable pub stretches_from : ℕ → ℕ → List Piece → List (ℕ × ℕ)
+stretches_from start n [] = stretch start n []
+stretches_from start n (Piece.dropped b ∷ ps) = stretches_from start (suc n) ps
+stretches_from start n (Piece.kept r ∷ ps) = stretch start n (stretches_from (start + n + length r) 0 ps)
 
-abbrev pub keptRecords : List ℕ → List (List ℕ)
-keptRecords file = recordsOf (pieces file)
+abbrev pub kept_records : List ℕ → List (List ℕ)
+kept_records file = records_of (pieces file)
 
-abbrev pub keptFile : List ℕ → List ℕ
-keptFile file = joinedFile (keptRecords file)
+abbrev pub kept_file : List ℕ → List ℕ
+kept_file file = joined_file (kept_records file)
 
 abbrev pub stretches : List ℕ → List (ℕ × ℕ)
-stretches file = stretchesFrom 0 0 (pieces file)
+stretches file = stretches_from 0 0 (pieces file)
 
 unfoldable pub total : List (ℕ × ℕ) → ℕ
 total [] = 0

@@ -5,7 +5,7 @@
 --   sheets-coincide THE SHEET IS DETERMINED BY THE FILE
 -- Assumes nothing.
 use Rattle.std.proofs.Common.{◌≡◌, ℕ, ◌^◌, ◌<◌, List, [], ◌∷◌, map, sym, refl, ap, ◌∙◌, ap₂, arith}
-use Rattle.job_sheet.specs.Calls.{total_of, toldHighest, toldField, toldSheet, Word, Words, Sheets}
+use Rattle.job_sheet.specs.Calls.{total_of, told_highest, told_field, told_sheet, Word, Words, Sheets}
 use Rattle.job_sheet.specs.declared.Total.{Total}
 use Rattle.job_sheet.specs.declared.Highest.{Highest}
 use Rattle.job_sheet.specs.declared.FieldLine.{FieldLine}
@@ -17,10 +17,10 @@ total-told t u h k e =
     let low : t.low ≡ u.low = omega arith in
     λ i. record { high = high i; low = low i }
 
-highest-told : (g h : Highest) → toldHighest g ≡ toldHighest h → g ≡ h
+highest-told : (g h : Highest) → told_highest g ≡ told_highest h → g ≡ h
 highest-told g h e = λ i. record { record_number = (e i).place; steps = (e i).steps; limit = (e i).limit }
 
-line-told : (l k : FieldLine) → Word l → Word k → toldField l ≡ toldField k → l ≡ k
+line-told : (l k : FieldLine) → Word l → Word k → told_field l ≡ told_field k → l ≡ k
 line-told l k h j e =
     let total : l.steps ≡ k.steps = total-told l.steps k.steps h j (ap (λ f. f.steps) e) in
     let top : l.highest ≡ k.highest = highest-told l.highest k.highest (ap (λ f. f.highest) e) in
@@ -32,16 +32,16 @@ line-told l k h j e =
       highest = top i;
     }
 
-lines-told : (ls ks : List FieldLine) → Words ls → Words ks → map toldField ls ≡ map toldField ks → ls ≡ ks
+lines-told : (ls ks : List FieldLine) → Words ls → Words ks → map told_field ls ≡ map told_field ks → ls ≡ ks
 lines-told [] [] h j e = refl
 lines-told [] (k ∷ ks) h j e = let z : ◌≡◌ {A = ℕ} 0 1 = cc in absurd (let f : ⊥ = omega arith in f)
 lines-told (l ∷ ls) [] h j e = let z : ◌≡◌ {A = ℕ} 0 1 = cc in absurd (let f : ⊥ = omega arith in f)
 lines-told (l ∷ ls) (k ∷ ks) h j e =
-    let first : toldField l ≡ toldField k = cc in
-    let rest : map toldField ls ≡ map toldField ks = cc in
+    let first : told_field l ≡ told_field k = cc in
+    let rest : map told_field ls ≡ map told_field ks = cc in
     ap₂ (λ x xs. x ∷ xs) (line-told l k h.0 j.0 first) (lines-told ls ks h.1 j.1 rest)
 
-sheet-told : (s t : Sheet) → Words s.lines → Words t.lines → toldSheet s ≡ toldSheet t → s ≡ t
+sheet-told : (s t : Sheet) → Words s.lines → Words t.lines → told_sheet s ≡ told_sheet t → s ≡ t
 sheet-told s t h j e =
     let ls : s.lines ≡ t.lines = lines-told s.lines t.lines h j (ap (λ f. f.fields) e) in
     λ i. record { lines = ls i; unknown = (e i).unknown; mark = (e i).mark; short = (e i).short }

@@ -4,7 +4,7 @@
 --   Compared, compared   which of two the better is: the second where the first is none or stands lower, else the first
 -- Assumes nothing.
 use Rattle.std.proofs.Common.{◌≡◌, ℕ, zero, suc, ◌*◌, ◌<◌, ◌≤◌, Bool, true, false, refl, arith, ltb-false, ltb-true}
-use Rattle.job_sheet.specs.Figures.{Peak, standsLower, better}
+use Rattle.job_sheet.specs.Figures.{Peak, stands_lower, better}
 use Rattle.job_sheet.proofs.Better.{least-trans, better-left, better-first, better-second}
 
 abbrev pub AtMost : Peak → Peak → Type 0
@@ -26,10 +26,10 @@ pub data Compared (p q : Peak) : Type 0 where
 pub compared : (p q : Peak) → Compared p q
 compared p q = by-limit p.limit refl
   where
-    by_order : 0 < p.limit → (b : Bool) → standsLower p q ≡ b → Compared p q
+    by_order : 0 < p.limit → (b : Bool) → stands_lower p q ≡ b → Compared p q
     by_order l true e = second l (ltb-true (p.steps * q.limit) (q.steps * p.limit) e) (better-second p q e)
     by_order l false e = first l (ltb-false (p.steps * q.limit) (q.steps * p.limit) e) (better-first p q l e)
 
     by-limit : (l : ℕ) → p.limit ≡ l → Compared p q
     by-limit zero e = none e (better-left p q e)
-    by-limit (suc l) e = by_order (omega arith) (standsLower p q) refl
+    by-limit (suc l) e = by_order (omega arith) (stands_lower p q) refl

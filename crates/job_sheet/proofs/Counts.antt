@@ -11,7 +11,7 @@
 -- Assumes nothing.
 use Rattle.std.proofs.Common.{◌≡◌, ℕ, zero, suc, ◌+◌, ◌≤◌, Bool, true, false, cond, not, ◌&&◌, eqb, List, [], ◌∷◌, ◌++◌, length, sym, refl, ap, ◌∙◌, true≢false, add-zero, arith, eq-eqb, ne_eqb, eqb-true}
 use Rattle.job_sheet.specs.Entries.{Entry}
-use Rattle.job_sheet.specs.Figures.{count_of, sum_of, acceptedIn, competes, noPeak, peakOf, better, highestFrom}
+use Rattle.job_sheet.specs.Figures.{count_of, sum_of, accepted_in, competes, no_peak, peak_of, better, highest_from}
 use Rattle.job_sheet.specs.Adding.{risen}
 use Rattle.job_sheet.proofs.Better.{Fair, better-left, better-right, highest-none, highest-append}
 
@@ -86,7 +86,7 @@ module _ (f : Entry → ℕ) (t : Entry → Bool) where
 
 -- ---- accepted entries
 
-pub accepted-zero : (m : ℕ) (e : Entry) → acceptedIn m e ≡ true → e.number ≡ 0
+pub accepted-zero : (m : ℕ) (e : Entry) → accepted_in m e ≡ true → e.number ≡ 0
 accepted-zero m e y = go (eqb e.field m) (eqb e.number 0) refl y
   where
     go : (a b : Bool) → eqb e.number 0 ≡ b → (a && b) ≡ true → e.number ≡ 0
@@ -95,35 +95,35 @@ accepted-zero m e y = go (eqb e.field m) (eqb e.number 0) refl y
     go false b t y = absurd (true≢false (sym y))
 
 -- with none behind it, the highest stays
-highest-still : (m k : ℕ) (es : List Entry) → better (highestFrom m k es) noPeak ≡ highestFrom m k es
+highest-still : (m k : ℕ) (es : List Entry) → better (highest_from m k es) no_peak ≡ highest_from m k es
 unfolding Fair
-highest-still m k es = go (highestFrom m k es).limit refl
+highest-still m k es = go (highest_from m k es).limit refl
   where
-    go : (l : ℕ) → (highestFrom m k es).limit ≡ l → better (highestFrom m k es) noPeak ≡ highestFrom m k es
-    go zero z = better-left (highestFrom m k es) noPeak z ∙ sym (highest-none m k es z)
-    go (suc l) z = better-right (highestFrom m k es) noPeak (λ e. refl) (omega arith) refl
+    go : (l : ℕ) → (highest_from m k es).limit ≡ l → better (highest_from m k es) no_peak ≡ highest_from m k es
+    go zero z = better-left (highest_from m k es) no_peak z ∙ sym (highest-none m k es z)
+    go (suc l) z = better-right (highest_from m k es) no_peak (λ e. refl) (omega arith) refl
 
 module _ (m : ℕ) (es : List Entry) (e : Entry) where
   -- the last entry alone
-  highest-last : highestFrom m 1 (es ++ e ∷ []) ≡ better (highestFrom m 1 es) (highestFrom m (suc (length es)) (e ∷ []))
+  highest-last : highest_from m 1 (es ++ e ∷ []) ≡ better (highest_from m 1 es) (highest_from m (suc (length es)) (e ∷ []))
   highest-last =
       let n : 1 + length es ≡ suc (length es) = omega arith in
-      highest-append m 1 es (e ∷ []) ∙ ap (λ i. better (highestFrom m 1 es) (highestFrom m i (e ∷ []))) n
+      highest-append m 1 es (e ∷ []) ∙ ap (λ i. better (highest_from m 1 es) (highest_from m i (e ∷ []))) n
 
-  none-added : competes m e ≡ false → highestFrom m 1 (es ++ e ∷ []) ≡ highestFrom m 1 es
-  unfolding highestFrom
+  none-added : competes m e ≡ false → highest_from m 1 (es ++ e ∷ []) ≡ highest_from m 1 es
+  unfolding highest_from
   none-added c = highest-last ∙ rw c (highest-still m 1 es)
 
-  pub highest-same : acceptedIn m e ≡ false → highestFrom m 1 (es ++ e ∷ []) ≡ highestFrom m 1 es
+  pub highest-same : accepted_in m e ≡ false → highest_from m 1 (es ++ e ∷ []) ≡ highest_from m 1 es
   highest-same n = none-added (ap (λ b. b && not (eqb e.limit 0)) n)
 
-  pub highest-more : acceptedIn m e ≡ true
-      → highestFrom m 1 (es ++ e ∷ []) ≡ risen (highestFrom m 1 es) (peakOf (suc (length es)) e)
-  unfolding risen highestFrom Fair
+  pub highest-more : accepted_in m e ≡ true
+      → highest_from m 1 (es ++ e ∷ []) ≡ risen (highest_from m 1 es) (peak_of (suc (length es)) e)
+  unfolding risen highest_from Fair
   highest-more y = go e.limit refl
     where
       go : (l : ℕ) → e.limit ≡ l
-          → highestFrom m 1 (es ++ e ∷ []) ≡ risen (highestFrom m 1 es) (peakOf (suc (length es)) e)
+          → highest_from m 1 (es ++ e ∷ []) ≡ risen (highest_from m 1 es) (peak_of (suc (length es)) e)
       go zero z =
           let b : eqb e.limit 0 ≡ true = eq-eqb e.limit 0 z in
           let c : competes m e ≡ false = rw (y, b) in
@@ -131,6 +131,6 @@ module _ (m : ℕ) (es : List Entry) (e : Entry) where
       go (suc l) z =
           let b : eqb e.limit 0 ≡ false = ne_eqb e.limit 0 (λ x. omega arith) in
           let c : competes m e ≡ true = rw (y, b) in
-          let p : better (peakOf (suc (length es)) e) noPeak ≡ peakOf (suc (length es)) e =
-          better-right (peakOf (suc (length es)) e) noPeak (λ x. refl) (omega arith) refl in
+          let p : better (peak_of (suc (length es)) e) no_peak ≡ peak_of (suc (length es)) e =
+          better-right (peak_of (suc (length es)) e) no_peak (λ x. refl) (omega arith) refl in
           highest-last ∙ rw (c, p, b)

@@ -6,20 +6,20 @@ use Rattle.std.proofs.Common.{◌≡◌, [], ◌∷◌, refl}
 use Rattle.refusals.specs.Order.{decide}
 use Rattle.algebra.specs.Trial.{up_from}
 use Rattle.algebra.specs.Field.{power, trace}
-use Rattle.algebra.specs.Polynomial.{eval, rootsOf}
-use Rattle.field.specs.Rows.{known_in, polyIn}
+use Rattle.algebra.specs.Polynomial.{eval, roots_of}
+use Rattle.field.specs.Rows.{known_in, poly_in}
 use Rattle.field.specs.Field.{mul}
 use Rattle.slices.specs.Bounded.{all_below}
-use Rattle.input.specs.Cutoff.{inForceBy}
-use Rattle.table_rules.specs.Groups.{groupsAt, groupCount, sumBelow, agrees, bitWords}
+use Rattle.input.specs.Cutoff.{in_force_by}
+use Rattle.table_rules.specs.Groups.{groups_at, group_count, sum_below, agrees, bit_words}
 use Rattle.job_records.specs.Layout.{words}
-use Rattle.job_records.specs.Reading.{judged, readHere}
+use Rattle.job_records.specs.Reading.{judged, read_here}
 use Rattle.job_records.proofs.Example.{sample}
-use Rattle.job_sheet.specs.Entries.{entryHere, entriesBehind, entries}
-use Rattle.job_sheet.specs.Figures.{count_of, sum_of, better, highestFrom, figuresOf}
-use Rattle.job_sheet.specs.Adding.{noFigures}
+use Rattle.job_sheet.specs.Entries.{entry_here, entries_behind, entries}
+use Rattle.job_sheet.specs.Figures.{count_of, sum_of, better, highest_from, figures_of}
+use Rattle.job_sheet.specs.Adding.{no_figures}
 
-pub sample-figures : figuresOf (entries sample)
+pub sample-figures : figures_of (entries sample)
     ≡ record {
       fields = record {
         accepted = 2;
@@ -27,10 +27,10 @@ pub sample-figures : figuresOf (entries sample)
         roots = 6;
         steps = 4;
         highest = record { place = 1; steps = 4; limit = 4 };
-      } ∷ noFigures ∷ noFigures ∷ [];
+      } ∷ no_figures ∷ no_figures ∷ [];
       unknown = 1;
       mark = 0;
       short = 0;
     }
-unfolding count_of sum_of better highestFrom entryHere entriesBehind readHere judged decide known_in polyIn all_below words rootsOf up_from eval mul trace power bitWords groupsAt groupCount sumBelow agrees inForceBy
+unfolding count_of sum_of better highest_from entry_here entries_behind read_here judged decide known_in poly_in all_below words roots_of up_from eval mul trace power bit_words groups_at group_count sum_below agrees in_force_by
 sample-figures = refl

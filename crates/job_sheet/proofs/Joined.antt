@@ -8,9 +8,9 @@
 use Rattle.std.proofs.Common.{◌≡◌, ℕ, suc, ◌+◌, ◌*◌, Bool, true, false, cond, eqb, ltb, List, [], ◌∷◌, ◌++◌, map, length, sym, refl, ap, ◌∙◌, ap₂, add_comm, arith, ne_eqb}
 use Rattle.field.specs.Rows.{rows}
 use Rattle.job_sheet.specs.Entries.{Entry, entries}
-use Rattle.job_sheet.specs.Figures.{count_of, numbered, under, acceptedIn, competes, Peak, peakOf, better}
-use Rattle.job_sheet.specs.Figures.{highestFrom, refusedNumbers, FieldFigures, figuresAt, figuresOf}
-use Rattle.job_sheet.specs.Joined.{outcomesIn, countedOn, plusEach, joinedField, joinedFields, joinedFigures}
+use Rattle.job_sheet.specs.Figures.{count_of, numbered, under, accepted_in, competes, Peak, peak_of, better}
+use Rattle.job_sheet.specs.Figures.{highest_from, refused_numbers, FieldFigures, figures_at, figures_of}
+use Rattle.job_sheet.specs.Joined.{outcomes_in, counted_on, plus_each, joined_field, joined_fields, joined_figures}
 use Rattle.job_sheet.proofs.Better.{competes-limit, highest-append}
 use Rattle.job_sheet.proofs.Counts.{count-append, sum-append}
 use Rattle.job_sheet.proofs.AddUp.{file-adds-up}
@@ -18,21 +18,21 @@ use Rattle.job_sheet.proofs.Front.{Clean, entries-joined}
 
 -- counts by place
 each-joined : (t : ℕ → Entry → Bool) (a b : List Entry) (ks : List ℕ)
-    → map (λ k. count_of (t k) (a ++ b)) ks ≡ plusEach (map (λ k. count_of (t k) a) ks) (map (λ k. count_of (t k) b) ks)
-unfolding plusEach
+    → map (λ k. count_of (t k) (a ++ b)) ks ≡ plus_each (map (λ k. count_of (t k) a) ks) (map (λ k. count_of (t k) b) ks)
+unfolding plus_each
 each-joined t a b [] = refl
 each-joined t a b (k ∷ ks) = ap₂ (λ n l. n ∷ l) (count-append (t k) a b) (each-joined t a b ks)
 
 -- ---- a peak counted on
 
-counted-limit : (n : ℕ) (p : Peak) → (countedOn n p).limit ≡ p.limit
+counted-limit : (n : ℕ) (p : Peak) → (counted_on n p).limit ≡ p.limit
 counted-limit n p = go (eqb p.limit 0)
   where
     go : (b : Bool) → (cond b p (record { place = n + p.place; steps = p.steps; limit = p.limit })).limit ≡ p.limit
     go true = refl
     go false = refl
 
-counted-steps : (n : ℕ) (p : Peak) → (countedOn n p).steps ≡ p.steps
+counted-steps : (n : ℕ) (p : Peak) → (counted_on n p).steps ≡ p.steps
 counted-steps n p = go (eqb p.limit 0)
   where
     go : (b : Bool) → (cond b p (record { place = n + p.place; steps = p.steps; limit = p.limit })).steps ≡ p.steps
@@ -43,76 +43,76 @@ counted-steps n p = go (eqb p.limit 0)
 abbrev by : ℕ → ℕ → ℕ → ℕ → Peak → Peak → Peak
 by l s k t p q = cond (eqb l 0) q (cond (ltb (s * k) (t * l)) q p)
 
-counted-better : (n : ℕ) (p q : Peak) → countedOn n (better p q) ≡ better (countedOn n p) (countedOn n q)
+counted-better : (n : ℕ) (p q : Peak) → counted_on n (better p q) ≡ better (counted_on n p) (counted_on n q)
 unfolding better
 counted-better n p q =
     go (eqb p.limit 0) (ltb (p.steps * q.limit) (q.steps * p.limit))
-    ∙ sym (ap₂ (λ l s. by l s (countedOn n q).limit (countedOn n q).steps (countedOn n p) (countedOn n q))
+    ∙ sym (ap₂ (λ l s. by l s (counted_on n q).limit (counted_on n q).steps (counted_on n p) (counted_on n q))
     (counted-limit n p) (counted-steps n p)
-    ∙ ap₂ (λ k t. by p.limit p.steps k t (countedOn n p) (countedOn n q)) (counted-limit n q) (counted-steps n q))
+    ∙ ap₂ (λ k t. by p.limit p.steps k t (counted_on n p) (counted_on n q)) (counted-limit n q) (counted-steps n q))
   where
     go : (b c : Bool)
-        → countedOn n (cond b q (cond c q p)) ≡ cond b (countedOn n q) (cond c (countedOn n q) (countedOn n p))
+        → counted_on n (cond b q (cond c q p)) ≡ cond b (counted_on n q) (cond c (counted_on n q) (counted_on n p))
     go true c = refl
     go false true = refl
     go false false = refl
 
 -- one that competes
-counted-one : (n m k : ℕ) (e : Entry) → competes m e ≡ true → countedOn n (peakOf k e) ≡ peakOf (n + k) e
+counted-one : (n m k : ℕ) (e : Entry) → competes m e ≡ true → counted_on n (peak_of k e) ≡ peak_of (n + k) e
 counted-one n m k e c = rw (ne_eqb e.limit 0 (λ z. omega (arith, competes-limit m e c)))
 
-highest-counted : (n m k : ℕ) (es : List Entry) → highestFrom m (n + k) es ≡ countedOn n (highestFrom m k es)
-unfolding highestFrom
+highest-counted : (n m k : ℕ) (es : List Entry) → highest_from m (n + k) es ≡ counted_on n (highest_from m k es)
+unfolding highest_from
 highest-counted n m k [] = refl
 highest-counted n m k (e ∷ es) =
     let next : suc (n + k) ≡ n + suc k = omega arith in
-    go (competes m e) refl (ap (λ i. highestFrom m i es) next ∙ highest-counted n m (suc k) es)
+    go (competes m e) refl (ap (λ i. highest_from m i es) next ∙ highest-counted n m (suc k) es)
   where
-    go : (b : Bool) → competes m e ≡ b → highestFrom m (suc (n + k)) es ≡ countedOn n (highestFrom m (suc k) es)
-        → cond b (better (peakOf (n + k) e) (highestFrom m (suc (n + k)) es)) (highestFrom m (suc (n + k)) es)
-        ≡ countedOn n (cond b (better (peakOf k e) (highestFrom m (suc k) es)) (highestFrom m (suc k) es))
+    go : (b : Bool) → competes m e ≡ b → highest_from m (suc (n + k)) es ≡ counted_on n (highest_from m (suc k) es)
+        → cond b (better (peak_of (n + k) e) (highest_from m (suc (n + k)) es)) (highest_from m (suc (n + k)) es)
+        ≡ counted_on n (cond b (better (peak_of k e) (highest_from m (suc k) es)) (highest_from m (suc k) es))
     go false c h = h
     go true c h =
         ap₂ better (sym (counted-one n m k e c)) h
-        ∙ sym (counted-better n (peakOf k e) (highestFrom m (suc k) es))
+        ∙ sym (counted-better n (peak_of k e) (highest_from m (suc k) es))
 
 highest-joined : (m : ℕ) (a b : List Entry)
-    → highestFrom m 1 (a ++ b) ≡ better (highestFrom m 1 a) (countedOn (length a) (highestFrom m 1 b))
+    → highest_from m 1 (a ++ b) ≡ better (highest_from m 1 a) (counted_on (length a) (highest_from m 1 b))
 highest-joined m a b =
     highest-append m 1 a b
-    ∙ ap (better (highestFrom m 1 a))
-    (ap (λ i. highestFrom m i b) (add_comm 1 (length a)) ∙ highest-counted (length a) m 1 b)
+    ∙ ap (better (highest_from m 1 a))
+    (ap (λ i. highest_from m i b) (add_comm 1 (length a)) ∙ highest-counted (length a) m 1 b)
 
 -- ---- figures
 
 field-joined : (a b : List Entry) (m : ℕ)
-    → figuresAt (a ++ b) m ≡ joinedField (length a) (figuresAt a m) (figuresAt b m)
+    → figures_at (a ++ b) m ≡ joined_field (length a) (figures_at a m) (figures_at b m)
 field-joined a b m = λ i. record {
-  accepted = count-append (acceptedIn m) a b i;
-  refused = each-joined (under m) a b refusedNumbers i;
-  roots = sum-append (λ e. e.roots) (acceptedIn m) a b i;
-  steps = sum-append (λ e. e.steps) (acceptedIn m) a b i;
+  accepted = count-append (accepted_in m) a b i;
+  refused = each-joined (under m) a b refused_numbers i;
+  roots = sum-append (λ e. e.roots) (accepted_in m) a b i;
+  steps = sum-append (λ e. e.steps) (accepted_in m) a b i;
   highest = highest-joined m a b i;
 }
 
-fields-joined : {A : Type 0} (n : ℕ) (f g h : A → FieldFigures) → ((x : A) → h x ≡ joinedField n (f x) (g x))
+fields-joined : {A : Type 0} (n : ℕ) (f g h : A → FieldFigures) → ((x : A) → h x ≡ joined_field n (f x) (g x))
     → (l : List A)
-    → map h l ≡ joinedFields n (map f l) (map g l)
-unfolding joinedFields
+    → map h l ≡ joined_fields n (map f l) (map g l)
+unfolding joined_fields
 fields-joined n f g h e [] = refl
 fields-joined n f g h e (x ∷ l) = ap₂ (λ y k. y ∷ k) (e x) (fields-joined n f g h e l)
 
-pub figures-joined : (a b : List Entry) → outcomesIn (figuresOf a) ≡ length a
-    → figuresOf (a ++ b) ≡ joinedFigures (figuresOf a) (figuresOf b)
+pub figures-joined : (a b : List Entry) → outcomes_in (figures_of a) ≡ length a
+    → figures_of (a ++ b) ≡ joined_figures (figures_of a) (figures_of b)
 figures-joined a b e = λ i. record {
-  fields = (fields-joined (length a) (λ r. figuresAt a r.0) (λ r. figuresAt b r.0)
-      (λ r. figuresAt (a ++ b) r.0) (λ r. field-joined a b r.0) rows
-      ∙ ap (λ n. joinedFields n (figuresOf a).fields (figuresOf b).fields) (sym e)) i;
+  fields = (fields-joined (length a) (λ r. figures_at a r.0) (λ r. figures_at b r.0)
+      (λ r. figures_at (a ++ b) r.0) (λ r. field-joined a b r.0) rows
+      ∙ ap (λ n. joined_fields n (figures_of a).fields (figures_of b).fields) (sym e)) i;
   unknown = count-append (numbered 1) a b i;
   mark = count-append (numbered 11) a b i;
   short = count-append (numbered 12) a b i;
 }
 
 pub file-joined : (f g : List ℕ) → Clean (entries f)
-    → figuresOf (entries (f ++ g)) ≡ joinedFigures (figuresOf (entries f)) (figuresOf (entries g))
-file-joined f g c = ap figuresOf (entries-joined f g c) ∙ figures-joined (entries f) (entries g) (file-adds-up f)
+    → figures_of (entries (f ++ g)) ≡ joined_figures (figures_of (entries f)) (figures_of (entries g))
+file-joined f g c = ap figures_of (entries-joined f g c) ∙ figures-joined (entries f) (entries g) (file-adds-up f)

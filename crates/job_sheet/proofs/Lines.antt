@@ -5,7 +5,7 @@
 --   line_other        an entry of another field changes nothing;  line-apart  nor one under another number
 --   Told              lines tell the figures of entries, the low word of each total a word
 --   told-set          with one entry more its field's line is set;  told_same  where no line changes
---   noLine            what is read behind the end of an array of lines
+--   no_line            what is read behind the end of an array of lines
 --   told_none         the lines of no entries
 --   told_line         the line of a known field
 --   room-for-record, room-for-refusal   one more can be counted, where there are few entries
@@ -14,19 +14,19 @@ use Rattle.std.proofs.Common.{◌≡◌, ℕ, zero, suc, ◌+◌, ◌-◌, ◌*�
 use lib.ListN.{get_or-map}
 use Rattle.field.specs.Rows.{known}
 use Rattle.job_sheet.specs.Entries.{Entry}
-use Rattle.job_sheet.specs.Figures.{count_of, sum_of, under, acceptedIn, Peak, highestFrom, refusedNumbers}
-use Rattle.job_sheet.specs.Figures.{FieldFigures, figuresAt}
-use Rattle.job_sheet.specs.Calls.{toldField, Word, Words}
-use Rattle.job_sheet.specs.Adding.{place_in, degrees, place_of, noFigures, withAccepted, withRefused}
+use Rattle.job_sheet.specs.Figures.{count_of, sum_of, under, accepted_in, Peak, highest_from, refused_numbers}
+use Rattle.job_sheet.specs.Figures.{FieldFigures, figures_at}
+use Rattle.job_sheet.specs.Calls.{told_field, Word, Words}
+use Rattle.job_sheet.specs.Adding.{place_in, degrees, place_of, no_figures, with_accepted, with_refused}
 use Rattle.job_sheet.specs.Adding.{RoomForRecord, RoomForRefusal}
 use Rattle.job_sheet.specs.declared.FieldLine.{FieldLine}
 use Rattle.job_sheet.specs.declared.Counted.{Counted}
 use Rattle.job_sheet.proofs.Counts.{count_yes, count_no, count-few, sum-yes, sum-no, highest-same, highest-more}
-use Rattle.job_sheet.proofs.Places.{isIn, apart, known-in, unchanged, changed, at_place}
+use Rattle.job_sheet.proofs.Places.{is_in, apart, known-in, unchanged, changed, at_place}
 
 -- 2 stands first
-refused-place : (n : ℕ) → 2 ≤ n → n ≤ 6 → (place_in refusedNumbers n ≡ n - 2) × (isIn refusedNumbers n ≡ true)
-unfolding place_in isIn
+refused-place : (n : ℕ) → 2 ≤ n → n ≤ 6 → (place_in refused_numbers n ≡ n - 2) × (is_in refused_numbers n ≡ true)
+unfolding place_in is_in
 refused-place zero l h = absurd (let b : ⊥ = omega arith in b)
 refused-place (suc zero) l h = absurd (let b : ⊥ = omega arith in b)
 refused-place (suc (suc zero)) l h = (refl, refl)
@@ -59,68 +59,68 @@ module _ (m : ℕ) (es : List Entry) (e : Entry) where
   under-both k f n = ap₂ (λ a b. a && b) (eq-eqb e.field m f) (eq-eqb e.number k n)
 
   -- the refusals, where the entry is under a number that none of them has
-  refused-kept : (n : ℕ) → isIn refusedNumbers n ≡ false → ((k : ℕ) → (k ≡ n → ⊥) → under m k e ≡ false)
-      → (figuresAt (es ++ e ∷ []) m).refused ≡ (figuresAt es m).refused
+  refused-kept : (n : ℕ) → is_in refused_numbers n ≡ false → ((k : ℕ) → (k ≡ n → ⊥) → under m k e ≡ false)
+      → (figures_at (es ++ e ∷ []) m).refused ≡ (figures_at es m).refused
   refused-kept n i d =
       unchanged (λ k. count_of (under m k) es) (λ k. count_of (under m k) (es ++ e ∷ [])) n
-      (λ k x. count_no (under m k) es e (d k x)) refusedNumbers i
+      (λ k x. count_no (under m k) es e (d k x)) refused_numbers i
 
   -- nothing is counted
-  line_kept : (n : ℕ) → isIn refusedNumbers n ≡ false → ((k : ℕ) → (k ≡ n → ⊥) → under m k e ≡ false)
-      → acceptedIn m e ≡ false
-      → figuresAt (es ++ e ∷ []) m ≡ figuresAt es m
+  line_kept : (n : ℕ) → is_in refused_numbers n ≡ false → ((k : ℕ) → (k ≡ n → ⊥) → under m k e ≡ false)
+      → accepted_in m e ≡ false
+      → figures_at (es ++ e ∷ []) m ≡ figures_at es m
   line_kept n i d z =
-      same-figures (count_no (acceptedIn m) es e z) (refused-kept n i d) (sum-no (λ x. x.roots) (acceptedIn m) es e z)
-      (sum-no (λ x. x.steps) (acceptedIn m) es e z) (highest-same m es e z)
+      same-figures (count_no (accepted_in m) es e z) (refused-kept n i d) (sum-no (λ x. x.roots) (accepted_in m) es e z)
+      (sum-no (λ x. x.steps) (accepted_in m) es e z) (highest-same m es e z)
 
-  line_other : (e.field ≡ m → ⊥) → figuresAt (es ++ e ∷ []) m ≡ figuresAt es m
-  unfolding isIn
+  line_other : (e.field ≡ m → ⊥) → figures_at (es ++ e ∷ []) m ≡ figures_at es m
+  unfolding is_in
   line_other n = line_kept 0 refl (λ k d. under-field k n) (under-field 0 n)
 
   -- the number is that of no refusal, and not 0
-  pub line-apart : (n : ℕ) → isIn refusedNumbers n ≡ false → 0 < n → e.number ≡ n
-      → figuresAt (es ++ e ∷ []) m ≡ figuresAt es m
+  pub line-apart : (n : ℕ) → is_in refused_numbers n ≡ false → 0 < n → e.number ≡ n
+      → figures_at (es ++ e ∷ []) m ≡ figures_at es m
   line-apart n i h f = line_kept n i (λ k d. under-number k (λ x. d (sym x ∙ f))) (under-number 0 (λ x. omega arith))
 
   pub line-accepted : e.field ≡ m → e.number ≡ 0
-      → figuresAt (es ++ e ∷ []) m ≡ withAccepted (figuresAt es m) (suc (length es)) e.roots e.steps e.limit
-  unfolding isIn
+      → figures_at (es ++ e ∷ []) m ≡ with_accepted (figures_at es m) (suc (length es)) e.roots e.steps e.limit
+  unfolding is_in
   line-accepted f z =
-      let y : acceptedIn m e ≡ true = under-both 0 f z in
-      same-figures (count_yes (acceptedIn m) es e y) (refused-kept 0 refl (λ k d. under-number k (λ x. d (sym x ∙ z))))
-      (sum-yes (λ d. d.roots) (acceptedIn m) es e y) (sum-yes (λ d. d.steps) (acceptedIn m) es e y)
+      let y : accepted_in m e ≡ true = under-both 0 f z in
+      same-figures (count_yes (accepted_in m) es e y) (refused-kept 0 refl (λ k d. under-number k (λ x. d (sym x ∙ z))))
+      (sum-yes (λ d. d.roots) (accepted_in m) es e y) (sum-yes (λ d. d.steps) (accepted_in m) es e y)
       (highest-more m es e y)
 
   pub line_refused : (n : ℕ) → e.field ≡ m → e.number ≡ n → 2 ≤ n → n ≤ 6
-      → figuresAt (es ++ e ∷ []) m ≡ withRefused (figuresAt es m) n
-  unfolding isIn apart
+      → figures_at (es ++ e ∷ []) m ≡ with_refused (figures_at es m) n
+  unfolding is_in apart
   line_refused n f z l h =
-      let out : acceptedIn m e ≡ false = under-number 0 (λ x. omega arith) in
+      let out : accepted_in m e ≡ false = under-number 0 (λ x. omega arith) in
       let p = refused-place n l h in
-      let was : get_or (figuresAt es m).refused (n - 2) 0 ≡ count_of (under m n) es =
-      ap (λ i. get_or (figuresAt es m).refused i 0) (sym p.0)
-      ∙ at_place (λ k. count_of (under m k) es) 0 n refusedNumbers p.1 in
+      let was : get_or (figures_at es m).refused (n - 2) 0 ≡ count_of (under m n) es =
+      ap (λ i. get_or (figures_at es m).refused i 0) (sym p.0)
+      ∙ at_place (λ k. count_of (under m k) es) 0 n refused_numbers p.1 in
       let set_there = changed (λ k. count_of (under m k) es) (λ k. count_of (under m k) (es ++ e ∷ [])) n
-      (λ k d. count_no (under m k) es e (under-number k (λ x. d (sym x ∙ z)))) refusedNumbers refl p.1 in
-      same-figures (count_no (acceptedIn m) es e out)
+      (λ k d. count_no (under m k) es e (under-number k (λ x. d (sym x ∙ z)))) refused_numbers refl p.1 in
+      same-figures (count_no (accepted_in m) es e out)
       (set_there
-      ∙ ap₂ (λ i v. set (figuresAt es m).refused i v) p.0
+      ∙ ap₂ (λ i v. set (figures_at es m).refused i v) p.0
       (count_yes (under m n) es e (under-both n f z) ∙ ap (λ v. v + 1) (sym was)))
-      (sum-no (λ d. d.roots) (acceptedIn m) es e out) (sum-no (λ d. d.steps) (acceptedIn m) es e out)
+      (sum-no (λ d. d.roots) (accepted_in m) es e out) (sum-no (λ d. d.steps) (accepted_in m) es e out)
       (highest-same m es e out)
 
 -- ---- the lines of all fields
 
 pub record Told (es : List Entry) (lines : List FieldLine) : Type 0 where
-  pub are : map toldField lines ≡ map (figuresAt es) degrees
+  pub are : map told_field lines ≡ map (figures_at es) degrees
   pub words : Words lines
 
 pub record LineOf (m : ℕ) (es : List Entry) (l : FieldLine) : Type 0 where
-  pub is : toldField l ≡ figuresAt es m
+  pub is : told_field l ≡ figures_at es m
 
 -- what is read behind the end of an array of lines
-abbrev pub noLine : FieldLine
-noLine = record {
+abbrev pub no_line : FieldLine
+no_line = record {
   accepted = 0;
   refused = [];
   roots = 0;
@@ -143,23 +143,23 @@ words-each zero l h = tt
 words-each (suc n) l h = (h, words-each n l h)
 
 -- the same line for each key
-none_each : (l : FieldLine) → toldField l ≡ noFigures → (ks : List ℕ)
-    → map toldField (replicate (length ks) l) ≡ map (figuresAt []) ks
-unfolding count_of sum_of highestFrom
+none_each : (l : FieldLine) → told_field l ≡ no_figures → (ks : List ℕ)
+    → map told_field (replicate (length ks) l) ≡ map (figures_at []) ks
+unfolding count_of sum_of highest_from
 none_each l e [] = refl
 none_each l e (k ∷ ks) = ap₂ (λ x xs. x ∷ xs) e (none_each l e ks)
 
-pub told_none : (l : FieldLine) → toldField l ≡ noFigures → Told [] (replicate (length degrees) l)
+pub told_none : (l : FieldLine) → told_field l ≡ no_figures → Told [] (replicate (length degrees) l)
 told_none l e = record {
   are = none_each l e degrees;
   words = words-each (length degrees) l (omega (arith, ap (λ f. f.steps) e));
 }
 
 pub told_same : {es : List Entry} {lines : List FieldLine} (ds : List Entry) → Told es lines
-    → ((m : ℕ) → figuresAt ds m ≡ figuresAt es m) → Told ds lines
-unfolding isIn
+    → ((m : ℕ) → figures_at ds m ≡ figures_at es m) → Told ds lines
+unfolding is_in
 told_same {es} ds t h = record {
-  are = t.are ∙ sym (unchanged (figuresAt es) (figuresAt ds) 0 (λ k d. h k) degrees refl);
+  are = t.are ∙ sym (unchanged (figures_at es) (figures_at ds) 0 (λ k d. h k) degrees refl);
   words = t.words;
 }
 
@@ -167,19 +167,19 @@ module _ {es : List Entry} {lines : List FieldLine} (t : Told es lines) {m i : �
     (p : i ≡ place_of m) where
   pub told-set : (e : Entry) {l : FieldLine} → e.field ≡ m → LineOf m (es ++ e ∷ []) l → Word l
       → Told (es ++ e ∷ []) (set lines i l)
-  unfolding isIn apart
+  unfolding is_in apart
   told-set e {l} f h w = record {
-    are = map-set toldField lines i l ∙ ap₂ (λ a b. set a i b) t.are h.is
-        ∙ ap (λ j. set (map (figuresAt es) degrees) j (figuresAt (es ++ e ∷ []) m)) p
-        ∙ sym (changed (figuresAt es) (figuresAt (es ++ e ∷ [])) m (λ j d. line_other j es e (λ x. d (sym x ∙ f)))
+    are = map-set told_field lines i l ∙ ap₂ (λ a b. set a i b) t.are h.is
+        ∙ ap (λ j. set (map (figures_at es) degrees) j (figures_at (es ++ e ∷ []) m)) p
+        ∙ sym (changed (figures_at es) (figures_at (es ++ e ∷ [])) m (λ j d. line_other j es e (λ x. d (sym x ∙ f)))
         degrees refl (known-in m k));
     words = words-set lines i l t.words w;
   }
 
   pub told_line : (d : FieldLine) → LineOf m es (get_or lines i d)
   told_line d = record {
-    is = sym (get_or-map toldField lines i d) ∙ ap₂ (λ l j. get_or l j (toldField d)) t.are p
-        ∙ at_place (figuresAt es) (toldField d) m degrees (known-in m k);
+    is = sym (get_or-map told_field lines i d) ∙ ap₂ (λ l j. get_or l j (told_field d)) t.are p
+        ∙ at_place (figures_at es) (told_field d) m degrees (known-in m k);
   }
 
 -- ---- room
@@ -190,10 +190,10 @@ high_small q n h w e l = lt_of_mul-lt-mul_right q (let x : h * q < n * q = omega
 
 module _ {es : List Entry} {m : ℕ} {l : FieldLine} (t : LineOf m es l) where
   pub room-for-record : {c : Counted} → length es + 1 < 2 ^ 64
-      → sum_of (λ e. e.roots) (acceptedIn m) es + c.roots < 2 ^ 64
-      → sum_of (λ e. e.steps) (acceptedIn m) es < 2 ^ 16 * 2 ^ 64 → RoomForRecord l c
+      → sum_of (λ e. e.roots) (accepted_in m) es + c.roots < 2 ^ 64
+      → sum_of (λ e. e.steps) (accepted_in m) es < 2 ^ 16 * 2 ^ 64 → RoomForRecord l c
   room-for-record a r s = record {
-    accepted = omega (arith, ap (λ f. f.accepted) t.is, count-few (acceptedIn m) es);
+    accepted = omega (arith, ap (λ f. f.accepted) t.is, count-few (accepted_in m) es);
     roots = omega (arith, ap (λ f. f.roots) t.is);
     high =
         let h : l.steps.high < 2 ^ 16 =
@@ -208,5 +208,5 @@ module _ {es : List Entry} {m : ℕ} {l : FieldLine} (t : LineOf m es l) where
       let p = refused-place n low high in
       let was : get_or l.refused (n - 2) 0 ≡ count_of (under m n) es =
       ap₂ (λ r i. get_or r i 0) (ap (λ f. f.refused) t.is) (sym p.0)
-      ∙ at_place (λ k. count_of (under m k) es) 0 n refusedNumbers p.1 in
+      ∙ at_place (λ k. count_of (under m k) es) 0 n refused_numbers p.1 in
       record { least = low; most = high; count = omega (arith, count-few (under m n) es) }

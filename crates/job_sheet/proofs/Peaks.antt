@@ -7,7 +7,7 @@
 -- Assumes nothing.
 use Rattle.std.proofs.Common.{◌≡◌, ℕ, suc, ◌+◌, ◌<◌, Bool, true, false, List, [], ◌∷◌, sym, refl, ap, ◌∙◌, true≢false, zero-add, arith}
 use Rattle.job_sheet.specs.Entries.{Entry}
-use Rattle.job_sheet.specs.Figures.{Peak, noPeak, peakOf, competes, better, highestFrom}
+use Rattle.job_sheet.specs.Figures.{Peak, no_peak, peak_of, competes, better, highest_from}
 use Rattle.job_sheet.specs.Highest.{EntryAt, IsHighest}
 use Rattle.job_sheet.specs.Highest.EntryAt.{here, later}
 use Rattle.job_sheet.specs.Highest.IsHighest.{some, nothing}
@@ -26,33 +26,33 @@ pub record Top (j m : ℕ) (es : List Entry) (p : Peak) : Type 0 where
   pub i : ℕ
   pub entry : Entry
   pub stands : EntryAt es i entry
-  pub is : p ≡ peakOf (j + i) entry
+  pub is : p ≡ peak_of (j + i) entry
   pub one : competes m entry ≡ true
-  pub most : (k : ℕ) (e : Entry) → EntryAt es k e → competes m e ≡ true → AtMost (peakOf k e) p
-  pub earlier : (k : ℕ) (e : Entry) → EntryAt es k e → competes m e ≡ true → k < i → LowerThan (peakOf k e) p
+  pub most : (k : ℕ) (e : Entry) → EntryAt es k e → competes m e ≡ true → AtMost (peak_of k e) p
+  pub earlier : (k : ℕ) (e : Entry) → EntryAt es k e → competes m e ≡ true → k < i → LowerThan (peak_of k e) p
 
 pub data Tops (j m : ℕ) (es : List Entry) (p : Peak) : Type 0 where
   top : Top j m es p → Tops j m es p
-  no_one : p ≡ noPeak → ((k : ℕ) (e : Entry) → EntryAt es k e → competes m e ≡ true → ⊥) → Tops j m es p
+  no_one : p ≡ no_peak → ((k : ℕ) (e : Entry) → EntryAt es k e → competes m e ≡ true → ⊥) → Tops j m es p
 
 module _ (j m : ℕ) (d : Entry) (es : List Entry) where
   -- one behind the first is the top, where the first stands below it or does not compete
-  onward : {p : Peak} → (competes m d ≡ true → LowerThan (peakOf (suc j) d) p) → Top (suc j) m es p → Top j m (d ∷ es) p
+  onward : {p : Peak} → (competes m d ≡ true → LowerThan (peak_of (suc j) d) p) → Top (suc j) m es p → Top j m (d ∷ es) p
   onward {p} below t = record {
     i = suc t.i;
     entry = t.entry;
     stands = later t.stands;
-    is = t.is ∙ ap (λ n. peakOf n t.entry) (let e : suc j + t.i ≡ j + suc t.i = omega arith in e);
+    is = t.is ∙ ap (λ n. peak_of n t.entry) (let e : suc j + t.i ≡ j + suc t.i = omega arith in e);
     one = t.one;
     most = λ k e a h. most k e a h;
     earlier = λ k e a h l. earlier k e a h l;
   }
     where
-      most : (k : ℕ) (e : Entry) → EntryAt (d ∷ es) k e → competes m e ≡ true → AtMost (peakOf k e) p
+      most : (k : ℕ) (e : Entry) → EntryAt (d ∷ es) k e → competes m e ≡ true → AtMost (peak_of k e) p
       most k e here h = omega (arith, below h)
       most k e (later a) h = t.most _ e a h
 
-      earlier : (k : ℕ) (e : Entry) → EntryAt (d ∷ es) k e → competes m e ≡ true → k < suc t.i → LowerThan (peakOf k e) p
+      earlier : (k : ℕ) (e : Entry) → EntryAt (d ∷ es) k e → competes m e ≡ true → k < suc t.i → LowerThan (peak_of k e) p
       earlier k e here h l = below h
       earlier k e (later a) h l = t.earlier _ e a h (omega arith)
 
@@ -67,23 +67,23 @@ module _ (j m : ℕ) (d : Entry) (es : List Entry) where
 
   module _ (c : competes m d ≡ true) where
     abbrev mine : Peak
-    mine = peakOf (suc j) d
+    mine = peak_of (suc j) d
 
     -- the first stands at least as high as those behind it
     stays : {p : Peak} → p ≡ mine
-        → ((k : ℕ) (e : Entry) → EntryAt es k e → competes m e ≡ true → AtMost (peakOf k e) mine)
+        → ((k : ℕ) (e : Entry) → EntryAt es k e → competes m e ≡ true → AtMost (peak_of k e) mine)
         → Top j m (d ∷ es) p
     stays {p} is others = record {
       i = 1;
       entry = d;
       stands = here;
-      is = is ∙ ap (λ n. peakOf n d) (let e : suc j ≡ j + 1 = omega arith in e);
+      is = is ∙ ap (λ n. peak_of n d) (let e : suc j ≡ j + 1 = omega arith in e);
       one = c;
       most = λ k e a h. rw is (most k e a h);
       earlier = λ k e a h l. absurd (let z = entry_place a in let f : ⊥ = omega arith in f);
     }
       where
-        most : (k : ℕ) (e : Entry) → EntryAt (d ∷ es) k e → competes m e ≡ true → AtMost (peakOf k e) mine
+        most : (k : ℕ) (e : Entry) → EntryAt (d ∷ es) k e → competes m e ≡ true → AtMost (peak_of k e) mine
         most k e here h = omega arith
         most k e (later a) h = others _ e a h
 
@@ -100,22 +100,22 @@ module _ (j m : ℕ) (d : Entry) (es : List Entry) where
         go : Compared mine p → Top j m (d ∷ es) (better mine p)
         go (none l e) = absurd (let f : ⊥ = omega (arith, competes-limit m d c) in f)
         go (second l b e) = rw e (onward (λ h. b) t)
-        go (first l b e) = stays e (λ k f a h. most-trans (peakOf k f) p mine (top-limit t) (t.most k f a h) b)
+        go (first l b e) = stays e (λ k f a h. most-trans (peak_of k f) p mine (top-limit t) (t.most k f a h) b)
 
 empty-has : {k : ℕ} {e : Entry} → EntryAt [] k e → ⊥
 empty-has = elim [ ]
 
-tops : (j m : ℕ) (es : List Entry) → Tops j m es (highestFrom m (suc j) es)
-unfolding highestFrom
+tops : (j m : ℕ) (es : List Entry) → Tops j m es (highest_from m (suc j) es)
+unfolding highest_from
 tops j m [] = no_one refl (λ k e a c. empty-has a)
 tops j m (d ∷ es) = go (competes m d) refl (tops (suc j) m es)
   where
-    go : (b : Bool) → competes m d ≡ b → Tops (suc j) m es (highestFrom m (suc (suc j)) es)
-        → Tops j m (d ∷ es) (highestFrom m (suc j) (d ∷ es))
+    go : (b : Bool) → competes m d ≡ b → Tops (suc j) m es (highest_from m (suc (suc j)) es)
+        → Tops j m (d ∷ es) (highest_from m (suc j) (d ∷ es))
     go true c t = rw c (joins j m d es c t)
     go false c t = rw c (pass j m d es c t)
 
-pub is-highest : (m : ℕ) (es : List Entry) → IsHighest m es (highestFrom m 1 es)
+pub is-highest : (m : ℕ) (es : List Entry) → IsHighest m es (highest_from m 1 es)
 is-highest m es = go (tops 0 m es)
   where
     go : {p : Peak} → Tops 0 m es p → IsHighest m es p
@@ -125,7 +125,7 @@ is-highest m es = go (tops 0 m es)
         some (record {
           entry = t.entry;
           stands = rw e t.stands;
-          is = t.is ∙ ap (λ n. peakOf n t.entry) (zero-add t.i ∙ sym e);
+          is = t.is ∙ ap (λ n. peak_of n t.entry) (zero-add t.i ∙ sym e);
           one = t.one;
           most = t.most;
           first = λ k d a h l. t.earlier k d a h (rw e at l);

@@ -2,27 +2,27 @@
 --   place_in         the place of a key among keys
 --   degrees         the degrees of the rows;  place_of  the place of a field among them
 --   risen           the highest with one record more, which competes where it has a limit
---   noFigures       the figures of a field with nothing counted
---   withAccepted    the figures of a field with one accepted record more, by its number in the file, its roots, steps
+--   no_figures       the figures of a field with nothing counted
+--   with_accepted    the figures of a field with one accepted record more, by its number in the file, its roots, steps
 --                   and limit
---   withRefused     with one more that is refused under a number
---   endedSheet      the sheet where reading ends, or stops under 11 or 12
+--   with_refused     with one more that is refused under a number
+--   ended_sheet      the sheet where reading ends, or stops under 11 or 12
 --   JobStands       an accepted record stands somewhere in a file
 --   CountedIs       what an accepted record counts
 --   RoomForRecord, RoomForRefusal   one more can be counted
 -- Assumes nothing.
 use Rattle.std.specs.Prelude.{◌≡◌, ℕ, suc, ◌+◌, ◌-◌, ◌^◌, ◌<◌, ◌≤◌, cond, List, [], ◌∷◌, map, length, ◌==◌, slice_index, slice_index_or, slice_set}
 use Rattle.field.specs.Rows.{rows}
-use Rattle.field.specs.Field.{rootsAt}
-use Rattle.input.specs.Cutoff.{inForce}
-use Rattle.table_rules.specs.Demand.{stepsAt}
-use Rattle.table_rules.specs.Table.{stepLimit}
+use Rattle.field.specs.Field.{roots_at}
+use Rattle.input.specs.Cutoff.{in_force}
+use Rattle.table_rules.specs.Demand.{steps_at}
+use Rattle.table_rules.specs.Table.{step_limit}
 use Rattle.job_records.specs.Layout.{words, part}
-use Rattle.job_records.specs.Reading.{toldRead, readAt}
+use Rattle.job_records.specs.Reading.{told_read, read_at}
 use Rattle.job_records.specs.declared.Job.{Job}
 use Rattle.job_records.specs.declared.Read.TheVariants.{Record}
-use Rattle.job_solve.specs.Solving.{cutoffOf}
-use Rattle.job_sheet.specs.Figures.{Peak, noPeak, better, FieldFigures}
+use Rattle.job_solve.specs.Solving.{cutoff_of}
+use Rattle.job_sheet.specs.Figures.{Peak, no_peak, better, FieldFigures}
 use Rattle.job_sheet.specs.declared.Counted.{Counted}
 use Rattle.job_sheet.specs.declared.FieldLine.{FieldLine}
 use Rattle.job_sheet.specs.declared.Sheet.{Sheet}
@@ -41,11 +41,11 @@ place_of m = place_in degrees m
 unfoldable pub risen : Peak → Peak → Peak
 risen p q = cond (q.limit == 0) p (better p q)
 
-abbrev pub noFigures : FieldFigures
-noFigures = record { accepted = 0; refused = 0 ∷ 0 ∷ 0 ∷ 0 ∷ 0 ∷ []; roots = 0; steps = 0; highest = noPeak }
+abbrev pub no_figures : FieldFigures
+no_figures = record { accepted = 0; refused = 0 ∷ 0 ∷ 0 ∷ 0 ∷ 0 ∷ []; roots = 0; steps = 0; highest = no_peak }
 
-abbrev pub withAccepted : FieldFigures → ℕ → ℕ → ℕ → ℕ → FieldFigures
-withAccepted f k s steps limit = record {
+abbrev pub with_accepted : FieldFigures → ℕ → ℕ → ℕ → ℕ → FieldFigures
+with_accepted f k s steps limit = record {
   accepted = f.accepted + 1;
   refused = f.refused;
   roots = f.roots + s;
@@ -54,8 +54,8 @@ withAccepted f k s steps limit = record {
 }
 
 -- 2 stands first
-abbrev pub withRefused : FieldFigures → ℕ → FieldFigures
-withRefused f n = record {
+abbrev pub with_refused : FieldFigures → ℕ → FieldFigures
+with_refused f n = record {
   accepted = f.accepted;
   refused = slice_set f.refused (n - 2) (slice_index f.refused (n - 2) + 1);
   roots = f.roots;
@@ -64,8 +64,8 @@ withRefused f n = record {
 }
 
 -- 11 or 12 is counted once, and nothing else
-abbrev pub endedSheet : List FieldLine → ℕ → ℕ → Sheet
-endedSheet lines unknown n = record {
+abbrev pub ended_sheet : List FieldLine → ℕ → ℕ → Sheet
+ended_sheet lines unknown n = record {
   lines = lines;
   unknown = unknown;
   mark = cond (n == 11) 1 0;
@@ -75,16 +75,16 @@ endedSheet lines unknown n = record {
 -- the place is the caller's
 pub record JobStands (file : List ℕ) (j : Job) : Type 0 where
   pub at : ℕ
-  pub read : toldRead (Record j) ≡ readAt file at
+  pub read : told_read (Record j) ≡ read_at file at
 
 -- of the polynomial that its bytes spell, at the cutoff that it states
 pub record CountedAt (m c : ℕ) (cs : List ℕ) (r : Counted) : Type 0 where
-  pub roots : r.roots ≡ length (rootsAt m cs)
-  pub steps : r.steps ≡ stepsAt m c cs
-  pub limit : r.limit ≡ stepLimit m (inForce c) (length (rootsAt m cs))
+  pub roots : r.roots ≡ length (roots_at m cs)
+  pub steps : r.steps ≡ steps_at m c cs
+  pub limit : r.limit ≡ step_limit m (in_force c) (length (roots_at m cs))
 
 abbrev pub CountedIs : List ℕ → Job → Counted → Type 0
-CountedIs file j r = CountedAt j.m (cutoffOf j) (words (part file j.start j.len)) r
+CountedIs file j r = CountedAt j.m (cutoff_of j) (words (part file j.start j.len)) r
 
 pub record RoomForRecord (l : FieldLine) (c : Counted) : Type 0 where
   pub accepted : l.accepted + 1 < 2 ^ 64

@@ -1,17 +1,17 @@
 -- The figures of the sheet (docs/RULES.md section 13.2), over the entries of a file.
 --   count_of       how many entries pass a test;  sum_of  the sum of a figure over the entries that pass it
---   under         is an entry one of a field, under a number?  acceptedIn  under 0
+--   under         is an entry one of a field, under a number?  accepted_in  under 0
 --   competes      is it an accepted one of the field whose limit is not 0?
 --   Peak          a record by its number in the file, its steps and their limit; number 0 is none
---   noPeak        no record
---   peakOf        an entry as a peak, by its number
---   standsLower   does the first stand lower against its limit than the second? s/l < t/k is s k < t l
+--   no_peak        no record
+--   peak_of        an entry as a peak, by its number
+--   stands_lower   does the first stand lower against its limit than the second? s/l < t/k is s k < t l
 --   better        the higher of two, the first where they stand equally high; where one is none, the other
---   highestFrom   the record of a field whose steps stand highest against their limit, the first of them where several
+--   highest_from   the record of a field whose steps stand highest against their limit, the first of them where several
 --                 do; the first entry has the number k
---   refusedNumbers   the numbers that a record of a known field is refused under
---   FieldFigures  what the sheet has of a field;  figuresAt  of the entries
---   Figures       what the sheet has of a file;  figuresOf  of the entries, one line for each known field
+--   refused_numbers   the numbers that a record of a known field is refused under
+--   FieldFigures  what the sheet has of a field;  figures_at  of the entries
+--   Figures       what the sheet has of a file;  figures_of  of the entries, one line for each known field
 -- Assumes nothing.
 use Rattle.std.specs.Prelude.{ℕ, suc, ◌+◌, ◌*◌, Bool, cond, not, ◌&&◌, List, [], ◌∷◌, map, ◌==◌, nat_lt}
 use Rattle.field.specs.Rows.{rows}
@@ -31,36 +31,36 @@ numbered k e = e.number == k
 abbrev pub under : ℕ → ℕ → Entry → Bool
 under m k e = e.field == m && numbered k e
 
-abbrev pub acceptedIn : ℕ → Entry → Bool
-acceptedIn m = under m 0
+abbrev pub accepted_in : ℕ → Entry → Bool
+accepted_in m = under m 0
 
 abbrev pub competes : ℕ → Entry → Bool
-competes m e = acceptedIn m e && not (e.limit == 0)
+competes m e = accepted_in m e && not (e.limit == 0)
 
 pub record Peak : Type 0 where
   pub place : ℕ
   pub steps : ℕ
   pub limit : ℕ
 
-abbrev pub noPeak : Peak
-noPeak = record { place = 0; steps = 0; limit = 0 }
+abbrev pub no_peak : Peak
+no_peak = record { place = 0; steps = 0; limit = 0 }
 
-abbrev pub peakOf : ℕ → Entry → Peak
-peakOf k e = record { place = k; steps = e.steps; limit = e.limit }
+abbrev pub peak_of : ℕ → Entry → Peak
+peak_of k e = record { place = k; steps = e.steps; limit = e.limit }
 
 -- whole numbers, without rounding
-abbrev pub standsLower : Peak → Peak → Bool
-standsLower p q = nat_lt (p.steps * q.limit) (q.steps * p.limit)
+abbrev pub stands_lower : Peak → Peak → Bool
+stands_lower p q = nat_lt (p.steps * q.limit) (q.steps * p.limit)
 
 -- ties go to the first
 unfoldable pub better : Peak → Peak → Peak
-better p q = cond (p.limit == 0) q (cond (standsLower p q) q p)
+better p q = cond (p.limit == 0) q (cond (stands_lower p q) q p)
 
 -- limit 0 does not compete
-unfoldable pub highestFrom : ℕ → ℕ → List Entry → Peak
-highestFrom m k [] = noPeak
-highestFrom m k (e ∷ es) =
-    cond (competes m e) (better (peakOf k e) (highestFrom m (suc k) es)) (highestFrom m (suc k) es)
+unfoldable pub highest_from : ℕ → ℕ → List Entry → Peak
+highest_from m k [] = no_peak
+highest_from m k (e ∷ es) =
+    cond (competes m e) (better (peak_of k e) (highest_from m (suc k) es)) (highest_from m (suc k) es)
 
 -- the record's number is counted from 1 over all records of the file
 pub record FieldFigures : Type 0 where
@@ -70,16 +70,16 @@ pub record FieldFigures : Type 0 where
   pub steps : ℕ
   pub highest : Peak
 
-abbrev pub refusedNumbers : List ℕ
-refusedNumbers = 2 ∷ 3 ∷ 4 ∷ 5 ∷ 6 ∷ []
+abbrev pub refused_numbers : List ℕ
+refused_numbers = 2 ∷ 3 ∷ 4 ∷ 5 ∷ 6 ∷ []
 
-abbrev pub figuresAt : List Entry → ℕ → FieldFigures
-figuresAt es m = record {
-  accepted = count_of (acceptedIn m) es;
-  refused = map (λ k. count_of (under m k) es) refusedNumbers;
-  roots = sum_of (λ e. e.roots) (acceptedIn m) es;
-  steps = sum_of (λ e. e.steps) (acceptedIn m) es;
-  highest = highestFrom m 1 es;
+abbrev pub figures_at : List Entry → ℕ → FieldFigures
+figures_at es m = record {
+  accepted = count_of (accepted_in m) es;
+  refused = map (λ k. count_of (under m k) es) refused_numbers;
+  roots = sum_of (λ e. e.roots) (accepted_in m) es;
+  steps = sum_of (λ e. e.steps) (accepted_in m) es;
+  highest = highest_from m 1 es;
 }
 
 -- how many were 1, 11 and 12 stand apart
@@ -89,9 +89,9 @@ pub record Figures : Type 0 where
   pub mark : ℕ
   pub short : ℕ
 
-abbrev pub figuresOf : List Entry → Figures
-figuresOf es = record {
-  fields = map (λ r. figuresAt es r.0) rows;
+abbrev pub figures_of : List Entry → Figures
+figures_of es = record {
+  fields = map (λ r. figures_at es r.0) rows;
   unknown = count_of (numbered 1) es;
   mark = count_of (numbered 11) es;
   short = count_of (numbered 12) es;

@@ -7,7 +7,7 @@
 -- Assumes nothing.
 use Rattle.std.specs.Prelude.{◌≡◌, ℕ, suc, ◌*◌, ◌<◌, ◌≤◌, true, List, [], ◌∷◌, ◌≢◌}
 use Rattle.job_sheet.specs.Entries.{Entry}
-use Rattle.job_sheet.specs.Figures.{Peak, noPeak, peakOf, competes, FieldFigures}
+use Rattle.job_sheet.specs.Figures.{Peak, no_peak, peak_of, competes, FieldFigures}
 
 -- the first has the number 1
 pub data EntryAt : List Entry → ℕ → Entry → Type 0 where
@@ -18,7 +18,7 @@ pub data EntryAt : List Entry → ℕ → Entry → Type 0 where
 pub record HighestAt (m : ℕ) (es : List Entry) (p : Peak) : Type 0 where
   pub entry : Entry
   pub stands : EntryAt es p.place entry
-  pub is : p ≡ peakOf p.place entry
+  pub is : p ≡ peak_of p.place entry
   pub one : competes m entry ≡ true
   pub most : (k : ℕ) (e : Entry) → EntryAt es k e → competes m e ≡ true → e.steps * p.limit ≤ p.steps * e.limit
   pub first : (k : ℕ) (e : Entry) → EntryAt es k e → competes m e ≡ true → k < p.place
@@ -26,7 +26,7 @@ pub record HighestAt (m : ℕ) (es : List Entry) (p : Peak) : Type 0 where
 
 pub data IsHighest (m : ℕ) (es : List Entry) (p : Peak) : Type 0 where
   some : HighestAt m es p → IsHighest m es p
-  nothing : p ≡ noPeak → ((k : ℕ) (e : Entry) → EntryAt es k e → competes m e ≢ true) → IsHighest m es p
+  nothing : p ≡ no_peak → ((k : ℕ) (e : Entry) → EntryAt es k e → competes m e ≢ true) → IsHighest m es p
 
 -- a field is a row, by its degree
 pub data HighestEach (es : List Entry) : List (ℕ × ℕ) → List FieldFigures → Type 0 where

@@ -3,8 +3,8 @@
 ghost use Rattle.std.specs.Prelude.{◌≡◌, ◌+◌, ◌*◌, ◌^◌, ◌<◌, true};
 ghost use Rattle.field.specs.Rows.{known};
 ghost use Rattle.job_sheet.specs.Figures.{better};
-ghost use Rattle.job_sheet.specs.Calls.{total_of, toldHighest, toldField, Word, Sheets};
-ghost use Rattle.job_sheet.specs.Adding.{place_of, risen, noFigures, withAccepted, withRefused, endedSheet};
+ghost use Rattle.job_sheet.specs.Calls.{total_of, told_highest, told_field, Word, Sheets};
+ghost use Rattle.job_sheet.specs.Adding.{place_of, risen, no_figures, with_accepted, with_refused, ended_sheet};
 ghost use Rattle.job_sheet.specs.Adding.{JobStands, CountedIs, RoomForRecord, RoomForRefusal};
 
 use field::rows::{FIELDS, ROWS};
@@ -83,7 +83,7 @@ fn crossed(steps: u16, limit: u16) -> u32
 
 // The higher of two against their limits, the first where they stand equally high; where one is none, the other.
 fn higher(a: Highest, b: Highest) -> Highest
-    ensures { toldHighest result ≡ better (toldHighest a) (toldHighest b) }
+    ensures { told_highest result ≡ better (told_highest a) (told_highest b) }
 {
     if a.limit == 0 {
         return b;
@@ -96,7 +96,7 @@ fn higher(a: Highest, b: Highest) -> Highest
 
 // The highest with one record more, which competes where it has a limit.
 fn risen(a: Highest, b: Highest) -> Highest
-    ensures { toldHighest result ≡ risen (toldHighest a) (toldHighest b) }
+    ensures { told_highest result ≡ risen (told_highest a) (told_highest b) }
 {
     if 0 < b.limit {
         return higher(a, b);
@@ -122,7 +122,7 @@ fn plus(t: Total, steps: u64) -> Total
 // A field's line with one accepted record more, the k-th of the file.
 fn with_accepted(line: FieldLine, k: u64, c: Counted) -> FieldLine
     requires { RoomForRecord line c }
-    ensures { (toldField result ≡ withAccepted (toldField line) k c.roots c.steps c.limit) × Word result }
+    ensures { (told_field result ≡ with_accepted (told_field line) k c.roots c.steps c.limit) × Word result }
 {
     let refused = line.refused;
     let before = line.steps;
@@ -146,7 +146,7 @@ fn with_accepted(line: FieldLine, k: u64, c: Counted) -> FieldLine
 // A field's line with one record more that is refused under a number from 2 to 6.
 fn with_refused(line: FieldLine, number: u16) -> FieldLine
     requires { RoomForRefusal line number }
-    ensures { (toldField result ≡ withRefused (toldField line) number) × Word result }
+    ensures { (told_field result ≡ with_refused (told_field line) number) × Word result }
 {
     let i = (number as usize) - 2;
     let mut more = line;
@@ -174,7 +174,7 @@ fn count_job(file: &[u8], job: Job) -> Counted
 
 // A line with nothing counted.
 fn empty_line() -> FieldLine
-    ensures { toldField result ≡ noFigures }
+    ensures { told_field result ≡ no_figures }
 {
     let steps = Total { high: 0, low: 0 };
     let highest = Highest {
@@ -193,7 +193,7 @@ fn empty_line() -> FieldLine
 
 // The sheet where reading ends, which 11 or 12 may have stopped; 0 is neither.
 fn ended(lines: [FieldLine; FIELDS], unknown: u64, number: u16) -> Sheet
-    ensures { result ≡ endedSheet lines unknown number }
+    ensures { result ≡ ended_sheet lines unknown number }
 {
     let mut sheet = Sheet {
         lines,

@@ -2,14 +2,14 @@
 // by a line feed.
 ghost use Rattle.std.specs.Prelude.{◌+◌, ◌*◌, ◌≤◌, [], ◌∷◌, ◌++◌, length};
 ghost use Rattle.job_text.specs.Lines.{spaced, Wrote};
-ghost use Rattle.job_sheet.specs.Calls.{toldHighest, toldField};
-ghost use Rattle.job_sheet.specs.Text.{highestText, fieldText, apartText, fieldRoom, apartRoom};
+ghost use Rattle.job_sheet.specs.Calls.{told_highest, told_field};
+ghost use Rattle.job_sheet.specs.Text.{highest_text, field_text, apart_text, field_room, apart_room};
 ghost use Rattle.job_sheet.specs.Text.{FitsLine};
 
 use crate::{FieldLine, Highest};
 use job_text::{decimal, put_byte, put_bytes, put_numbers, put_spaced};
 
-// The most bytes that a line has (specs/Text.antt `fieldRoom`).
+// The most bytes that a line has (specs/Text.antt `field_room`).
 pub const FIELD_LINE: usize = 6 + 21 * 11;
 
 pub const APART_LINE: usize = 19 + 21 * 3;
@@ -17,7 +17,7 @@ pub const APART_LINE: usize = 19 + 21 * 3;
 // Writes the highest record, or three dashes, to out from `at` on; the place behind.
 fn put_highest(highest: Highest, at: usize, out: &mut [u8]) -> usize
     requires { at + 21 * 3 ≤ length out.old }
-    ensures { Wrote (highestText (toldHighest highest)) at out.old result out.new
+    ensures { Wrote (highest_text (told_highest highest)) at out.old result out.new
         × (result ≤ at + 21 * 3) }
 {
     if highest.limit == 0 {
@@ -33,9 +33,9 @@ fn put_highest(highest: Highest, at: usize, out: &mut [u8]) -> usize
 
 // Writes the line of the field of degree m to the front of out; its length.
 pub fn field_line(m: u16, line: FieldLine, out: &mut [u8]) -> usize
-    requires { (fieldRoom ≤ length out.old) × FitsLine line }
-    ensures { Wrote (fieldText m (toldField line)) 0 out.old result out.new
-        × (result ≤ fieldRoom) }
+    requires { (field_room ≤ length out.old) × FitsLine line }
+    ensures { Wrote (field_text m (told_field line)) 0 out.old result out.new
+        × (result ≤ field_room) }
 {
     let refused = line.refused;
     let total = line.steps;
@@ -60,9 +60,9 @@ fn put_labelled(word: &[u8], x: u64, at: usize, out: &mut [u8]) -> usize
 
 // Writes the last line to the front of out: how many outcomes were 1, 11 and 12; its length.
 pub fn apart_line(unknown: u64, mark: u64, short: u64, out: &mut [u8]) -> usize
-    requires { apartRoom ≤ length out.old }
-    ensures { Wrote (apartText unknown mark short) 0 out.old result out.new
-        × (result ≤ apartRoom) }
+    requires { apart_room ≤ length out.old }
+    ensures { Wrote (apart_text unknown mark short) 0 out.old result out.new
+        × (result ≤ apart_room) }
 {
     let first = put_labelled(b"unknown", unknown, 0, out);
     let second = put_labelled(b" mark", mark, first, out);

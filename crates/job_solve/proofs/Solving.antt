@@ -14,51 +14,51 @@ use Rattle.refusals.specs.Order.{Passed}
 use Rattle.refusals.specs.Order.Passed.{none}
 use Rattle.refusals.proofs.Order.{passes, accepted, passed-both}
 use Rattle.slices.proofs.Lists.{copied-front}
-use Rattle.field.specs.Field.{rootsAt}
-use Rattle.input.specs.Cutoff.{highestCutoff, inForce}
+use Rattle.field.specs.Field.{roots_at}
+use Rattle.input.specs.Cutoff.{highest_cutoff, in_force}
 use Rattle.input.specs.Limit.{limit}
 use Rattle.input.specs.Polynomials.{PolynomialIn}
-use Rattle.input.specs.RootMemory.{roomTests}
+use Rattle.input.specs.RootMemory.{room_tests}
 use Rattle.input.proofs.Polynomials.{polynomial-told}
-use Rattle.table_rules.specs.Demand.{stepsAt}
-use Rattle.find_solve.specs.Calls.{solveTests, solveOutcome}
+use Rattle.table_rules.specs.Demand.{steps_at}
+use Rattle.find_solve.specs.Calls.{solve_tests, solve_outcome}
 use Rattle.find_solve.specs.Solving.{SolvedOut}
 use Rattle.find_solve.proofs.Admitting.{admitted, solved-at}
 use Rattle.find_solve.specs.declared.Counts.{Counts}
 use Rattle.job_records.specs.Layout.{words, part}
 use Rattle.job_records.specs.Cutoffs.{asked}
-use Rattle.job_records.specs.Reading.{Outcome, callTests, toldRead, readAt, Spelled}
+use Rattle.job_records.specs.Reading.{Outcome, call_tests, told_read, read_at, Spelled}
 use Rattle.job_records.specs.declared.Job.{Job}
 use Rattle.job_records.specs.declared.Read.TheVariants.{Record}
 use Rattle.job_records.proofs.Forward.{accepts}
 use Rattle.job_records.proofs.Cutoffs.{asked-stated}
-use Rattle.job_solve.specs.Solving.{cutoffOf, Accepted}
+use Rattle.job_solve.specs.Solving.{cutoff_of, Accepted}
 
 -- the reader's tests, and those of the lists' room behind them
-pub same_tests : (m c : ℕ) (cs roots mults : List ℕ) → callTests m c cs ++ roomTests roots mults ≡ solveTests m c cs roots mults
+pub same_tests : (m c : ℕ) (cs roots mults : List ℕ) → call_tests m c cs ++ room_tests roots mults ≡ solve_tests m c cs roots mults
 same_tests m c cs roots mults = refl
 
 -- so what passes the reader's passes the whole call's
-passes_on : (m c : ℕ) (cs roots mults : List ℕ) → Passed (callTests m c cs) → limit ≤ length roots → limit ≤ length mults → Passed (solveTests m c cs roots mults)
+passes_on : (m c : ℕ) (cs roots mults : List ℕ) → Passed (call_tests m c cs) → limit ≤ length roots → limit ≤ length mults → Passed (solve_tests m c cs roots mults)
 passes_on m c cs roots mults p room beside =
     passed-both p (passes (le-ltb (length roots) limit room) (passes (le-ltb (length mults) limit beside) none))
 
 -- ---- what reading gave
 
-pub record-passes : (file : List ℕ) (at : ℕ) {next m start len : ℕ} {cutoff : List ℕ} → readAt file at ≡ Outcome.gives 0 (next ∷ m ∷ start ∷ len ∷ cutoff)
-    → Passed (callTests m (asked cutoff) (words (part file start len)))
+pub record-passes : (file : List ℕ) (at : ℕ) {next m start len : ℕ} {cutoff : List ℕ} → read_at file at ≡ Outcome.gives 0 (next ∷ m ∷ start ∷ len ∷ cutoff)
+    → Passed (call_tests m (asked cutoff) (words (part file start len)))
 record-passes file at {m = m} {start} {len} e =
     let a = accepts file at e in
-    subst (λ c. Passed (callTests m c (words (part file start len)))) (sym (ap asked a.cutoff-is ∙ asked-stated (get_or file (at + 3) 0))) a.tests
+    subst (λ c. Passed (call_tests m c (words (part file start len)))) (sym (ap asked a.cutoff-is ∙ asked-stated (get_or file (at + 3) 0))) a.tests
 
-pub record-accepted : (file : List ℕ) (at : ℕ) {next m start len : ℕ} {cutoff : List ℕ} → readAt file at ≡ Outcome.gives 0 (next ∷ m ∷ start ∷ len ∷ cutoff)
-    → (roots mults : List ℕ) → limit ≤ length roots → limit ≤ length mults → solveOutcome m (asked cutoff) (words (part file start len)) roots mults
-    ≡ (0, length (rootsAt m (words (part file start len))) ∷ stepsAt m (asked cutoff) (words (part file start len)) ∷ [])
+pub record-accepted : (file : List ℕ) (at : ℕ) {next m start len : ℕ} {cutoff : List ℕ} → read_at file at ≡ Outcome.gives 0 (next ∷ m ∷ start ∷ len ∷ cutoff)
+    → (roots mults : List ℕ) → limit ≤ length roots → limit ≤ length mults → solve_outcome m (asked cutoff) (words (part file start len)) roots mults
+    ≡ (0, length (roots_at m (words (part file start len))) ∷ steps_at m (asked cutoff) (words (part file start len)) ∷ [])
 record-accepted file at {m = m} {start} {len} {cutoff} e roots mults room beside =
     accepted _ (passes_on m (asked cutoff) (words (part file start len)) roots mults (record-passes file at e) room beside)
 
 -- with its coefficient bytes
-pub job-accepted : (file : List ℕ) (at : ℕ) {j : Job} {bytes : List ℕ} → toldRead (Record j) ≡ readAt file at → bytes ≡ part file j.start j.len
+pub job-accepted : (file : List ℕ) (at : ℕ) {j : Job} {bytes : List ℕ} → told_read (Record j) ≡ read_at file at → bytes ≡ part file j.start j.len
     → Accepted j (words bytes)
 job-accepted file at {j} e b = subst (λ bs. Accepted j (words bs)) (sym b) (record { passed = record-passes file at (sym e) })
 
@@ -72,17 +72,17 @@ module _ {n : ℕ} {bytes room after : List ℕ} (h : Spelled bytes room n after
   front : take n after ≡ words bytes
   front = ap (take n) h.slots ∙ copied-front (words bytes) room (sym h.count)
 
-  module _ {j : Job} {k : ℕ} (p : Accepted j (words bytes)) (e : k ≡ inForce (cutoffOf j)) where
+  module _ {j : Job} {k : ℕ} (p : Accepted j (words bytes)) (e : k ≡ in_force (cutoff_of j)) where
     -- what the engine asks
     pub solve-asks : (list : List ℕ) → limit ≤ length list
-        → PolynomialIn j.m (take n after) × (1 ≤ k) × (k ≤ highestCutoff) × (limit ≤ length list)
+        → PolynomialIn j.m (take n after) × (1 ≤ k) × (k ≤ highest_cutoff) × (limit ≤ length list)
     unfolding front
     solve-asks list l =
-        admitted j.m (cutoffOf j) (take n after) list
-        (subst (λ cs. Passed (solveTests j.m (cutoffOf j) cs list list)) (sym front) (passes_on j.m (cutoffOf j) (words bytes) list list p.passed l l)) e
+        admitted j.m (cutoff_of j) (take n after) list
+        (subst (λ cs. Passed (solve_tests j.m (cutoff_of j) cs list list)) (sym front) (passes_on j.m (cutoff_of j) (words bytes) list list p.passed l l)) e
 
     -- it gives the roots and the steps
     pub solved-spelled : {r : Counts} {list list' : List ℕ} → SolvedOut j.m k (take n after) list r list'
-        → SolvedOut j.m (inForce (cutoffOf j)) (words bytes) list r list'
+        → SolvedOut j.m (in_force (cutoff_of j)) (words bytes) list r list'
     unfolding front
-    solved-spelled {r} {list} {list'} o = subst (λ cs. SolvedOut j.m (inForce (cutoffOf j)) cs list r list') front (solved-at e o)
+    solved-spelled {r} {list} {list'} o = subst (λ cs. SolvedOut j.m (in_force (cutoff_of j)) cs list r list') front (solved-at e o)

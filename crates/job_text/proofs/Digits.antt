@@ -17,7 +17,7 @@ use lib.ListN.{length, get_or, length-append, get_or-append}
 use mathlib.Core.Bool.{Bool, true, false, cond}
 use mathlib.Core.Logic.{◌⊎◌, inl, inr, ⊎_elim}
 use lib.Dec.{ltb}
-use Rattle.job_text.specs.Lines.{digitByte, decimalIn, decimal}
+use Rattle.job_text.specs.Lines.{digit_byte, decimal_in, decimal}
 
 -- ---- the tenth
 
@@ -34,27 +34,27 @@ tenth : (n x : ℕ) → x < 10 ^ suc (suc n) → x / 10 < 10 ^ suc n
 tenth n x h = let p : x < 10 ^ suc n * 10 = rw pow-suc at h in omega arith
 
 -- more divisions than are needed change nothing
-enough : (n m x : ℕ) → x ≤ n → x ≤ m → decimalIn n x ≡ decimalIn m x
-unfolding decimalIn
+enough : (n m x : ℕ) → x ≤ n → x ≤ m → decimal_in n x ≡ decimal_in m x
+unfolding decimal_in
 enough zero zero x h k = refl
 enough zero (suc m) x h k = rw (lt-ltb x 10 (omega arith))
 enough (suc n) zero x h k = rw (lt-ltb x 10 (omega arith))
-enough (suc n) (suc m) x h k = ap (λ l. cond (ltb x 10) (digitByte x ∷ []) (l ++ (digitByte (x % 10) ∷ []))) (enough n m (x / 10) (omega arith) (omega arith))
+enough (suc n) (suc m) x h k = ap (λ l. cond (ltb x 10) (digit_byte x ∷ []) (l ++ (digit_byte (x % 10) ∷ []))) (enough n m (x / 10) (omega arith) (omega arith))
 
-pub decimal-small : (x : ℕ) → x < 10 → decimal x ≡ digitByte x ∷ []
-unfolding decimal decimalIn
+pub decimal-small : (x : ℕ) → x < 10 → decimal x ≡ digit_byte x ∷ []
+unfolding decimal decimal_in
 decimal-small zero h = refl
 decimal-small (suc x) h = rw (lt-ltb (suc x) 10 h)
 
-pub decimal-large : (x : ℕ) → 10 ≤ x → decimal x ≡ decimal (x / 10) ++ (digitByte (x % 10) ∷ [])
-unfolding decimal decimalIn
+pub decimal-large : (x : ℕ) → 10 ≤ x → decimal x ≡ decimal (x / 10) ++ (digit_byte (x % 10) ∷ [])
+unfolding decimal decimal_in
 decimal-large zero h = absurd (omega arith)
 decimal-large (suc x) h =
-    rw (le-ltb (suc x) 10 h) (ap (λ l. l ++ (digitByte (suc x % 10) ∷ [])) (enough x (suc x / 10) (suc x / 10) (omega arith) (omega arith)))
+    rw (le-ltb (suc x) 10 h) (ap (λ l. l ++ (digit_byte (suc x % 10) ∷ [])) (enough x (suc x / 10) (suc x / 10) (omega arith) (omega arith)))
 
 -- what holds of one digit, and of a tenth's digits with one more, holds of all
-module _ (P : ℕ → List ℕ → Type 0) (small : (x : ℕ) → x < 10 → P x (digitByte x ∷ []))
-    (large : (x : ℕ) → 10 ≤ x → P (x / 10) (decimal (x / 10)) → P x (decimal (x / 10) ++ (digitByte (x % 10) ∷ []))) where
+module _ (P : ℕ → List ℕ → Type 0) (small : (x : ℕ) → x < 10 → P x (digit_byte x ∷ []))
+    (large : (x : ℕ) → 10 ≤ x → P (x / 10) (decimal (x / 10)) → P x (decimal (x / 10) ++ (digit_byte (x % 10) ∷ []))) where
   by-bound : (n x : ℕ) → x ≤ n → P x (decimal x)
   by-bound zero x h = rw (decimal-small x (omega arith)) (small x (omega arith))
   by-bound (suc n) x h =
@@ -83,7 +83,7 @@ decimal-long = by-tenths (λ x l. 1 ≤ length l) (λ x h. omega arith) (λ x h 
 
 pub data DigitBytes : List ℕ → Type 0 where
   none : DigitBytes []
-  one : {d : ℕ} {l : List ℕ} → d < 10 → DigitBytes l → DigitBytes (digitByte d ∷ l)
+  one : {d : ℕ} {l : List ℕ} → d < 10 → DigitBytes l → DigitBytes (digit_byte d ∷ l)
 
 digits_append : {s t : List ℕ} → DigitBytes s → DigitBytes t → DigitBytes (s ++ t)
 digits_append none q = q
@@ -92,21 +92,21 @@ digits_append (one h p) q = one h (digits_append p q)
 pub decimal-digits : (x : ℕ) → DigitBytes (decimal x)
 decimal-digits = by-tenths (λ x l. DigitBytes l) (λ x h. one h none) (λ x h p. digits_append p (one (omega arith) none))
 
-pub decimal-lead : (x : ℕ) → 0 < x → digitByte 0 < get_or (decimal x) 0 0
-decimal-lead = by-tenths (λ x l. 0 < x → digitByte 0 < get_or l 0 0) (λ x h p. omega arith)
-    (λ x h p q. rw (get_or-append (decimal (x / 10)) (digitByte (x % 10) ∷ []) 0 0 (decimal-long (x / 10))) (p (omega arith)))
+pub decimal-lead : (x : ℕ) → 0 < x → digit_byte 0 < get_or (decimal x) 0 0
+decimal-lead = by-tenths (λ x l. 0 < x → digit_byte 0 < get_or l 0 0) (λ x h p. omega arith)
+    (λ x h p q. rw (get_or-append (decimal (x / 10)) (digit_byte (x % 10) ∷ []) 0 0 (decimal-long (x / 10))) (p (omega arith)))
 
 -- ---- what they spell
 
 -- digit after digit, the highest first, behind what was read before
 pub spell : ℕ → List ℕ → ℕ
 spell n [] = n
-spell n (b ∷ l) = spell (n * 10 + (b - digitByte 0)) l
+spell n (b ∷ l) = spell (n * 10 + (b - digit_byte 0)) l
 
 spell-append : (n : ℕ) (s t : List ℕ) → spell n (s ++ t) ≡ spell (spell n s) t
 unfolding spell
 spell-append n [] t = refl
-spell-append n (b ∷ s) t = spell-append (n * 10 + (b - digitByte 0)) s t
+spell-append n (b ∷ s) t = spell-append (n * 10 + (b - digit_byte 0)) s t
 
 pub decimal-value : (x : ℕ) → spell 0 (decimal x) ≡ x
 unfolding spell

@@ -1,6 +1,6 @@
 -- How long a line is.
 --   spaced-short   numbers of 16 bits, each behind its space, have at most six bytes each
---   line-short     a line has at most the bytes that `lineRoom` says
+--   line-short     a line has at most the bytes that `line_room` says
 -- Assumes nothing.
 use mathlib.Core.Bool.{Bool, true, false, cond}
 use mathlib.Core.List.{List, [], ◌∷◌, ◌++◌}
@@ -8,7 +8,7 @@ use Prim.Native.Nat.{ℕ, zero, suc, ◌+◌, ◌*◌, ◌≤◌, ◌<◌}
 use native.Mathlib.Omega.{arith}
 use lib.Dec.{eqb}
 use lib.ListN.{length, get_or, length-append}
-use Rattle.job_text.specs.Lines.{decimal, spaced, lineFeed, line_of, lineRoom}
+use Rattle.job_text.specs.Lines.{decimal, spaced, line_feed, line_of, line_room}
 use Rattle.job_text.proofs.Writing.{five-digits, ten-digits}
 
 spaced-short : (xs : List ℕ) → ((i : ℕ) → i < length xs → get_or xs i 0 < 65536) → length (spaced xs) ≤ 6 * length xs
@@ -22,16 +22,16 @@ spaced-short (x ∷ xs) h =
 
 -- a line of a number, an outcome and what stands behind it
 parts-short : (k : ℕ) (xs : List ℕ) → k < 4294967296 → ((i : ℕ) → i < length xs → get_or xs i 0 < 65536)
-    → length (decimal k ++ (spaced xs ++ (lineFeed ∷ []))) ≤ 11 + 6 * length xs
+    → length (decimal k ++ (spaced xs ++ (line_feed ∷ []))) ≤ 11 + 6 * length xs
 parts-short k xs hk h =
-    let e = length-append (decimal k) (spaced xs ++ (lineFeed ∷ [])) in
-    let f = length-append (spaced xs) (lineFeed ∷ []) in
+    let e = length-append (decimal k) (spaced xs ++ (line_feed ∷ [])) in
+    let f = length-append (spaced xs) (line_feed ∷ []) in
     let a = ten-digits k hk in
     let b = spaced-short xs h in
     omega arith
 
 pub line-short : (k outcome steps : ℕ) (roots : List ℕ) → k < 4294967296 → outcome < 65536 → length roots < 65536 → steps < 65536
-    → ((i : ℕ) → i < length roots → get_or roots i 0 < 65536) → length (line_of k outcome steps roots) ≤ lineRoom (length roots)
+    → ((i : ℕ) → i < length roots → get_or roots i 0 < 65536) → length (line_of k outcome steps roots) ≤ line_room (length roots)
 line-short k outcome steps roots hk ho hn hs h = go (eqb outcome 0)
   where
     all : (i : ℕ) → i < length (outcome ∷ length roots ∷ steps ∷ roots) → get_or (outcome ∷ length roots ∷ steps ∷ roots) i 0 < 65536
@@ -44,6 +44,6 @@ line-short k outcome steps roots hk ho hn hs h = go (eqb outcome 0)
     one zero l = ho
     one (suc i) l = absurd (let b : ⊥ = omega arith in b)
 
-    go : (b : Bool) → length (decimal k ++ (spaced (outcome ∷ cond b (length roots ∷ steps ∷ roots) []) ++ (lineFeed ∷ []))) ≤ lineRoom (length roots)
+    go : (b : Bool) → length (decimal k ++ (spaced (outcome ∷ cond b (length roots ∷ steps ∷ roots) []) ++ (line_feed ∷ []))) ≤ line_room (length roots)
     go true = omega (arith, parts-short k (outcome ∷ length roots ∷ steps ∷ roots) hk all)
     go false = omega (arith, parts-short k (outcome ∷ []) hk one)

@@ -22,7 +22,7 @@ use lib.ListN.{length, get_or, take, drop, set, length-append, length-set, take-
 use lib.Seq.{set_split, take-suc, take-length, drop-append-add, drop-drop, length-take-le}
 use Rattle.slices.specs.Lists.{pasted}
 use Rattle.slices.proofs.Lists.{length-pasted, pasted-front}
-use Rattle.job_text.specs.Lines.{digitByte, space, lineFeed, decimal, spaced, line_of, Wrote}
+use Rattle.job_text.specs.Lines.{digit_byte, space, line_feed, decimal, spaced, line_of, Wrote}
 use Rattle.job_text.proofs.Digits.{decimal-short, decimal-small, decimal-large}
 
 -- what is behind a text is as it was
@@ -72,13 +72,13 @@ pub small-long : (x : ℕ) → x < 10 → length (decimal x) ≡ 1
 small-long x h = ap length (decimal-small x h)
 
 pub large-long : (x : ℕ) → 10 ≤ x → length (decimal x) ≡ length (decimal (x / 10)) + 1
-large-long x h = ap length (decimal-large x h) ∙ length-append (decimal (x / 10)) (digitByte (x % 10) ∷ [])
+large-long x h = ap length (decimal-large x h) ∙ length-append (decimal (x / 10)) (digit_byte (x % 10) ∷ [])
 
-pub wrote-small : {x at end : ℕ} {s s' : List ℕ} → x < 10 → Wrote (digitByte x ∷ []) at s end s' → Wrote (decimal x) at s end s'
+pub wrote-small : {x at end : ℕ} {s s' : List ℕ} → x < 10 → Wrote (digit_byte x ∷ []) at s end s' → Wrote (decimal x) at s end s'
 wrote-small {x} h p = rw (decimal-small x h) p
 
 pub wrote-large : {x at end end' : ℕ} {s s' s'' : List ℕ} → 10 ≤ x → at ≤ length s → Wrote (decimal (x / 10)) at s end s'
-    → Wrote (digitByte (x % 10) ∷ []) end s' end' s'' → Wrote (decimal x) at s end' s''
+    → Wrote (digit_byte (x % 10) ∷ []) end s' end' s'' → Wrote (decimal x) at s end' s''
 wrote-large {x} h l p q = rw (decimal-large x h) (wrote_then l p q)
 
 -- ---- numbers behind a space
@@ -205,17 +205,17 @@ row-all {w} {at} {end} {i} {xs} {old} {new} r h =
 
 module _ (k outcome steps : ℕ) (roots : List ℕ) {a b : ℕ} {s s₁ s₂ : List ℕ}
     (p : Wrote (decimal k) 0 s a s₁) (q : Wrote (spaced (outcome ∷ [])) a s₁ b s₂) where
-  pub line_refused : {e : ℕ} {s₃ : List ℕ} → (outcome ≡ 0 → ⊥) → Wrote (lineFeed ∷ []) b s₂ e s₃ → Wrote (line_of k outcome steps roots) 0 s e s₃
+  pub line_refused : {e : ℕ} {s₃ : List ℕ} → (outcome ≡ 0 → ⊥) → Wrote (line_feed ∷ []) b s₂ e s₃ → Wrote (line_of k outcome steps roots) 0 s e s₃
   line_refused n f =
       rw (ne_eqb outcome 0 n, ← append_assoc) (wrote_then (omega arith) (wrote_then (omega arith) p q) f)
 
   pub line-accepted : {c d e end : ℕ} {s₃ s₄ s₅ s₆ : List ℕ} → outcome ≡ 0 → Wrote (spaced (length roots ∷ [])) b s₂ c s₃
-      → Wrote (spaced (steps ∷ [])) c s₃ d s₄ → Wrote (spaced roots) d s₄ e s₅ → Wrote (lineFeed ∷ []) e s₅ end s₆
+      → Wrote (spaced (steps ∷ [])) c s₃ d s₄ → Wrote (spaced roots) d s₄ e s₅ → Wrote (line_feed ∷ []) e s₅ end s₆
       → Wrote (line_of k outcome steps roots) 0 s end s₆
   line-accepted {end = end} {s₆ = s₆} z f g h l =
       subst (λ t. Wrote t 0 s end s₆) (sym apart)
       (wrote_then (omega arith) (wrote_then (omega arith) (wrote_then (omega arith) (wrote_then (omega arith) (wrote_then (omega arith) p q) f) g) h) l)
     where
       apart : line_of k outcome steps roots
-          ≡ ((((decimal k ++ spaced (outcome ∷ [])) ++ spaced (length roots ∷ [])) ++ spaced (steps ∷ [])) ++ spaced roots) ++ (lineFeed ∷ [])
+          ≡ ((((decimal k ++ spaced (outcome ∷ [])) ++ spaced (length roots ∷ [])) ++ spaced (steps ∷ [])) ++ spaced roots) ++ (line_feed ∷ [])
       apart = rw (eq-eqb outcome 0 z, spaced-append (outcome ∷ []) (length roots ∷ steps ∷ roots), spaced-append (length roots ∷ []) (steps ∷ roots), spaced-append (steps ∷ []) roots) (simp append_assoc)

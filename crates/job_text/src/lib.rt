@@ -1,10 +1,10 @@
 // The text of a line (docs/RULES.md section 6.2): numbers in decimal with one space between, ended by a line feed.
 ghost use Rattle.std.specs.Prelude.{◌+◌, ◌*◌, ◌≤◌, [], ◌∷◌, length, take};
-ghost use Rattle.job_text.specs.Lines.{decimal, spaced, line_of, lineRoom, Wrote};
+ghost use Rattle.job_text.specs.Lines.{decimal, spaced, line_of, line_room, Wrote};
 
 use input::LIMIT;
 
-// The most bytes that a line has (specs/Lines.antt `longestLine`): it has as many roots as the limit.
+// The most bytes that a line has (specs/Lines.antt `longest_line`): it has as many roots as the limit.
 pub const LINE: usize = 29 + 6 * LIMIT;
 
 // Writes a byte to out at `at`; the place behind it.
@@ -80,7 +80,7 @@ fn put_roots(s: usize, roots: &[u16], at: usize, out: &mut [u8]) -> usize
 // the first s of the roots.
 // Its length.
 pub fn line(k: u32, outcome: u16, s: u16, steps: u16, roots: &[u16], out: &mut [u8]) -> usize
-    requires { (s ≤ length roots.now) × (lineRoom s ≤ length out.old) }
+    requires { (s ≤ length roots.now) × (line_room s ≤ length out.old) }
     ensures { Wrote (line_of k outcome steps (take s roots.now))
         0 out.old result out.new }
 {

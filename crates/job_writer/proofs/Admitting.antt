@@ -16,15 +16,15 @@ use Rattle.field.specs.Rows.{IsRow, known}
 use Rattle.field.specs.declared.rows.Row.{Row}
 use Rattle.field.proofs.Known.{listed-on}
 use Rattle.slices.specs.Bounded.{all_below}
-use Rattle.slices.proofs.Bounded.{allBelow-exactly}
-use Rattle.input.specs.Cutoff.{highestCutoff}
+use Rattle.slices.proofs.Bounded.{all_below-exactly}
+use Rattle.input.specs.Cutoff.{highest_cutoff}
 use Rattle.input.specs.Limit.{limit}
-use Rattle.job_writer.specs.Records.{lengthFor}
-use Rattle.job_writer.specs.Calls.{ascends, writeTests, Writable}
+use Rattle.job_writer.specs.Records.{length_for}
+use Rattle.job_writer.specs.Calls.{ascends, write_tests, Writable}
 use Rattle.job_writer.proofs.RootOrder.{ascends-exactly}
 
 module _ {m : ℕ} {row : Row} (c : ℕ) (roots : List ℕ) (room : ℕ) (i : IsRow m row) where
-  pub long-given : limit < length roots → Given 3 (writeTests m c roots room)
+  pub long-given : limit < length roots → Given 3 (write_tests m c roots room)
   long-given h = fails (listed-on i) (holds (lt-ltb limit (length roots) h))
 
   module _ (f : length roots ≤ limit) where
@@ -36,33 +36,33 @@ module _ {m : ℕ} {row : Row} (c : ℕ) (roots : List ℕ) (room : ℕ) (i : Is
         → Given k ((1, not (known m)) ∷ (3, ltb limit (length roots)) ∷ ts)
     few g = fails (listed-on i) (fails (le-ltb limit (length roots) f) g)
 
-    pub element-given : {b : Bool} → b ≡ all_below row.size roots → not b ≡ true → Given 4 (writeTests m c roots room)
+    pub element-given : {b : Bool} → b ≡ all_below row.size roots → not b ≡ true → Given 4 (write_tests m c roots room)
     element-given h t = few (holds (ap not (at_size h) ∙ t))
 
     module _ {b : Bool} (h : b ≡ all_below row.size roots) (t : not b ≡ false) where
       inside : not (all_below (2 ^ m) roots) ≡ false
       inside = ap not (at_size h) ∙ t
 
-      pub order-given : {a : Bool} → a ≡ ascends roots → not a ≡ true → Given 25 (writeTests m c roots room)
+      pub order-given : {a : Bool} → a ≡ ascends roots → not a ≡ true → Given 25 (write_tests m c roots room)
       order-given e n = few (fails inside (holds (ap not (sym e) ∙ n)))
 
       module _ {a : Bool} (e : a ≡ ascends roots) (o : not a ≡ false) where
-        pub cutoff-given : highestCutoff < c → Given 6 (writeTests m c roots room)
-        cutoff-given l = few (fails inside (fails (ap not (sym e) ∙ o) (holds (lt-ltb highestCutoff c l))))
+        pub cutoff-given : highest_cutoff < c → Given 6 (write_tests m c roots room)
+        cutoff-given l = few (fails inside (fails (ap not (sym e) ∙ o) (holds (lt-ltb highest_cutoff c l))))
 
-        module _ (l : c ≤ highestCutoff) where
-          pub room-given : room < lengthFor (length roots) → Given 7 (writeTests m c roots room)
+        module _ (l : c ≤ highest_cutoff) where
+          pub room-given : room < length_for (length roots) → Given 7 (write_tests m c roots room)
           room-given r =
-              few (fails inside (fails (ap not (sym e) ∙ o) (fails (le-ltb highestCutoff c l)
-              (holds (lt-ltb room (lengthFor (length roots)) r)))))
+              few (fails inside (fails (ap not (sym e) ∙ o) (fails (le-ltb highest_cutoff c l)
+              (holds (lt-ltb room (length_for (length roots)) r)))))
 
-          pub all_in : lengthFor (length roots) ≤ room → Passed (writeTests m c roots room)
+          pub all_in : length_for (length roots) ≤ room → Passed (write_tests m c roots room)
           all_in r =
               passes (listed-on i) (passes (le-ltb limit (length roots) f) (passes inside (passes (ap not (sym e) ∙ o)
-              (passes (le-ltb highestCutoff c l) (passes (le-ltb room (lengthFor (length roots)) r) none)))))
+              (passes (le-ltb highest_cutoff c l) (passes (le-ltb room (length_for (length roots)) r) none)))))
 
 -- what was let in passed every test
-pub writable : {m c : ℕ} {roots room : List ℕ} → Passed (writeTests m c roots (length room)) → Writable m c roots room
+pub writable : {m c : ℕ} {roots room : List ℕ} → Passed (write_tests m c roots (length room)) → Writable m c roots room
 writable {m} {c} {roots} {room} p =
     let q = others p in
     let r = others q in
@@ -71,8 +71,8 @@ writable {m} {c} {roots} {room} p =
     record {
       field = not-false _ (failed p);
       few = ltb-false limit (length roots) (failed q);
-      small = (allBelow-exactly (2 ^ m) roots).0 (not-false _ (failed r));
+      small = (all_below-exactly (2 ^ m) roots).0 (not-false _ (failed r));
       order = (ascends-exactly roots).0 (not-false _ (failed s));
-      cutoff = ltb-false highestCutoff c (failed t);
-      fits = ltb-false (length room) (lengthFor (length roots)) (failed (others t));
+      cutoff = ltb-false highest_cutoff c (failed t);
+      fits = ltb-false (length room) (length_for (length roots)) (failed (others t));
     }

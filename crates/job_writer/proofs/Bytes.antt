@@ -1,6 +1,6 @@
 -- Numbers as bytes, two each.
---   length-wordBytes   twice as many bytes as numbers
---   wordBytes-append   the bytes of two lists, one behind the other
+--   length-word_bytes   twice as many bytes as numbers
+--   word_bytes-append   the bytes of two lists, one behind the other
 --   words_back         two bytes each spell the numbers again
 -- Assumes nothing.
 use mathlib.Core.Path.{◌≡◌, refl, ap, ap₂}
@@ -12,15 +12,15 @@ use lib.ListN.{length}
 use Rattle.job_records.specs.Layout.{word, words}
 use Rattle.job_writer.specs.Records.{word_bytes}
 
-pub length-wordBytes : (ws : List ℕ) → length (word_bytes ws) ≡ 2 * length ws
+pub length-word_bytes : (ws : List ℕ) → length (word_bytes ws) ≡ 2 * length ws
 unfolding word_bytes
-length-wordBytes [] = refl
-length-wordBytes (w ∷ ws) = omega (arith, length-wordBytes ws)
+length-word_bytes [] = refl
+length-word_bytes (w ∷ ws) = omega (arith, length-word_bytes ws)
 
-pub wordBytes-append : (s t : List ℕ) → word_bytes (s ++ t) ≡ word_bytes s ++ word_bytes t
+pub word_bytes-append : (s t : List ℕ) → word_bytes (s ++ t) ≡ word_bytes s ++ word_bytes t
 unfolding word_bytes
-wordBytes-append [] t = refl
-wordBytes-append (w ∷ s) t = ap (λ l. w % 256 ∷ w / 256 ∷ l) (wordBytes-append s t)
+word_bytes-append [] t = refl
+word_bytes-append (w ∷ s) t = ap (λ l. w % 256 ∷ w / 256 ∷ l) (word_bytes-append s t)
 
 -- of any number, however large
 word_back : (w : ℕ) → word (w % 256) (w / 256) ≡ w

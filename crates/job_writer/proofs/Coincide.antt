@@ -11,8 +11,8 @@ use Rattle.refusals.specs.Order.{outcome, memory}
 use Rattle.refusals.proofs.Numbers.{by_number, refused-back}
 use Rattle.refusals.proofs.Told.{way_back, coincide}
 use Rattle.slices.specs.Lists.{copied}
-use Rattle.job_writer.specs.Records.{recordOf, lengthFor}
-use Rattle.job_writer.specs.Calls.{writeTests, toldWritten, Writes}
+use Rattle.job_writer.specs.Records.{record_of, length_for}
+use Rattle.job_writer.specs.Calls.{write_tests, told_written, Writes}
 use Rattle.job_writer.specs.declared.Written.{Written}
 use Rattle.job_writer.specs.declared.Written.TheVariants.{Bytes, NotWritten}
 
@@ -22,16 +22,16 @@ written_of (k, []) = by_number NotWritten (Bytes 0) k
 written_of (k, n ∷ more) = Bytes n
 
 -- it takes number and values back
-written_back : (r : Written) → written_of (toldWritten r) ≡ r
+written_back : (r : Written) → written_of (told_written r) ≡ r
 unfolding written_of
 written_back (Bytes n) = refl
 written_back (NotWritten k) = refused-back NotWritten (Bytes 0) k
 
-written-told : (r s : Written) → toldWritten r ≡ toldWritten s → r ≡ s
-written-told = way_back toldWritten written_of written_back
+written-told : (r s : Written) → told_written r ≡ told_written s → r ≡ s
+written-told = way_back told_written written_of written_back
 
 pub write-coincide : (m c : ℕ) (roots room : List ℕ) (r s : Written) (x y : List ℕ)
     → Writes m c roots room r x → Writes m c roots room s y → (r ≡ s) × (x ≡ y)
 write-coincide m c roots room =
-    coincide toldWritten written-told (outcome (writeTests m c roots (length room)) (lengthFor (length roots) ∷ []))
-    (memory (writeTests m c roots (length room)) (copied (recordOf m c roots) room) room)
+    coincide told_written written-told (outcome (write_tests m c roots (length room)) (length_for (length roots) ∷ []))
+    (memory (write_tests m c roots (length room)) (copied (record_of m c roots) room) room)

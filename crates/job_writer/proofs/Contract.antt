@@ -15,40 +15,40 @@ use Rattle.slices.specs.Lists.{copied}
 use Rattle.slices.proofs.Lists.{copied-front, copied_behind}
 use Rattle.job_records.proofs.Forward.{never}
 use Rattle.poly.proofs.RootProducts.{product-long}
-use Rattle.job_writer.specs.Records.{rootPolynomial, recordOf, lengthFor}
-use Rattle.job_writer.specs.Calls.{writeTests, Writes, Writable}
+use Rattle.job_writer.specs.Records.{root_polynomial, record_of, length_for}
+use Rattle.job_writer.specs.Calls.{write_tests, Writes, Writable}
 use Rattle.job_writer.specs.declared.Written.TheVariants.{Bytes}
 use Rattle.job_writer.proofs.Admitting.{writable}
-use Rattle.job_writer.proofs.Bytes.{length-wordBytes}
+use Rattle.job_writer.proofs.Bytes.{length-word_bytes}
 
 -- the head, and two bytes for each coefficient
-pub length-record : (m c : ℕ) (roots : List ℕ) → length (recordOf m c roots) ≡ lengthFor (length roots)
-length-record m c roots = omega (arith, length-wordBytes (rootPolynomial m roots), product-long m roots)
+pub length-record : (m c : ℕ) (roots : List ℕ) → length (record_of m c roots) ≡ length_for (length roots)
+length-record m c roots = omega (arith, length-word_bytes (root_polynomial m roots), product-long m roots)
 
 -- an answer that has written
 pub record Says (m c : ℕ) (roots room : List ℕ) (n : ℕ) (after : List ℕ) : Type 0 where
   pub known : Writable m c roots room
-  pub count : n ≡ lengthFor (length roots)
-  pub holds : after ≡ copied (recordOf m c roots) room
+  pub count : n ≡ length_for (length roots)
+  pub holds : after ≡ copied (record_of m c roots) room
 
 pub bytes-say : (m c : ℕ) (roots room : List ℕ) {n : ℕ} {after : List ℕ} → Writes m c roots room (Bytes n) after
     → Says m c roots room n after
-bytes-say m c roots room {n} {after} h = go (cases (writeTests m c roots (length room)))
+bytes-say m c roots room {n} {after} h = go (cases (write_tests m c roots (length room)))
   where
-    go : ((k : ℕ) × Given k (writeTests m c roots (length room))) ⊎ Passed (writeTests m c roots (length room))
+    go : ((k : ℕ) × Given k (write_tests m c roots (length room))) ⊎ Passed (write_tests m c roots (length room))
         → Says m c roots room n after
     go (inl g) = let f : n ∷ [] ≡ [] = ap (λ o. o.1) (h.0 ∙ refused _ g.1) in never (cc)
     go (inr p) =
-        let f : n ∷ [] ≡ lengthFor (length roots) ∷ [] = ap (λ o. o.1) (h.0 ∙ accepted _ p) in
-        let e : n ≡ lengthFor (length roots) = cc in
+        let f : n ∷ [] ≡ length_for (length roots) ∷ [] = ap (λ o. o.1) (h.0 ∙ accepted _ p) in
+        let e : n ≡ length_for (length roots) = cc in
         record { known = writable p; count = e; holds = h.1 ∙ written _ _ p }
 
 module _ {m c : ℕ} {roots room : List ℕ} {n : ℕ} {after : List ℕ} (s : Says m c roots room n after) where
-  pub record-front : take n after ≡ recordOf m c roots
+  pub record-front : take n after ≡ record_of m c roots
   record-front =
-      ap (take n) s.holds ∙ copied-front (recordOf m c roots) room (length-record m c roots ∙ sym s.count)
+      ap (take n) s.holds ∙ copied-front (record_of m c roots) room (length-record m c roots ∙ sym s.count)
 
   pub nothing-behind : drop n after ≡ drop n room
   nothing-behind =
       ap (drop n) s.holds
-      ∙ copied_behind n (recordOf m c roots) room (omega (arith, length-record m c roots, s.count))
+      ∙ copied_behind n (record_of m c roots) room (omega (arith, length-record m c roots, s.count))

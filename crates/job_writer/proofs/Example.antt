@@ -3,12 +3,12 @@
 -- Assumes nothing.
 use mathlib.Core.Path.{◌≡◌, refl}
 use mathlib.Core.List.{[], ◌∷◌}
-use Rattle.algebra.specs.Polynomial.{add, mul, fromRoots}
-use Rattle.field.specs.Field.{hornerIn, horner, carryFree, cut, reduce, mul as times}
-use Rattle.field.specs.Rows.{polyIn}
-use Rattle.job_writer.specs.Records.{word_bytes, recordOf}
+use Rattle.algebra.specs.Polynomial.{add, mul, from_roots}
+use Rattle.field.specs.Field.{horner_in, horner, carry_free, cut, reduce, mul as times}
+use Rattle.field.specs.Rows.{poly_in}
+use Rattle.job_writer.specs.Records.{word_bytes, record_of}
 
-pub sample-written : recordOf 4 1 (1 ∷ 2 ∷ 3 ∷ [])
+pub sample-written : record_of 4 1 (1 ∷ 2 ∷ 3 ∷ [])
     ≡ 0x4C ∷ 0x52 ∷ 4 ∷ 1 ∷ 4 ∷ 6 ∷ 0 ∷ 7 ∷ 0 ∷ 0 ∷ 0 ∷ 1 ∷ 0 ∷ []
-unfolding word_bytes fromRoots mul add times reduce carryFree horner hornerIn cut polyIn
+unfolding word_bytes from_roots mul add times reduce carry_free horner horner_in cut poly_in
 sample-written = refl

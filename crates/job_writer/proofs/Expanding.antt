@@ -7,23 +7,23 @@ use Prim.Native.Nat.{ℕ}
 use native.Mathlib.Omega.{arith}
 use lib.Bits.{xor_zero_r}
 use lib.ListN.{length, get_or, set}
-use Rattle.algebra.specs.Polynomial.{add, mul, fromRoots}
+use Rattle.algebra.specs.Polynomial.{add, mul, from_roots}
 use Rattle.field.specs.Field.{field_at}
 use Rattle.field.proofs.Known.{listed}
 use Rattle.field.proofs.Generator.{generated, one_below}
 use Rattle.field.proofs.Ring.{ring}
 use Rattle.slices.specs.Lists.{copied}
-use Rattle.job_writer.specs.Records.{rootPolynomial}
+use Rattle.job_writer.specs.Records.{root_polynomial}
 use Rattle.job_writer.specs.Writing.{Expandable}
 
 -- no root
-of_none : (m : ℕ) → rootPolynomial m [] ≡ 1 ∷ []
-unfolding fromRoots
+of_none : (m : ℕ) → root_polynomial m [] ≡ 1 ∷ []
+unfolding from_roots
 of_none m = refl
 
 -- one root
-of_one : {m r : ℕ} {f : List ℕ} → Expandable m (r ∷ []) f → rootPolynomial m (r ∷ []) ≡ r ∷ 1 ∷ []
-unfolding fromRoots mul add
+of_one : {m r : ℕ} {f : List ℕ} → Expandable m (r ∷ []) f → root_polynomial m (r ∷ []) ≡ r ∷ 1 ∷ []
+unfolding from_roots mul add
 of_one {m} {r} x =
     let g = generated (listed m x.field) in
     let laws = ring (field_at m) g.monic in
@@ -32,7 +32,7 @@ of_one {m} {r} x =
 
 -- of no root it is stored at once
 pub expanded-none : {m : ℕ} (roots f : List ℕ) → Expandable m roots f → length roots ≡ 0
-    → set f 0 1 ≡ copied (rootPolynomial m roots) f
+    → set f 0 1 ≡ copied (root_polynomial m roots) f
 unfolding copied
 expanded-none {m} [] [] x e = absurd (let h = x.room in omega arith)
 expanded-none {m} [] (y ∷ f) x e = sym (ap (λ p. copied p (y ∷ f)) (of_none m))
@@ -40,7 +40,7 @@ expanded-none (r ∷ roots) f x e = absurd (omega arith)
 
 -- of one root too
 pub expanded-one : {m : ℕ} (roots f : List ℕ) → Expandable m roots f → length roots ≡ 1
-    → set (set f 0 (get_or roots 0 0)) 1 1 ≡ copied (rootPolynomial m roots) f
+    → set (set f 0 (get_or roots 0 0)) 1 1 ≡ copied (root_polynomial m roots) f
 unfolding copied
 expanded-one [] f x e = absurd (omega arith)
 expanded-one (r ∷ []) [] x e = absurd (let h = x.room in omega arith)

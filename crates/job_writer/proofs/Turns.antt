@@ -20,7 +20,7 @@ use Rattle.job_text.specs.Lines.{Wrote}
 use Rattle.job_text.proofs.Writing.{wrote-byte, wrote_then}
 use Rattle.job_writer.specs.Records.{word_bytes}
 use Rattle.job_writer.specs.Calls.{ascends}
-use Rattle.job_writer.proofs.Bytes.{wordBytes-append}
+use Rattle.job_writer.proofs.Bytes.{word_bytes-append}
 
 -- ---- `ascending`
 
@@ -100,7 +100,7 @@ spell-on {ws} {at} {old} {new} {end} {j} p h = record {
   fits = p.fits;
   long = simp length-set p.long;
   place = omega (arith, p.place);
-  done = rw (add-one j, take-suc ws j 0, wordBytes-append)
+  done = rw (add-one j, take-suc ws j 0, word_bytes-append)
       (wrote_then (omega (arith, p.fits)) p.done (wrote-two (omega (arith, p.place, p.fits, p.long))));
 }
 

@@ -8,12 +8,12 @@ use Rattle.std.specs.Prelude.{◌≡◌, true, List, [], ◌∷◌, ℕ, suc, �
 use Rattle.algebra.specs.Polynomial.{Below}
 use Rattle.field.specs.Rows.{known}
 use Rattle.slices.specs.Lists.{copied}
-use Rattle.job_records.specs.Layout.{markLow, markHigh}
-use Rattle.job_writer.specs.Records.{recordOf, lengthFor}
+use Rattle.job_records.specs.Layout.{mark_low, mark_high}
+use Rattle.job_writer.specs.Records.{record_of, length_for}
 
 -- the mark, m, the cutoff, n
 abbrev pub head_of : ℕ → ℕ → ℕ → List ℕ
-head_of m c n = markLow ∷ markHigh ∷ m ∷ c ∷ n ∷ []
+head_of m c n = mark_low ∷ mark_high ∷ m ∷ c ∷ n ∷ []
 
 pub record Expandable (m : ℕ) (roots f : List ℕ) : Type 0 where
   pub field : known m ≡ true
@@ -21,5 +21,5 @@ pub record Expandable (m : ℕ) (roots f : List ℕ) : Type 0 where
   pub room : suc (length roots) ≤ length f
 
 pub record Recorded (m c : ℕ) (roots room : List ℕ) (n : ℕ) (after : List ℕ) : Type 0 where
-  pub count : n ≡ lengthFor (length roots)
-  pub bytes : after ≡ copied (recordOf m c roots) room
+  pub count : n ≡ length_for (length roots)
+  pub bytes : after ≡ copied (record_of m c roots) room

@@ -5,9 +5,9 @@ ghost use Rattle.std.specs.Prelude.{◌≡◌, ◌+◌, ◌*◌, ◌≤◌, leng
 ghost use Rattle.refusals.specs.Admitting.{Admits};
 ghost use Rattle.slices.specs.Lists.{copied};
 ghost use Rattle.job_text.specs.Lines.{Wrote};
-ghost use Rattle.job_records.specs.Layout.{headLength};
-ghost use Rattle.job_writer.specs.Records.{rootPolynomial, word_bytes};
-ghost use Rattle.job_writer.specs.Calls.{ascends, writeTests, Writes, Writable};
+ghost use Rattle.job_records.specs.Layout.{head_length};
+ghost use Rattle.job_writer.specs.Records.{root_polynomial, word_bytes};
+ghost use Rattle.job_writer.specs.Calls.{ascends, write_tests, Writes, Writable};
 ghost use Rattle.job_writer.specs.Writing.{head_of, Expandable, Recorded};
 
 use field::rows::{FoundRow, row_of};
@@ -45,7 +45,7 @@ fn ascending(roots: &[u16]) -> bool
 
 // Refusals 1, 3, 4, 25, 6 and 7, of the field, the roots, the cutoff and the lent bytes.
 fn admit(m: u16, cutoff: u16, roots: &[u16], room: usize) -> Admission
-    ensures { Admits (writeTests m cutoff roots.now room) result }
+    ensures { Admits (write_tests m cutoff roots.now room) result }
 {
     let found = row_of(m);
     let FoundRow::At(row) = found else {
@@ -73,7 +73,7 @@ fn admit(m: u16, cutoff: u16, roots: &[u16], room: usize) -> Admission
 // The polynomial of the roots, at the front of f. The field's tables are lent here.
 fn expand(m: u16, roots: &[u16], f: &mut [u16])
     requires { Expandable m roots.now f.old }
-    ensures { f.new ≡ copied (rootPolynomial m roots.now) f.old }
+    ensures { f.new ≡ copied (root_polynomial m roots.now) f.old }
 {
     match m {
         4 => product_over(m, roots, &logs4(m), &antilogs4(m), f),
@@ -86,7 +86,7 @@ fn expand(m: u16, roots: &[u16], f: &mut [u16])
 // is not written.
 fn polynomial(m: u16, roots: &[u16], f: &mut [u16])
     requires { Expandable m roots.now f.old }
-    ensures { f.new ≡ copied (rootPolynomial m roots.now) f.old }
+    ensures { f.new ≡ copied (root_polynomial m roots.now) f.old }
 {
     if roots.len() == 0 {
         f[0] = 1;
@@ -102,7 +102,7 @@ fn polynomial(m: u16, roots: &[u16], f: &mut [u16])
 
 // Writes the mark, m, the cutoff and n to the front of the room.
 fn put_head(m: u8, cutoff: u8, n: u8, room: &mut [u8])
-    requires { headLength ≤ length room.old }
+    requires { head_length ≤ length room.old }
     ensures { room.new ≡ copied (head_of m cutoff n) room.old }
 {
     room[0] = MARK[0];

@@ -3,7 +3,7 @@
 // roots again. Of a line that asks for no record, or that is cut off, nothing is written; standard error says which line
 // it is, and why.
 ghost use Rattle.std.specs.Prelude.{◌≡◌, ◌≤◌, length};
-ghost use Rattle.job_lists.specs.Lines.{lineEnd};
+ghost use Rattle.job_lists.specs.Lines.{line_end};
 
 use job_lists::Listed;
 use job_streams::Behind;
@@ -69,7 +69,7 @@ fn print_record(bytes: &[u8]) -> Fate {
 // holds the input ends with the text.
 fn take_line(text: &[u8], at: usize, ended: bool, k: u32) -> LineTaken
     requires { at ≤ length text.now }
-    ensures { result.end ≡ lineEnd text.now at }
+    ensures { result.end ≡ line_end text.now at }
 {
     let mut room = [0u8; RECORD];
     let line = job_lists::record_at(text, at, ended, &mut room);

@@ -1,9 +1,9 @@
 // The structs that several calls answer, and those of the quadratic's roots.
 ghost use Rattle.std.specs.Prelude.{◌≡◌, [], ◌∷◌};
 ghost use Rattle.refusals.specs.Numbers.{number_of};
-ghost use Rattle.field.specs.Quadratics.{rootsIn, timesIn, doubles};
-ghost use Rattle.field_elements.specs.Calls.{toldAnswer};
-ghost use Rattle.locator.specs.Calls.{asValue, asPair, asFound};
+ghost use Rattle.field.specs.Quadratics.{roots_in, times_in, doubles};
+ghost use Rattle.field_elements.specs.Calls.{told_answer};
+ghost use Rattle.locator.specs.Calls.{as_value, as_pair, as_found};
 
 use crate::{LocatorFound, LocatorPair, LocatorValue};
 use field::solver::Quadratic;
@@ -12,7 +12,7 @@ use refusals::{Refusal, number};
 
 // Of an element call.
 pub fn value_of(a: Answer) -> LocatorValue
-    ensures { result ≡ asValue (toldAnswer a) }
+    ensures { result ≡ as_value (told_answer a) }
 {
     match a {
         Answer::Value(v) => LocatorValue {
@@ -28,7 +28,7 @@ pub fn value_of(a: Answer) -> LocatorValue
 
 // Of the roots of a quadratic.
 pub fn roots_of(q: Quadratic) -> LocatorPair
-    ensures { result ≡ asPair (0, doubles (timesIn q) ∷ rootsIn q) }
+    ensures { result ≡ as_pair (0, doubles (times_in q) ∷ roots_in q) }
 {
     match q {
         Quadratic::NoRoot => LocatorPair {
@@ -57,7 +57,7 @@ pub fn roots_of(q: Quadratic) -> LocatorPair
 
 // What was found: the number of roots and of steps. Where no steps are taken they are 0.
 pub fn found(count: u16, steps: u16) -> LocatorFound
-    ensures { result ≡ asFound (0, count ∷ steps ∷ []) }
+    ensures { result ≡ as_found (0, count ∷ steps ∷ []) }
 {
     LocatorFound {
         outcome: 0,
@@ -68,7 +68,7 @@ pub fn found(count: u16, steps: u16) -> LocatorFound
 
 // Where nothing is looked for: the number of the refusal alone.
 pub fn refused(k: Refusal) -> LocatorFound
-    ensures { result ≡ asFound (number_of k, []) }
+    ensures { result ≡ as_found (number_of k, []) }
 {
     LocatorFound {
         outcome: number(k),

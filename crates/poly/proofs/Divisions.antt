@@ -16,7 +16,7 @@ use lib.Bits.{bit_xor}
 use lib.ListN.{length, get_or, take, drop, replicate, length-append, length-drop, length-map, length-replicate, get_or-replicate, take-append-drop}
 use lib.Seq.{take-length, length-take-le, take-suc, drop-cons, take_at, drop_at, get_or-drop, take-append-le}
 use Rattle.algebra.specs.Polynomial.{add, Below}
-use Rattle.algebra.specs.Routines.{rem, quo, quotientDigit, shiftIn}
+use Rattle.algebra.specs.Routines.{rem, quo, quotient_digit, shift_in}
 use Rattle.algebra.proofs.Lengths.{length-rem, length-quo}
 use Rattle.algebra.proofs.StaysBelow.{append-below, take_below, drop-below, rem_below, quo-below, below_at}
 use Rattle.field.specs.Field.{mul, field_at, G}
@@ -57,14 +57,14 @@ add-front m (c ∷ x) y (e ∷ q) h = ap (λ u. bit_xor c e ∷ u) (add-front m 
 module _ {m : ℕ} {ls ts : List ℕ} (l : Lent m ls ts) where
   -- the remainder of a polynomial that is no longer than p: nothing is taken back
   pub rem-short : (p f : List ℕ) → length f ≤ length p → rem (G m) p f ≡ f ++ replicate (length p - length f) 0
-  unfolding rem shiftIn quotientDigit
+  unfolding rem shift_in quotient_digit
   rem-short p [] h = let e : length p - 0 ≡ length p = omega arith in ap (λ n. replicate n 0) (sym e)
   rem-short p (c ∷ f) h =
       let k : ℕ = length p - suc (length f) in
       let e : length p - length f ≡ suc k = omega arith in
       let n : length p ≡ length (c ∷ f) + k = omega arith in
       let s : rem (G m) p f ≡ f ++ replicate (suc k) 0 = rem-short p f (omega arith) ∙ ap (λ n. f ++ replicate n 0) e in
-      let none : quotientDigit (G m) p c (rem (G m) p f) ≡ 0 = ap₂ (λ u i. get_or (c ∷ u) i 0) s n ∙ zeros-last (c ∷ f) k in
+      let none : quotient_digit (G m) p c (rem (G m) p f) ≡ 0 = ap₂ (λ u i. get_or (c ∷ u) i 0) s n ∙ zeros-last (c ∷ f) k in
       let front : take (length p) (c ∷ rem (G m) p f) ≡ c ∷ f ++ replicate k 0 = ap₂ (λ u i. take i (c ∷ u)) s n ∙ zeros-take (c ∷ f) k in
       let long : length p ≤ length (c ∷ f ++ replicate k 0) = omega (arith, length-append (c ∷ f) (replicate k 0), length-replicate {A = ℕ} k 0) in
       ap₂ (λ u t. add (G m) u (map ((G m).mul t) p)) front none ∙ add_none m (ring (field_at m) (field_of l).monic).mul-zero-l (c ∷ f ++ replicate k 0) p long
@@ -96,8 +96,8 @@ module _ {m : ℕ} {ls ts : List ℕ} (l : Lent m ls ts) where
 
   -- the digit stands where it fell out
   split : (p : List ℕ) (c : ℕ) (f : List ℕ) → length p ≤ length f
-      → c ∷ divided m p f ≡ take (length p) (c ∷ rem (G m) p f) ++ quotientDigit (G m) p c (rem (G m) p f) ∷ take (length f - length p) (quo (G m) p f)
-  unfolding divided quotientDigit
+      → c ∷ divided m p f ≡ take (length p) (c ∷ rem (G m) p f) ++ quotient_digit (G m) p c (rem (G m) p f) ∷ take (length f - length p) (quo (G m) p f)
+  unfolding divided quotient_digit
   split p c f h =
       let r : List ℕ = rem (G m) p f in
       let q : List ℕ = take (length f - length p) (quo (G m) p f) in
@@ -108,11 +108,11 @@ module _ {m : ℕ} {ls ts : List ℕ} (l : Lent m ls ts) where
   -- one digit more
   divided-on : (p : List ℕ) (c : ℕ) (f : List ℕ) → length p ≤ length f
       → add (G m) (c ∷ divided m p f) (map ((G m).mul (get_or (c ∷ divided m p f) (length p) 0)) p) ≡ divided m p (c ∷ f)
-  unfolding rem shiftIn quo divided
+  unfolding rem shift_in quo divided
   divided-on p c f h =
       let r : List ℕ = rem (G m) p f in
       let q : List ℕ = take (length f - length p) (quo (G m) p f) in
-      let d : ℕ = quotientDigit (G m) p c r in
+      let d : ℕ = quotient_digit (G m) p c r in
       let x : List ℕ = take (length p) (c ∷ r) in
       let n : length x ≡ length p = length-take-le (length p) (c ∷ r) (omega (arith, length-rem (G m) p f)) in
       let t : get_or (c ∷ divided m p f) (length p) 0 ≡ d = ap (λ u. get_or u (length p) 0) (split p c f h) ∙ seam x d q (length p) n in

@@ -31,14 +31,14 @@ four-from f l b p h =
     }
 
 -- what one turn makes of a value
-abbrev pub hornerTurned : List ℕ → List ℕ → List ℕ → ℕ → ℕ → ℕ → ℕ
-hornerTurned ls ts f x k v = bit_xor (get_or f (k - 1) 0) (get_or ts (get_or ls x 0 + get_or ls v 0) 0)
+abbrev pub horner_turned : List ℕ → List ℕ → List ℕ → ℕ → ℕ → ℕ → ℕ
+horner_turned ls ts f x k v = bit_xor (get_or f (k - 1) 0) (get_or ts (get_or ls x 0 + get_or ls v 0) 0)
 
-one_on : {m : ℕ} {ls ts f : List ℕ} {x k v w : ℕ} → Valuing m ls ts f x k v → 0 < k → w ≡ hornerTurned ls ts f x k v → Valuing m ls ts f x (k - 1) w
+one_on : {m : ℕ} {ls ts f : List ℕ} {x k v w : ℕ} → Valuing m ls ts f x k v → 0 < k → w ≡ horner_turned ls ts f x k v → Valuing m ls ts f x (k - 1) w
 one_on {m} {ls} {ts} {f} {x} {k} s h e = subst (Valuing m ls ts f x (k - 1)) (sym e) (value_on s h)
 
 pub four-on : {m : ℕ} {ls ts f : List ℕ} {x k : ℕ} {v w : Four} → FourValuing m ls ts f x k v → 0 < k
-    → w.a ≡ hornerTurned ls ts f x k v.a → w.b ≡ hornerTurned ls ts f (x + 1) k v.b → w.c ≡ hornerTurned ls ts f (x + 2) k v.c → w.d ≡ hornerTurned ls ts f (x + 3) k v.d
+    → w.a ≡ horner_turned ls ts f x k v.a → w.b ≡ horner_turned ls ts f (x + 1) k v.b → w.c ≡ horner_turned ls ts f (x + 2) k v.c → w.d ≡ horner_turned ls ts f (x + 3) k v.d
     → FourValuing m ls ts f x (k - 1) w
 four-on s h a b c d = record { first = one_on s.first h a; second = one_on s.second h b; third = one_on s.third h c; fourth = one_on s.fourth h d }
 

@@ -22,19 +22,19 @@ use Rattle.algebra.specs.Field.{OnNumbers, power}
 use Rattle.algebra.specs.Polynomial.{Below}
 use Rattle.field.proofs.Known.{listed}
 use Rattle.field.specs.Field.{Field, size, order, mul, inverse, numbers, position, field_at, G}
-use Rattle.field.specs.Tables.{logOf, antilogOf}
+use Rattle.field.specs.Tables.{log_of, antilog_of}
 use Rattle.field.proofs.Ring.{power-lt, power-add}
 use Rattle.field.proofs.Generator.{Generated, generated, Small, small, one_below, position-is, power-order, inverse-only}
 use Rattle.field.proofs.Logarithms.{log-position, antilog-even, log-lt, log-product}
 use Rattle.field.proofs.Instance.{known-numbers}
-use Rattle.poly.specs.Lent.{Lent, IsLog, LogRow, logRow, held}
+use Rattle.poly.specs.Lent.{Lent, IsLog, LogRow, log_row, held}
 
 -- ---- elements, for any field
 
 module _ (F : Field) (gen : Generated F) where
   -- an antilog is an element
-  antilog-lt : (j : ℕ) → antilogOf F j < size F
-  unfolding antilogOf
+  antilog-lt : (j : ℕ) → antilog_of F j < size F
+  unfolding antilog_of
   antilog-lt j = go (eqb (j % 2) 0)
     where
       go : (b : Bool) → cond b (power (numbers F) 2 (j / 2)) 0 < size F
@@ -42,24 +42,24 @@ module _ (F : Field) (gen : Generated F) where
       go false = pow_pos F.degree
 
   -- the antilog of a log
-  back : (x : ℕ) → x < size F → antilogOf F (logOf F x) ≡ x
-  unfolding antilogOf logOf
+  back : (x : ℕ) → x < size F → antilog_of F (log_of F x) ≡ x
+  unfolding antilog_of log_of
   back x h = go (dec_lt 0 x)
     where
-      go : Dec (0 < x) → antilogOf F (logOf F x) ≡ x
-      go (yes p) = ap (antilogOf F) (log-position F x p) ∙ antilog-even F (position F x) ∙ (position-is F gen x p h).1
-      go (no z) = let e : x ≡ 0 = omega arith in ap (λ y. antilogOf F (logOf F y)) e ∙ sym e
+      go : Dec (0 < x) → antilog_of F (log_of F x) ≡ x
+      go (yes p) = ap (antilog_of F) (log-position F x p) ∙ antilog-even F (position F x) ∙ (position-is F gen x p h).1
+      go (no z) = let e : x ≡ 0 = omega arith in ap (λ y. antilog_of F (log_of F y)) e ∙ sym e
 
   -- the inverse by logs
-  back-inverse : (x : ℕ) → 0 < x → x < size F → antilogOf F (2 * order F - logOf F x) ≡ inverse F x
+  back-inverse : (x : ℕ) → 0 < x → x < size F → antilog_of F (2 * order F - log_of F x) ≡ inverse F x
   back-inverse x p h =
       let at = position-is F gen x p h in
       let l = at.0 in
       let i : ℕ = position F x in
       let j : ℕ = order F - i in
       let whole : i + j ≡ order F = omega arith in
-      let place : 2 * order F - logOf F x ≡ 2 * j = omega (arith, log-position F x p) in
-      ap (antilogOf F) place ∙ antilog-even F j
+      let place : 2 * order F - log_of F x ≡ 2 * j = omega (arith, log-position F x p) in
+      ap (antilog_of F) place ∙ antilog-even F j
       ∙ sym (inverse-only F gen x (power (numbers F) 2 j) p h (power-lt F gen.monic (one_below F gen) 2 j)
       (ap (λ (y : ℕ). mul F y (power (numbers F) 2 j)) (sym at.1)
       ∙ sym (power-add F gen.monic (one_below F gen) 2 i j) ∙ ap (power (numbers F) 2) whole ∙ power-order F gen))
@@ -80,7 +80,7 @@ module _ {m : ℕ} {logs antilogs : List ℕ} (l : Lent m logs antilogs) where
   pub logs-fit : {x : ℕ} → x < 2 ^ m → x < length logs
   logs-fit {x} h = omega (arith, l.logs.entries)
 
-  pub log-at : {x : ℕ} → x < 2 ^ m → get_or logs x 0 ≡ logOf (field_at m) x
+  pub log-at : {x : ℕ} → x < 2 ^ m → get_or logs x 0 ≡ log_of (field_at m) x
   log-at {x} h = l.logs.entry x h
 
   -- a log and an entry of a row
@@ -91,21 +91,21 @@ module _ {m : ℕ} {logs antilogs : List ℕ} (l : Lent m logs antilogs) where
         l.antilogs.entries,
         log-at h,
         log-lt (field_at m) field_of t h,
-        log-lt (field_at m) field_of (antilogOf (field_at m) x) (antilog-lt (field_at m) field_of x),
+        log-lt (field_at m) field_of (antilog_of (field_at m) x) (antilog-lt (field_at m) field_of x),
         e,
       )
 
-  pub row_at : {t x : ℕ} → 0 < t → t < 2 ^ m → IsLog m x → get_or antilogs (get_or logs t 0 + x) 0 ≡ mul (field_at m) t (antilogOf (field_at m) x)
+  pub row_at : {t x : ℕ} → 0 < t → t < 2 ^ m → IsLog m x → get_or antilogs (get_or logs t 0 + x) 0 ≡ mul (field_at m) t (antilog_of (field_at m) x)
   row_at {t} {x} p h e =
       l.antilogs.entry (get_or logs t 0 + x) (omega (arith, row_fits p h e, l.antilogs.entries))
-      ∙ ap₂ (λ a b. antilogOf (field_at m) (a + b)) (log-at h) (sym e)
-      ∙ log-product (field_at m) field_of t (antilogOf (field_at m) x) p h (antilog-lt (field_at m) field_of x)
+      ∙ ap₂ (λ a b. antilog_of (field_at m) (a + b)) (log-at h) (sym e)
+      ∙ log-product (field_at m) field_of t (antilog_of (field_at m) x) p h (antilog-lt (field_at m) field_of x)
 
-  antilog-log : {x : ℕ} → x < 2 ^ m → antilogOf (field_at m) (logOf (field_at m) x) ≡ x
+  antilog-log : {x : ℕ} → x < 2 ^ m → antilog_of (field_at m) (log_of (field_at m) x) ≡ x
   antilog-log {x} h = back (field_at m) field_of x h
 
   log-is-log : {x : ℕ} → x < 2 ^ m → IsLog m (get_or logs x 0)
-  log-is-log {x} h = subst (IsLog m) (sym (log-at h)) (ap (logOf (field_at m)) (antilog-log h))
+  log-is-log {x} h = subst (IsLog m) (sym (log-at h)) (ap (log_of (field_at m)) (antilog-log h))
 
   -- two elements
   pub product-fits : {x y : ℕ} → 0 < x → x < 2 ^ m → y < 2 ^ m → get_or logs x 0 + get_or logs y 0 < length antilogs
@@ -113,19 +113,19 @@ module _ {m : ℕ} {logs antilogs : List ℕ} (l : Lent m logs antilogs) where
 
   pub product_at : {x y : ℕ} → 0 < x → x < 2 ^ m → y < 2 ^ m → get_or antilogs (get_or logs x 0 + get_or logs y 0) 0 ≡ mul (field_at m) x y
   product_at {x} {y} p h k =
-      row_at p h (log-is-log k) ∙ ap (λ u. mul (field_at m) x (antilogOf (field_at m) u)) (log-at k) ∙ ap (mul (field_at m) x) (antilog-log k)
+      row_at p h (log-is-log k) ∙ ap (λ u. mul (field_at m) x (antilog_of (field_at m) u)) (log-at k) ∙ ap (mul (field_at m) x) (antilog-log k)
 
   -- rows of polynomials
-  pub held-row : (p : List ℕ) → Below (2 ^ m) p → held m (logRow m p) ≡ p
+  pub held-row : (p : List ℕ) → Below (2 ^ m) p → held m (log_row m p) ≡ p
   held-row [] h = refl
   held-row (c ∷ p) h = ap₂ (λ x u. x ∷ u) (antilog-log h.0) (held-row p h.1)
 
-  pub row-is-row : (p : List ℕ) → Below (2 ^ m) p → LogRow m (logRow m p)
+  pub row-is-row : (p : List ℕ) → Below (2 ^ m) p → LogRow m (log_row m p)
   row-is-row p h = record { entry = go p h }
     where
-      go : (p : List ℕ) → Below (2 ^ m) p → (i : ℕ) → i < length (logRow m p) → IsLog m (get_or (logRow m p) i 0)
+      go : (p : List ℕ) → Below (2 ^ m) p → (i : ℕ) → i < length (log_row m p) → IsLog m (get_or (log_row m p) i 0)
       go [] h i k = absurd (not-suc-le-zero k)
-      go (c ∷ p) h zero k = ap (logOf (field_at m)) (antilog-log h.0)
+      go (c ∷ p) h zero k = ap (log_of (field_at m)) (antilog-log h.0)
       go (c ∷ p) h (suc i) k = go p h.1 i (le_of_suc-le-suc k)
 
   pub held_below : (row : List ℕ) → Below (2 ^ m) (held m row)
@@ -141,9 +141,9 @@ module _ {m : ℕ} {logs antilogs : List ℕ} (l : Lent m logs antilogs) where
 
   pub inverse-at : {x : ℕ} → 0 < x → x < 2 ^ m → get_or antilogs (2 * (length logs - 1) - get_or logs x 0) 0 ≡ inverse (field_at m) x
   inverse-at {x} p h =
-      let e : 2 * (length logs - 1) - get_or logs x 0 ≡ 2 * order (field_at m) - logOf (field_at m) x = ap₂ (λ n i. 2 * (n - 1) - i) l.logs.entries (log-at h) in
+      let e : 2 * (length logs - 1) - get_or logs x 0 ≡ 2 * order (field_at m) - log_of (field_at m) x = ap₂ (λ n i. 2 * (n - 1) - i) l.logs.entries (log-at h) in
       l.antilogs.entry (2 * (length logs - 1) - get_or logs x 0) (omega (arith, (inverse-fits p h).1, l.antilogs.entries))
-      ∙ ap (antilogOf (field_at m)) e ∙ back-inverse (field_at m) field_of x p h
+      ∙ ap (antilog_of (field_at m)) e ∙ back-inverse (field_at m) field_of x p h
 
 pub held-long : (m : ℕ) (row : List ℕ) → length (held m row) ≡ length row
-held-long m row = length-map row (antilogOf (field_at m))
+held-long m row = length-map row (antilog_of (field_at m))

@@ -11,7 +11,7 @@ use native.Mathlib.Omega.{arith}
 use borrow.Rule.Slice.PartMut.{put_mid}
 use lib.ListN.{length, get_or, take, drop, set, length-append, length-drop, length-set}
 use lib.Seq.{drop_at, drop-cons, drop-length, drop-set-lt, length-take-le, set_split, take_at, take-set-le, take-suc}
-use Rattle.algebra.specs.Polynomial.{fromRoots, linear, mul}
+use Rattle.algebra.specs.Polynomial.{from_roots, linear, mul}
 use Rattle.algebra.proofs.StaysBelow.{below_at, drop-below}
 use Rattle.field.specs.Field.{G}
 use Rattle.slices.specs.Lists.{copied}
@@ -20,7 +20,7 @@ use Rattle.poly.proofs.RootProducts.{product-below, product-long}
 
 -- the product over the roots from i on
 abbrev behind : ℕ → List ℕ → ℕ → List ℕ
-behind m roots i = fromRoots (G m) (drop i roots)
+behind m roots i = from_roots (G m) (drop i roots)
 
 -- it stands from place i on; before it and behind the last place the list is as it was
 pub record Multiplying (m : ℕ) (ls ts roots f₀ f : List ℕ) (i : ℕ) : Type 0 where
@@ -32,7 +32,7 @@ pub record Multiplying (m : ℕ) (ls ts roots f₀ f : List ℕ) (i : ℕ) : Typ
 -- behind the last root the product is 1
 pub multiply-from : {m : ℕ} {ls ts roots f : List ℕ} → Multipliable m ls ts roots f
     → Multiplying m ls ts roots (set f (length roots) 1) (set f (length roots) 1) (length roots)
-unfolding fromRoots
+unfolding from_roots
 multiply-from {m} {ls} {ts} {roots} {f} g =
     let n : ℕ = length roots in
     let same : length (set f n 1) ≡ length f = length-set f n 1 in
@@ -42,7 +42,7 @@ multiply-from {m} {ls} {ts} {roots} {f} g =
       long = refl;
       done = set_split f n 1 g.room
           ∙ ap₂ (λ u w. u ++ w) (sym (take-set-le n f n 1 (omega arith)))
-          (ap₂ (λ u w. fromRoots (G m) u ++ w) (sym (drop-length roots))
+          (ap₂ (λ u w. from_roots (G m) u ++ w) (sym (drop-length roots))
           (sym (drop-set-lt (suc n) f n 1 (omega arith))));
     }
 
@@ -98,7 +98,7 @@ module _ {m : ℕ} {ls ts roots f₀ f : List ℕ} {i : ℕ} (s : Multiplying m 
       → g ≡ mul (G m) (linear (G m) (get_or roots (i - 1) 0))
       (drop 1 (take (length roots + 1 - (i - 1)) (drop (i - 1) f)))
       → Multiplying m ls ts roots f₀ (put_mid (i - 1) (length roots + 1 - (i - 1)) f g) (i - 1)
-  unfolding slot rest fromRoots
+  unfolding slot rest from_roots
   multiply-on {g} h e =
       let j : ℕ = i - 1 in
       let n : ℕ = length roots in
@@ -108,7 +108,7 @@ module _ {m : ℕ} {ls ts roots f₀ f : List ℕ} {i : ℕ} (s : Multiplying m 
       drop-cons roots j 0 at ∙ ap (λ k. get_or roots j 0 ∷ drop k roots) up in
       let made : g ≡ behind m roots j =
       e ∙ ap (λ u. mul (G m) (linear (G m) (get_or roots j 0)) (drop 1 u)) (multiply-part h)
-      ∙ ap (fromRoots (G m)) (sym turn) in
+      ∙ ap (from_roots (G m)) (sym turn) in
       let back : take j f ++ (g ++ drop (n + 1 - j) (drop j f)) ≡ take j f₀ ++ (behind m roots j ++ rest) =
       ap₂ (λ u w. u ++ w) (ap (take j) (parts h) ∙ take_at (take j f₀) (slot ++ rest) j (before-long h))
       (ap₂ (λ u w. u ++ w) made
@@ -131,12 +131,12 @@ module _ {m : ℕ} {ls ts roots f₀ f : List ℕ} {i : ℕ} (s : Multiplying m 
       }
 
   -- the product over all
-  multiply-end : i ≤ 0 → f ≡ copied (fromRoots (G m) roots) f₀
+  multiply-end : i ≤ 0 → f ≡ copied (from_roots (G m) roots) f₀
   unfolding copied
   multiply-end h =
       let z : i ≡ 0 = omega arith in
       s.done ∙ ap (λ j. take j f₀ ++ (behind m roots j ++ drop (suc (length roots)) f₀)) z
-      ∙ ap (λ n. fromRoots (G m) roots ++ drop n f₀) (sym (product-long m roots))
+      ∙ ap (λ n. from_roots (G m) roots ++ drop n f₀) (sym (product-long m roots))
 
 -- ---- from what is lent: its last slot is set to 1 before the loop
 
@@ -147,9 +147,9 @@ module _ {m i : ℕ} {ls ts roots f : List ℕ} (f₁ : List ℕ)
   multiply-long = s.long ∙ length-set f₁ (length roots) 1
 
   -- the last slot is of the product
-  pub multiply-whole : i ≤ 0 → f ≡ copied (fromRoots (G m) roots) f₁
+  pub multiply-whole : i ≤ 0 → f ≡ copied (from_roots (G m) roots) f₁
   unfolding copied
   multiply-whole h =
       multiply-end s h
-      ∙ ap (λ u. fromRoots (G m) roots ++ u)
-      (drop-set-lt (length (fromRoots (G m) roots)) f₁ (length roots) 1 (omega (arith, product-long m roots)))
+      ∙ ap (λ u. from_roots (G m) roots ++ u)
+      (drop-set-lt (length (from_roots (G m) roots)) f₁ (length roots) 1 (omega (arith, product-long m roots)))

@@ -14,9 +14,9 @@ use lib.ListN.{length, get_or, drop, set, length-map}
 use Rattle.algebra.specs.Polynomial.{add}
 use Rattle.algebra.proofs.StaysBelow.{below_at}
 use Rattle.field.specs.Field.{mul, field_at, G}
-use Rattle.field.specs.Tables.{logOf, antilogOf}
+use Rattle.field.specs.Tables.{log_of, antilog_of}
 use Rattle.field.proofs.Ring.{ring}
-use Rattle.poly.specs.Lent.{logRow, held, Addable, Loggable}
+use Rattle.poly.specs.Lent.{log_row, held, Addable, Loggable}
 use Rattle.slices.proofs.Filling.{Filling, fill-from, fill_on, fill-next, fill_end, fill_stop, map_at}
 use Rattle.poly.proofs.Logs.{field_of, logs-fit, log-at, row_fits, row_at, held-long}
 use Rattle.poly.proofs.Sums.{add_at, add-rest, add_none, long-row}
@@ -53,7 +53,7 @@ module _ {m : ℕ} {ls ts : List ℕ} {t : ℕ} {row r₀ r : List ℕ} {i : ℕ
         within = omega arith;
         filling = fill_on s.filling inside
             (ap₂ bit_xor (fill-next s.filling inside)
-            (row_at s.given.tables p s.given.element (s.given.logs.entry i k) ∙ ap ((G m).mul t) (sym (map_at (antilogOf (field_at m)) row i k))
+            (row_at s.given.tables p s.given.element (s.given.logs.entry i k) ∙ ap ((G m).mul t) (sym (map_at (antilog_of (field_at m)) row i k))
             ∙ sym (map_at ((G m).mul t) (held m row) i (omega (arith, held-long m row))))
             ∙ sym (add_at m r₀ q i short at));
       }
@@ -82,10 +82,10 @@ row-skipped {m} {ls} {ts} {t} {row} {r} a z =
 -- the first i logs are written
 pub record Writing (m : ℕ) (ls ts p r₀ r : List ℕ) (i : ℕ) : Type 0 where
   pub given : Loggable m ls ts p r₀
-  pub filling : Filling (logRow m p) r₀ r i
+  pub filling : Filling (log_row m p) r₀ r i
 
 pub write-from : {m : ℕ} {ls ts p r : List ℕ} → Loggable m ls ts p r → Writing m ls ts p r r 0
-write-from {m} {ls} {ts} {p} {r} g = record { given = g; filling = fill-from (logRow m p) r (length-map p (logOf (field_at m)) ∙ g.room) }
+write-from {m} {ls} {ts} {p} {r} g = record { given = g; filling = fill-from (log_row m p) r (length-map p (log_of (field_at m)) ∙ g.room) }
 
 module _ {m : ℕ} {ls ts p r₀ r : List ℕ} {i : ℕ} (w : Writing m ls ts p r₀ r i) where
   -- one more
@@ -93,12 +93,12 @@ module _ {m : ℕ} {ls ts p r₀ r : List ℕ} {i : ℕ} (w : Writing m ls ts p 
   write-on h = record {
     given = w.given;
     filling = fill_on w.filling (omega (arith, w.given.room))
-        (log-at w.given.tables (below_at (2 ^ m) p w.given.small i h) ∙ sym (map_at (logOf (field_at m)) p i h));
+        (log-at w.given.tables (below_at (2 ^ m) p w.given.small i h) ∙ sym (map_at (log_of (field_at m)) p i h));
   }
 
   -- a coefficient has its log
   pub write-fits : i < length p → get_or p i 0 < length ls
   write-fits h = logs-fit w.given.tables (below_at (2 ^ m) p w.given.small i h)
 
-  pub write-end : length p ≤ i → r ≡ logRow m p
+  pub write-end : length p ≤ i → r ≡ log_row m p
   write-end h = fill_end w.filling (omega (arith, w.given.room))

@@ -2,7 +2,7 @@
 --   Lent    the degree is known, and the two lists are the field's log and antilog tables
 --   IsLog   x is the log of an element: of the one that the antilog of x is
 --   LogRow     a list of logs of elements
---   logRow  the row of a polynomial: the log of each coefficient
+--   log_row  the row of a polynomial: the log of each coefficient
 --   held    the polynomial that a row holds: the antilog of each log
 --   Addable, Loggable   what the routines on rows may take for granted
 -- Assumes nothing.
@@ -10,7 +10,7 @@ use Rattle.std.specs.Prelude.{◌≡◌, true, List, map, ℕ, ◌^◌, ◌≤�
 use Rattle.algebra.specs.Polynomial.{Below}
 use Rattle.field.specs.Rows.{known}
 use Rattle.field.specs.Field.{field_at}
-use Rattle.field.specs.Tables.{logOf, antilogOf, Logs, Antilogs}
+use Rattle.field.specs.Tables.{log_of, antilog_of, Logs, Antilogs}
 
 -- the tables
 pub record Lent (m : ℕ) (ls ts : List ℕ) : Type 0 where
@@ -20,19 +20,19 @@ pub record Lent (m : ℕ) (ls ts : List ℕ) : Type 0 where
 
 -- one log
 abbrev pub IsLog : ℕ → ℕ → Type 0
-IsLog m x = logOf (field_at m) (antilogOf (field_at m) x) ≡ x
+IsLog m x = log_of (field_at m) (antilog_of (field_at m) x) ≡ x
 
 -- a list of them
 pub record LogRow (m : ℕ) (row : List ℕ) : Type 0 where
   pub entry : (i : ℕ) → i < length row → IsLog m (get_or row i 0)
 
 -- from the polynomial to the row
-abbrev pub logRow : ℕ → List ℕ → List ℕ
-logRow m p = map (logOf (field_at m)) p
+abbrev pub log_row : ℕ → List ℕ → List ℕ
+log_row m p = map (log_of (field_at m)) p
 
 -- and back
 abbrev pub held : ℕ → List ℕ → List ℕ
-held m row = map (antilogOf (field_at m)) row
+held m row = map (antilog_of (field_at m)) row
 
 -- ---- what the routines on rows may take for granted
 

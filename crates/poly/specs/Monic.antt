@@ -1,6 +1,6 @@
 -- Making a polynomial monic.
 --   TopIs      k is the place behind the highest coefficient of r that is not 0, and 0 where there is none
---   monicLow   what the first j coefficients hold once they are monic: the j - 1 below the leading one; nothing where
+--   monic_low   what the first j coefficients hold once they are monic: the j - 1 below the leading one; nothing where
 --              j is 0
 --   MadeMonic  r became r' : j coefficients were left, and they are monic
 --   Scalable   r can be multiplied by v
@@ -19,15 +19,15 @@ pub record TopIs (r : List ℕ) (k : ℕ) : Type 0 where
   pub nonzero : 0 < k → get_or r (k - 1) 0 ≢ 0
 
 -- without the leading 1
-unfoldable pub monicLow : ℕ → List ℕ → Option (List ℕ)
-monicLow zero r = none
-monicLow (suc k) r = some (take k r)
+unfoldable pub monic_low : ℕ → List ℕ → Option (List ℕ)
+monic_low zero r = none
+monic_low (suc k) r = some (take k r)
 
 -- as the theory makes it
 pub record MadeMonic (m : ℕ) (r : List ℕ) (j : ℕ) (r' : List ℕ) : Type 0 where
   pub within : j ≤ length r
   pub long : length r' ≡ length r
-  pub made : norm (G m) (length r) r ≡ monicLow j r'
+  pub made : norm (G m) (length r) r ≡ monic_low j r'
 
 -- by an element that is not 0
 pub record Scalable (m : ℕ) (ls ts : List ℕ) (v : ℕ) (r : List ℕ) : Type 0 where

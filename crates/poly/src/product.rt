@@ -2,7 +2,7 @@
 // antilog tables. The product grows from the last root to the first, and downward in the slice: times z it stands
 // where it stood, one place lower, and r times itself is added.
 ghost use Rattle.std.specs.Prelude.{◌≡◌, drop};
-ghost use Rattle.algebra.specs.Polynomial.{fromRoots, linear, mul};
+ghost use Rattle.algebra.specs.Polynomial.{from_roots, linear, mul};
 ghost use Rattle.field.specs.Field.{G};
 ghost use Rattle.slices.specs.Lists.{copied};
 ghost use Rattle.poly.specs.Products.{Multipliable, Stretchable};
@@ -30,7 +30,7 @@ fn times_linear(m: u16, logs: &[u16], antilogs: &[u16], r: u16, f: &mut [u16])
 // 1. What stands behind is not written.
 pub fn product_over(m: u16, roots: &[u16], logs: &[u16], antilogs: &[u16], f: &mut [u16])
     requires { Multipliable m logs.now antilogs.now roots.now f.old }
-    ensures { f.new ≡ copied (fromRoots (G m) roots.now) f.old }
+    ensures { f.new ≡ copied (from_roots (G m) roots.now) f.old }
 {
     let n = roots.len();
     f[n] = 1;

@@ -2,7 +2,7 @@
 ghost use Rattle.std.specs.Prelude.{◌≡◌, map};
 ghost use Rattle.algebra.specs.Polynomial.{add};
 ghost use Rattle.field.specs.Field.{G};
-ghost use Rattle.poly.specs.Lent.{logRow, held, Addable, Loggable};
+ghost use Rattle.poly.specs.Lent.{log_row, held, Addable, Loggable};
 
 // The kernel: adds t times the polynomial that the row holds to the front of r.
 pub fn add_row(m: u16, logs: &[u16], antilogs: &[u16], t: u16, row: &[u16], r: &mut [u16])
@@ -23,7 +23,7 @@ pub fn add_row(m: u16, logs: &[u16], antilogs: &[u16], t: u16, row: &[u16], r: &
 // Writes the row of p.
 pub fn log_row(m: u16, logs: &[u16], antilogs: &[u16], p: &[u16], row: &mut [u16])
     requires { Loggable m logs.now antilogs.now p.now row.old }
-    ensures { row.new ≡ logRow m p.now }
+    ensures { row.new ≡ log_row m p.now }
 {
     let mut i = 0;
     while i < p.len() {

@@ -3,9 +3,9 @@
 // and antilog tables of the field of degree m.
 ghost use Rattle.std.specs.Prelude.{◌≡◌, [], ◌∷◌, ◌^◌, ◌<◌};
 ghost use Rattle.algebra.specs.Polynomial.{eval, Below};
-ghost use Rattle.algebra.specs.Routines.{rem, frobeniusMod, traceMod, cofactor};
+ghost use Rattle.algebra.specs.Routines.{rem, frobenius_mod, trace_mod, cofactor};
 ghost use Rattle.field.specs.Field.{G};
-ghost use Rattle.poly.specs.Lent.{Lent, Loggable, logRow, held};
+ghost use Rattle.poly.specs.Lent.{Lent, Loggable, log_row, held};
 ghost use Rattle.poly.specs.Division.{Reducible};
 ghost use Rattle.poly.specs.Monic.{TopIs, MadeMonic};
 ghost use Rattle.poly_powers.specs.Powers.{Squarable, Startable};
@@ -46,7 +46,7 @@ pub extern "C" fn poly_tables(m: u16, logs: Written, antilogs: Written)
 #[unsafe(no_mangle)]
 pub extern "C" fn poly_log_row(m: u16, ls: Read, ts: Read, p: Read, row: Written)
     requires { Loggable m ls.now ts.now p.now row.now }
-    ensures { row.exit.now ≡ logRow m p.entry.now }
+    ensures { row.exit.now ≡ log_row m p.entry.now }
 {
     rows::log_row(m, ls, ts, p, row);
 }
@@ -90,7 +90,7 @@ pub extern "C" fn poly_make_monic(m: u16, ls: Read, ts: Read, r: Written) -> usi
 #[unsafe(no_mangle)]
 pub extern "C" fn poly_power_mod(m: u16, ls: Read, ts: Read, row: Read, k: u16, w: Written)
     requires { Squarable m ls.now ts.now row.now w.now }
-    ensures { w.exit.now ≡ frobeniusMod (G m) (held m row.entry.now) k w.entry.now }
+    ensures { w.exit.now ≡ frobenius_mod (G m) (held m row.entry.now) k w.entry.now }
 {
     poly_powers::power_mod(m, ls, ts, row, k, w);
 }
@@ -100,7 +100,7 @@ pub extern "C" fn poly_power_mod(m: u16, ls: Read, ts: Read, row: Read, k: u16, 
 pub extern "C" fn poly_z_power(m: u16, ls: Read, ts: Read, p: Read, k: u16, w: Written)
     requires { Startable m ls.now ts.now p.now w.now }
     ensures { w.exit.now
-        ≡ frobeniusMod (G m) p.entry.now k (rem (G m) p.entry.now (0 ∷ 1 ∷ [])) }
+        ≡ frobenius_mod (G m) p.entry.now k (rem (G m) p.entry.now (0 ∷ 1 ∷ [])) }
 {
     poly_powers::z_power(m, ls, ts, p, k, w);
 }
@@ -109,7 +109,7 @@ pub extern "C" fn poly_z_power(m: u16, ls: Read, ts: Read, p: Read, k: u16, w: W
 #[unsafe(no_mangle)]
 pub extern "C" fn poly_trace_of(m: u16, ls: Read, ts: Read, p: Read, b: u16, t: Written)
     requires { Startable m ls.now ts.now p.now t.now × (b < 2 ^ m) }
-    ensures { t.exit.now ≡ traceMod (G m) p.entry.now m (rem (G m) p.entry.now (0 ∷ b ∷ [])) }
+    ensures { t.exit.now ≡ trace_mod (G m) p.entry.now m (rem (G m) p.entry.now (0 ∷ b ∷ [])) }
 {
     poly_powers::trace_of(m, ls, ts, p, b, t);
 }

@@ -18,11 +18,11 @@ use Rattle.algebra.specs.Polynomial.{Below}
 use Rattle.algebra.specs.Routines.{monic, quo, cofactor}
 use Rattle.algebra.proofs.Lengths.{length-monic, length-cofactor}
 use Rattle.algebra.proofs.StaysBelow.{monic-below}
-use Rattle.field.specs.Tables.{logOf}
+use Rattle.field.specs.Tables.{log_of}
 use Rattle.field.specs.Field.{field_at, G}
 use Rattle.slices.specs.Lists.{copied}
 use Rattle.slices.proofs.Lists.{copied-front, length-copied}
-use Rattle.poly.specs.Lent.{Loggable, LogRow, logRow, held}
+use Rattle.poly.specs.Lent.{Loggable, LogRow, log_row, held}
 use Rattle.poly.specs.Division.{divided, Divisible}
 use Rattle.input.specs.Limit.{limit}
 use Rattle.poly_gcd.specs.Euclid.{Cofactorable}
@@ -36,22 +36,22 @@ module _ {m : ℕ} {ls ts p g h : List ℕ} (c : Cofactorable m ls ts p g h) whe
   cofactor-row =
       record { tables = c.tables; small = c.small-g; room = sym (length-take-le (length g) (replicate limit 0) (omega (arith, c.few, c.shorter))) }
 
-  module _ {y f : List ℕ} (r : y ≡ logRow m g) (e : f ≡ copied p (replicate (suc limit) 0)) where
+  module _ {y f : List ℕ} (r : y ≡ log_row m g) (e : f ≡ copied p (replicate (suc limit) 0)) where
     -- the row, where it stands
     abbrev row : List ℕ
     row = take (length g) (y ++ drop (length g) (replicate limit 0))
 
     y-long : length y ≡ length g
-    y-long = ap length r ∙ length-map g (logOf (field_at m))
+    y-long = ap length r ∙ length-map g (log_of (field_at m))
 
     pub row_fits : length g ≤ length (y ++ drop (length g) (replicate limit 0))
     row_fits = omega (arith, y-long, length-append y (drop (length g) (replicate limit 0)))
 
-    row_is : row ≡ logRow m g
+    row_is : row ≡ log_row m g
     row_is = take_at y (drop (length g) (replicate limit 0)) (length g) y-long ∙ r
 
     pub row-long : length row ≡ length g
-    row-long = ap length row_is ∙ length-map g (logOf (field_at m))
+    row-long = ap length row_is ∙ length-map g (log_of (field_at m))
 
     -- the room is as long as it was
     f-long : length f ≡ suc limit

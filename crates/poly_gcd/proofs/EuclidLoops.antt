@@ -1,7 +1,7 @@
 -- Euclid's loop on two slices: what the code has done at each place.
 --   reduce-row, reduce-asks             what the row and the division ask
 --   reduce-short, reduce-long           the remainder stands at the front
---   monicLow-some, monicLow-none              what `monicLow` holds
+--   monic_low-some, monic_low-none              what `monic_low` holds
 --   turn-asks, turn_below, turn_is      one division
 --   turn_on, turn-same, turn_last       what it leaves for the next, that the greatest common divisor is the same, and
 --                                       what it is where the remainder is 0
@@ -21,13 +21,13 @@ use Rattle.algebra.specs.Polynomial.{Below}
 use Rattle.algebra.specs.Routines.{monic, rem, norm, gcd}
 use Rattle.algebra.proofs.Lengths.{length-rem, gcd-unroll}
 use Rattle.algebra.proofs.StaysBelow.{rem_below, norm-below, monic-below}
-use Rattle.field.specs.Tables.{logOf}
+use Rattle.field.specs.Tables.{log_of}
 use Rattle.field.specs.Field.{field_at, G}
 use Rattle.slices.specs.Lists.{copied}
 use Rattle.slices.proofs.Lists.{copied-front, length-copied}
-use Rattle.poly.specs.Lent.{Lent, LogRow, Loggable, logRow, held}
+use Rattle.poly.specs.Lent.{Lent, LogRow, Loggable, log_row, held}
 use Rattle.poly.specs.Division.{divided, Divisible}
-use Rattle.poly.specs.Monic.{monicLow, MadeMonic}
+use Rattle.poly.specs.Monic.{monic_low, MadeMonic}
 use Rattle.poly_gcd.specs.Euclid.{Turnable, Reducing, LeftIn, EuclidTurned, GcdIs, Commonable}
 use Rattle.input.specs.Limit.{limit}
 use Rattle.poly.proofs.Logs.{numbers_of, held-row, row-is-row}
@@ -40,15 +40,15 @@ module _ {m : ℕ} {ls ts p row b : List ℕ} {k : ℕ} (g : Reducing m ls ts p 
   reduce-row = record { tables = g.tables; small = g.small-p; room = sym (length-take-le (length p) row g.room_row) }
 
   -- the row that was written
-  written : {y : List ℕ} → y ≡ logRow m p → take (length p) (y ++ drop (length p) row) ≡ logRow m p
-  written {y} e = take_at y (drop (length p) row) (length p) (ap length e ∙ length-map p (logOf (field_at m))) ∙ e
+  written : {y : List ℕ} → y ≡ log_row m p → take (length p) (y ++ drop (length p) row) ≡ log_row m p
+  written {y} e = take_at y (drop (length p) row) (length p) (ap length e ∙ length-map p (log_of (field_at m))) ∙ e
 
-  pub reduce-asks : {y : List ℕ} → y ≡ logRow m p → length p ≤ k → Divisible m ls ts (take (length p) (y ++ drop (length p) row)) (take k b)
+  pub reduce-asks : {y : List ℕ} → y ≡ log_row m p → length p ≤ k → Divisible m ls ts (take (length p) (y ++ drop (length p) row)) (take k b)
   reduce-asks {y} e h = record {
     tables = g.tables;
     logs = subst (LogRow m) (sym (written e)) (row-is-row g.tables p g.small-p);
     small = g.small_b;
-    room = omega (arith, ap length (written e), length-map p (logOf (field_at m)), length-take-le k b g.within);
+    room = omega (arith, ap length (written e), length-map p (log_of (field_at m)), length-take-le k b g.within);
   }
 
   -- zeros behind a shorter polynomial
@@ -72,7 +72,7 @@ module _ {m : ℕ} {ls ts p row b : List ℕ} {k : ℕ} (g : Reducing m ls ts p 
       }
 
   -- the front of the division
-  pub reduce-long : {y z : List ℕ} → y ≡ logRow m p → length p ≤ k → z ≡ divided m (held m (take (length p) (y ++ drop (length p) row))) (take k b)
+  pub reduce-long : {y z : List ℕ} → y ≡ log_row m p → length p ≤ k → z ≡ divided m (held m (take (length p) (y ++ drop (length p) row))) (take k b)
       → LeftIn m p b k (z ++ drop k b)
   reduce-long {y} {z} e h d =
       let whole : held m (take (length p) (y ++ drop (length p) row)) ≡ p = ap (held m) (written e) ∙ held-row g.tables p g.small-p in
@@ -87,22 +87,22 @@ module _ {m : ℕ} {ls ts p row b : List ℕ} {k : ℕ} (g : Reducing m ls ts p 
 -- ---- `turn`
 
 -- what is behind the front does not matter
-front-append : (j : ℕ) (y z : List ℕ) → j ≤ length y → monicLow j (y ++ z) ≡ monicLow j y
-unfolding monicLow
+front-append : (j : ℕ) (y z : List ℕ) → j ≤ length y → monic_low j (y ++ z) ≡ monic_low j y
+unfolding monic_low
 front-append zero y z h = refl
 front-append (suc k) y z h = ap some (take-append-le k y z (omega arith))
 
 -- something is left
-pub monicLow-some : (j : ℕ) (y : List ℕ) → j ≢ 0 → monicLow j y ≡ some (take (j - 1) y)
-unfolding monicLow
-monicLow-some zero y h = absurd (h refl)
-monicLow-some (suc k) y h = let e : k ≡ suc k - 1 = omega arith in ap (λ i. some (take i y)) e
+pub monic_low-some : (j : ℕ) (y : List ℕ) → j ≢ 0 → monic_low j y ≡ some (take (j - 1) y)
+unfolding monic_low
+monic_low-some zero y h = absurd (h refl)
+monic_low-some (suc k) y h = let e : k ≡ suc k - 1 = omega arith in ap (λ i. some (take i y)) e
 
 -- nothing is left
-pub monicLow-none : (j : ℕ) (y : List ℕ) → j ≡ 0 → monicLow j y ≡ none
-unfolding monicLow
-monicLow-none zero y h = refl
-monicLow-none (suc k) y h = absurd (let b : ⊥ = omega arith in b)
+pub monic_low-none : (j : ℕ) (y : List ℕ) → j ≡ 0 → monic_low j y ≡ none
+unfolding monic_low
+monic_low-none zero y h = refl
+monic_low-none (suc k) y h = absurd (let b : ⊥ = omega arith in b)
 
 module _ {m : ℕ} {ls ts a : List ℕ} {n : ℕ} {b : List ℕ} {k : ℕ} (t : Turnable m ls ts a n b k) where
   -- the divisor is as long as is said
@@ -150,7 +150,7 @@ module _ {m : ℕ} {ls ts a : List ℕ} {n : ℕ} {b : List ℕ} {k : ℕ} (t : 
 
   module _ {j : ℕ} {a₁ b₁ : List ℕ} (d : EuclidTurned m a n b k j a₁ b₁) where
     -- Euclid's step
-    step : gcd (G m) (take n a) (take k b) ≡ Option-elim (monicLow j b₁) (take n a) (λ r. gcd (G m) r (monic (G m) (take n a)))
+    step : gcd (G m) (take n a) (take k b) ≡ Option-elim (monic_low j b₁) (take n a) (λ r. gcd (G m) r (monic (G m) (take n a)))
     unfolding Option-elim
     step =
         gcd-unroll (G m) (take n a) (take k b)
@@ -164,7 +164,7 @@ module _ {m : ℕ} {ls ts a : List ℕ} {n : ℕ} {b : List ℕ} {k : ℕ} (t : 
     turn_last : j ≡ 0 → take n a₁ ≡ gcd (G m) (take n a) (take k b)
     unfolding Option-elim
     turn_last z =
-        turn-kept ∙ sym (step ∙ ap (λ (o : Option (List ℕ)). Option-elim o (take n a) (λ r. gcd (G m) r (monic (G m) (take n a)))) (monicLow-none j b₁ z))
+        turn-kept ∙ sym (step ∙ ap (λ (o : Option (List ℕ)). Option-elim o (take n a) (λ r. gcd (G m) r (monic (G m) (take n a)))) (monic_low-none j b₁ z))
 
     module _ (h : j ≢ 0) where
       -- it goes on with the remainder and the divisor
@@ -172,7 +172,7 @@ module _ {m : ℕ} {ls ts a : List ℕ} {n : ℕ} {b : List ℕ} {k : ℕ} (t : 
       unfolding Option-elim
       turn-same =
           ap (gcd (G m) (take (j - 1) b₁)) d.lead
-          ∙ sym (step ∙ ap (λ (o : Option (List ℕ)). Option-elim o (take n a) (λ r. gcd (G m) r (monic (G m) (take n a)))) (monicLow-some j b₁ h))
+          ∙ sym (step ∙ ap (λ (o : Option (List ℕ)). Option-elim o (take n a) (λ r. gcd (G m) r (monic (G m) (take n a)))) (monic_low-some j b₁ h))
 
       pub turn_on : Turnable m ls ts b₁ (j - 1) a₁ (n + 1)
       turn_on = record {
@@ -181,7 +181,7 @@ module _ {m : ℕ} {ls ts a : List ℕ} {n : ℕ} {b : List ℕ} {k : ℕ} (t : 
         room-a = omega (arith, d.fewer, d.long-b, t.room-b);
         room-b = omega (arith, d.fewer, d.long-a, t.room-a);
         within = omega (arith, d.long-a, t.room-a);
-        small-a = norm-below (numbers_of t.tables) n left small-left (d.made ∙ monicLow-some j b₁ h);
+        small-a = norm-below (numbers_of t.tables) n left small-left (d.made ∙ monic_low-some j b₁ h);
         small_b = subst (Below (2 ^ m)) (sym d.lead) (monic-below (numbers_of t.tables) (take n a) t.small-a);
       }
 

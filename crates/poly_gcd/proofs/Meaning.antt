@@ -19,7 +19,7 @@ use Rattle.poly.specs.Lent.{Lent}
 use Rattle.poly.specs.Monic.{MadeMonic}
 use Rattle.poly_gcd.specs.Euclid.{Commonable, GcdIs}
 use Rattle.poly.proofs.Logs.{numbers_of}
-use Rattle.poly_gcd.proofs.EuclidLoops.{monicLow-some, monicLow-none}
+use Rattle.poly_gcd.proofs.EuclidLoops.{monic_low-some, monic_low-none}
 
 module _ {m : ℕ} {ls ts p t g g' : List ℕ} {n : ℕ} (c : Commonable m ls ts p t g) (d : GcdIs m p t n g') where
   pub gcd-means : IsGcdBelow (G m) (2 ^ m) (monic (G m) p) t (monic (G m) (take n g'))
@@ -31,7 +31,7 @@ module _ {m : ℕ} {ls ts p t g g' : List ℕ} {n : ℕ} (c : Commonable m ls ts
 
 module _ {m : ℕ} {ls ts r : List ℕ} {j : ℕ} {r' : List ℕ} (l : Lent m ls ts) (b : Below (2 ^ m) r) (d : MadeMonic m r j r') where
   pub monic-means : j ≢ 0 → Made (G m) (2 ^ m) r (take (j - 1) r')
-  monic-means h = norm-made (numbers_of l) r b (d.made ∙ monicLow-some j r' h)
+  monic-means h = norm-made (numbers_of l) r b (d.made ∙ monic_low-some j r' h)
 
   pub monic-vanishes : j ≡ 0 → (i : ℕ) → get_or r i 0 ≡ 0
-  monic-vanishes z = norm-none (numbers_of l) r b (d.made ∙ monicLow-none j r' z)
+  monic-vanishes z = norm-none (numbers_of l) r b (d.made ∙ monic_low-none j r' z)

@@ -15,7 +15,7 @@ use Rattle.algebra.specs.Polynomial.{Below}
 use Rattle.algebra.specs.Routines.{monic, rem, norm, gcd}
 use Rattle.field.specs.Field.{G}
 use Rattle.poly.specs.Lent.{Lent}
-use Rattle.poly.specs.Monic.{monicLow}
+use Rattle.poly.specs.Monic.{monic_low}
 use Rattle.input.specs.Limit.{limit}
 
 -- with room for the divisor's leading 1, and for a remainder as long as the divisor
@@ -48,7 +48,7 @@ pub record EuclidTurned (m : ℕ) (a : List ℕ) (n : ℕ) (b : List ℕ) (k j :
   pub long-a : length a' ≡ length a
   pub long-b : length b' ≡ length b
   pub lead : take (n + 1) a' ≡ monic (G m) (take n a)
-  pub made : norm (G m) n (rem (G m) (take n a) (take k b)) ≡ monicLow j b'
+  pub made : norm (G m) n (rem (G m) (take n a) (take k b)) ≡ monic_low j b'
 
 -- the outcome
 pub record GcdIs (m : ℕ) (p t : List ℕ) (n : ℕ) (g : List ℕ) : Type 0 where

@@ -18,7 +18,7 @@ use lib.Bits.{bit_xor}
 use lib.ListN.{length, get_or, take, set, length-append}
 use lib.Seq.{length-take-le, take_at, take-append-le}
 use Rattle.algebra.specs.Polynomial.{add, Below}
-use Rattle.algebra.specs.Routines.{rem, square, frobeniusMod, traceMod}
+use Rattle.algebra.specs.Routines.{rem, square, frobenius_mod, trace_mod}
 use Rattle.algebra.proofs.Lengths.{length-rem, length-square, length-add-left}
 use Rattle.algebra.proofs.StaysBelow.{below_at, rem_below, square-below}
 use Rattle.field.specs.Field.{mul, field_at, G}
@@ -151,17 +151,17 @@ pub record Powering (m : ℕ) (ls ts row : List ℕ) (k : ℕ) (w₀ s₀ w s : 
   pub within : i ≤ k
   pub long-w : length w ≡ length w₀
   pub long-s : length s ≡ length s₀
-  pub same : frobeniusMod (G m) (held m row) (k - i) w ≡ frobeniusMod (G m) (held m row) k w₀
+  pub same : frobenius_mod (G m) (held m row) (k - i) w ≡ frobenius_mod (G m) (held m row) k w₀
 
 pub power-from : {m : ℕ} {ls ts row w : List ℕ} (k : ℕ) (s : List ℕ) → Squarable m ls ts row w → Powering m ls ts row k w s w s 0
 power-from {m} {ls} {ts} {row} {w} k s g =
     let e : k - 0 ≡ k = omega arith in
-    record { given = g; within = omega arith; long-w = refl; long-s = refl; same = ap (λ n. frobeniusMod (G m) (held m row) n w) e }
+    record { given = g; within = omega arith; long-w = refl; long-s = refl; same = ap (λ n. frobenius_mod (G m) (held m row) n w) e }
 
 module _ {m : ℕ} {ls ts row : List ℕ} {k : ℕ} {w₀ s₀ w s : List ℕ} {i : ℕ} (p : Powering m ls ts row k w₀ s₀ w s i) where
   -- one squaring more
   pub power-on : {w₁ s₁ : List ℕ} → i < k → w₁ ≡ rem (G m) (held m row) (square (G m) w) → length s₁ ≡ length s → Powering m ls ts row k w₀ s₀ w₁ s₁ (i + 1)
-  unfolding frobeniusMod
+  unfolding frobenius_mod
   power-on {w₁} {s₁} h e n =
       let left : k - i ≡ suc (k - (i + 1)) = omega arith in
       let again : Squarable m ls ts row w₁ = square-again p.given e in
@@ -170,12 +170,12 @@ module _ {m : ℕ} {ls ts row : List ℕ} {k : ℕ} {w₀ s₀ w s : List ℕ} {
         within = omega arith;
         long-w = again.long ∙ sym p.given.long ∙ p.long-w;
         long-s = n ∙ p.long-s;
-        same = ap (frobeniusMod (G m) (held m row) (k - (i + 1))) e ∙ ap (λ n. frobeniusMod (G m) (held m row) n w) (sym left) ∙ p.same;
+        same = ap (frobenius_mod (G m) (held m row) (k - (i + 1))) e ∙ ap (λ n. frobenius_mod (G m) (held m row) n w) (sym left) ∙ p.same;
       }
 
-  pub power-end : k ≤ i → w ≡ frobeniusMod (G m) (held m row) k w₀
-  unfolding frobeniusMod
-  power-end h = let z : k - i ≡ 0 = omega arith in ap (λ n. frobeniusMod (G m) (held m row) n w) (sym z) ∙ p.same
+  pub power-end : k ≤ i → w ≡ frobenius_mod (G m) (held m row) k w₀
+  unfolding frobenius_mod
+  power-end h = let z : k - i ≡ 0 = omega arith in ap (λ n. frobenius_mod (G m) (held m row) n w) (sym z) ∙ p.same
 
 -- ---- `add_to`
 
@@ -211,11 +211,11 @@ pub record Tracing (m : ℕ) (ls ts row w₀ s₀ sum₀ w s sum : List ℕ) (i 
   pub long-s : length s ≡ length s₀
   pub long-sum : length sum ≡ length sum₀
   pub room : length sum₀ ≡ length row
-  pub same : add (G m) sum (traceMod (G m) (held m row) (m - i) (rem (G m) (held m row) (square (G m) w))) ≡ traceMod (G m) (held m row) m w₀
+  pub same : add (G m) sum (trace_mod (G m) (held m row) (m - i) (rem (G m) (held m row) (square (G m) w))) ≡ trace_mod (G m) (held m row) m w₀
 
 pub trace-from : {m : ℕ} {ls ts row w sum₁ : List ℕ} (s sum : List ℕ) → Squarable m ls ts row w → length sum ≡ length row → sum₁ ≡ copied w sum
     → Tracing m ls ts row w s sum₁ w s sum₁ 1
-unfolding traceMod
+unfolding trace_mod
 trace-from {m} {ls} {ts} {row} {w} {sum₁} s sum g h e =
     let positive = (small_of g.tables).degree-pos in
     let whole : sum₁ ≡ w = e ∙ copied-whole w sum (omega (arith, g.long)) in
@@ -228,8 +228,8 @@ trace-from {m} {ls} {ts} {row} {w} {sum₁} s sum g h e =
       long-s = refl;
       long-sum = refl;
       room = ap length whole ∙ g.long;
-      same = ap (λ u. add (G m) u (traceMod (G m) (held m row) (m - 1) (rem (G m) (held m row) (square (G m) w)))) whole
-          ∙ ap (λ n. traceMod (G m) (held m row) n w) up;
+      same = ap (λ u. add (G m) u (trace_mod (G m) (held m row) (m - 1) (rem (G m) (held m row) (square (G m) w)))) whole
+          ∙ ap (λ n. trace_mod (G m) (held m row) n w) up;
     }
 
 module _ {m : ℕ} {ls ts row w₀ s₀ sum₀ w s sum : List ℕ} {i : ℕ} (t : Tracing m ls ts row w₀ s₀ sum₀ w s sum i) where
@@ -240,11 +240,11 @@ module _ {m : ℕ} {ls ts row w₀ s₀ sum₀ w s sum : List ℕ} {i : ℕ} (t 
   -- one term more
   pub trace-on : {w₁ s₁ sum₁ : List ℕ} → i < m → w₁ ≡ rem (G m) (held m row) (square (G m) w) → length s₁ ≡ length s → sum₁ ≡ add (G m) sum w₁
       → Tracing m ls ts row w₀ s₀ sum₀ w₁ s₁ sum₁ (i + 1)
-  unfolding traceMod
+  unfolding trace_mod
   trace-on {w₁} {s₁} {sum₁} h e n a =
       let left : m - i ≡ suc (m - (i + 1)) = omega arith in
       let again : Squarable m ls ts row w₁ = square-again t.given e in
-      let tail : List ℕ = traceMod (G m) (held m row) (m - (i + 1)) (rem (G m) (held m row) (square (G m) w₁)) in
+      let tail : List ℕ = trace_mod (G m) (held m row) (m - (i + 1)) (rem (G m) (held m row) (square (G m) w₁)) in
       record {
         given = again;
         first = omega arith;
@@ -253,12 +253,12 @@ module _ {m : ℕ} {ls ts row w₀ s₀ sum₀ w s sum : List ℕ} {i : ℕ} (t 
         long-s = n ∙ t.long-s;
         long-sum = ap length a ∙ length-add-left (G m) sum w₁ (omega (arith, trace-asks e)) ∙ t.long-sum;
         room = t.room;
-        same = ap (λ u. add (G m) u tail) a ∙ add_assoc m sum w₁ tail ∙ ap (λ n. add (G m) sum (traceMod (G m) (held m row) n w₁)) (sym left)
-            ∙ ap (λ u. add (G m) sum (traceMod (G m) (held m row) (m - i) u)) e ∙ t.same;
+        same = ap (λ u. add (G m) u tail) a ∙ add_assoc m sum w₁ tail ∙ ap (λ n. add (G m) sum (trace_mod (G m) (held m row) n w₁)) (sym left)
+            ∙ ap (λ u. add (G m) sum (trace_mod (G m) (held m row) (m - i) u)) e ∙ t.same;
       }
 
-  pub trace-end : m ≤ i → sum ≡ traceMod (G m) (held m row) m w₀
-  unfolding traceMod
+  pub trace-end : m ≤ i → sum ≡ trace_mod (G m) (held m row) m w₀
+  unfolding trace_mod
   trace-end h =
       let z : m - i ≡ 0 = omega arith in
-      sym (add-nil m sum) ∙ ap (λ n. add (G m) sum (traceMod (G m) (held m row) n (rem (G m) (held m row) (square (G m) w)))) (sym z) ∙ t.same
+      sym (add-nil m sum) ∙ ap (λ n. add (G m) sum (trace_mod (G m) (held m row) n (rem (G m) (held m row) (square (G m) w)))) (sym z) ∙ t.same

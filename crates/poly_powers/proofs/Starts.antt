@@ -17,8 +17,8 @@ use Rattle.algebra.specs.Routines.{rem}
 use Rattle.algebra.proofs.Lengths.{length-rem}
 use Rattle.algebra.proofs.StaysBelow.{rem_below}
 use Rattle.field.specs.Field.{field_at, G}
-use Rattle.field.specs.Tables.{logOf}
-use Rattle.poly.specs.Lent.{LogRow, Loggable, logRow, held}
+use Rattle.field.specs.Tables.{log_of}
+use Rattle.poly.specs.Lent.{LogRow, Loggable, log_row, held}
 use Rattle.poly.specs.Division.{Reducible}
 use Rattle.input.specs.Limit.{limit}
 use Rattle.poly_powers.specs.Powers.{Squarable, Startable, Started, Savable, Saved}
@@ -33,28 +33,28 @@ module _ {m : ℕ} {ls ts p w : List ℕ} (g : Startable m ls ts p w) where
   start-one = (numbers_of g.tables).one_below
 
   -- the row is one
-  row_of : {row : List ℕ} → row ≡ logRow m p → LogRow m row
+  row_of : {row : List ℕ} → row ≡ log_row m p → LogRow m row
   row_of e = subst (LogRow m) (sym e) (row-is-row g.tables p g.small)
 
-  row-long : {row : List ℕ} → row ≡ logRow m p → length row ≡ length p
-  row-long e = ap length e ∙ length-map p (logOf (field_at m))
+  row-long : {row : List ℕ} → row ≡ log_row m p → length row ≡ length p
+  row-long e = ap length e ∙ length-map p (log_of (field_at m))
 
   -- and holds p
-  whole : {row : List ℕ} → row ≡ logRow m p → held m row ≡ p
+  whole : {row : List ℕ} → row ≡ log_row m p → held m row ≡ p
   whole e = ap (held m) e ∙ held-row g.tables p g.small
 
   -- bz is a polynomial
   linear-small : {b : ℕ} → b < 2 ^ m → Below (2 ^ m) (0 ∷ b ∷ [])
   linear-small h = ((numbers_of g.tables).zero-below, (h, tt))
 
-  pub start-asks : {b : ℕ} {row : List ℕ} → b < 2 ^ m → row ≡ logRow m p → Reducible m ls ts row (0 ∷ b ∷ []) w
+  pub start-asks : {b : ℕ} {row : List ℕ} → b < 2 ^ m → row ≡ log_row m p → Reducible m ls ts row (0 ∷ b ∷ []) w
   start-asks h e = record { tables = g.tables; logs = row_of e; small = linear-small h; room = g.room ∙ sym (row-long e) }
 
   -- bz has its room
   pub start-room : Startable m ls ts p (take (length p) (replicate limit 0))
   start-room = record { tables = g.tables; small = g.small; few = g.few; room = length-take-le (length p) (replicate limit 0) (omega (arith, g.few)) }
 
-  pub start_is : {b : ℕ} {row w₁ : List ℕ} → row ≡ logRow m p → w₁ ≡ rem (G m) (held m row) (0 ∷ b ∷ []) → Started m p b row w₁
+  pub start_is : {b : ℕ} {row w₁ : List ℕ} → row ≡ log_row m p → w₁ ≡ rem (G m) (held m row) (0 ∷ b ∷ []) → Started m p b row w₁
   start_is {b} e d = record { row_is = e; low = d ∙ ap (λ u. rem (G m) u (0 ∷ b ∷ [])) (whole e) }
 
 -- ---- over a row at the front of its room
@@ -68,7 +68,7 @@ module _ {m : ℕ} {ls ts p w : List ℕ} (g : Startable m ls ts p w) {b : ℕ} 
   pub begun-fits : length p ≤ length (y ++ drop (length p) (replicate limit 0))
   begun-fits = omega (arith, row-long g s.row_is, length-append y (drop (length p) (replicate limit 0)))
 
-  begun-row : row_in (length p) y ≡ logRow m p
+  begun-row : row_in (length p) y ≡ log_row m p
   begun-row = take_at y (drop (length p) (replicate limit 0)) (length p) (row-long g s.row_is) ∙ s.row_is
 
   pub begun-long : length (row_in (length p) y) ≡ length p

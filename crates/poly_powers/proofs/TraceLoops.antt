@@ -14,9 +14,9 @@ use lib.Seq.{take_at, drop-drop, get_or-take, get_or-drop, length-take-le}
 use Rattle.algebra.specs.Polynomial.{add}
 use Rattle.algebra.specs.Routines.{rem, square}
 use Rattle.field.specs.Field.{mul, field_at, G}
-use Rattle.field.specs.Tables.{logOf}
-use Rattle.poly.specs.Lent.{LogRow, IsLog, logRow, held, Addable, Loggable}
-use Rattle.poly_powers.specs.Powers.{Savable, Saved, Summable, powerRows, traceSum}
+use Rattle.field.specs.Tables.{log_of}
+use Rattle.poly.specs.Lent.{LogRow, IsLog, log_row, held, Addable, Loggable}
+use Rattle.poly_powers.specs.Powers.{Savable, Saved, Summable, power_rows, trace_sum}
 use Rattle.poly.proofs.Logs.{numbers_of, held-long}
 use Rattle.poly.proofs.Sums.{add-nil, add_assoc, long-row}
 use Rattle.poly_powers.proofs.PowerLoops.{Powering, power-from, power-on, power-end}
@@ -54,7 +54,7 @@ pub record Saving (m : ℕ) (ls ts row : List ℕ) (k : ℕ) (w₀ s₀ rows₀ 
   pub place : at ≡ i * length row
   pub room : k * length row ≤ length rows
   pub long-rows : length rows ≡ length rows₀
-  pub saved : take at rows ++ powerRows m (held m row) (k - i) w ≡ powerRows m (held m row) k w₀
+  pub saved : take at rows ++ power_rows m (held m row) (k - i) w ≡ power_rows m (held m row) k w₀
 
 pub saving-from : {m : ℕ} {ls ts row w rows : List ℕ} {k : ℕ} (s : List ℕ) → Savable m ls ts row k w rows → Saving m ls ts row k w s rows w s rows 0 0
 saving-from {m} {row = row} {w} {k = k} s g =
@@ -64,7 +64,7 @@ saving-from {m} {row = row} {w} {k = k} s g =
       place = omega arith;
       room = g.room-rows;
       long-rows = refl;
-      saved = ap (λ j. powerRows m (held m row) j w) e;
+      saved = ap (λ j. power_rows m (held m row) j w) e;
     }
 
 module _ {m : ℕ} {ls ts row : List ℕ} {k : ℕ} {w₀ s₀ rows₀ w s rows : List ℕ} {at i : ℕ} (p : Saving m ls ts row k w₀ s₀ rows₀ w s rows at i) where
@@ -84,9 +84,9 @@ module _ {m : ℕ} {ls ts row : List ℕ} {k : ℕ} {w₀ s₀ rows₀ w s rows 
       }
 
   -- one row more
-  pub saving-on : {w₁ s₁ y : List ℕ} → i < k → y ≡ logRow m w → w₁ ≡ rem (G m) (held m row) (square (G m) w) → length s₁ ≡ length s
+  pub saving-on : {w₁ s₁ y : List ℕ} → i < k → y ≡ log_row m w → w₁ ≡ rem (G m) (held m row) (square (G m) w) → length s₁ ≡ length s
       → Saving m ls ts row k w₀ s₀ rows₀ w₁ s₁ (take at rows ++ (y ++ drop (at + length row - at) (drop at rows))) (at + length row) (i + 1)
-  unfolding powerRows
+  unfolding power_rows
   saving-on {w₁} {s₁} {y} h f e n =
       let d : ℕ = at + length row - at in
       let o : d ≡ length row = omega arith in
@@ -94,27 +94,27 @@ module _ {m : ℕ} {ls ts row : List ℕ} {k : ℕ} {w₀ s₀ rows₀ w s rows 
       let q : List ℕ = held m row in
       let r = saving-room h in
       let rows₁ : List ℕ = take at rows ++ (y ++ drop d (drop at rows)) in
-      let long : length y ≡ length row = ap length f ∙ length-map w (logOf (field_at m)) ∙ p.powering.given.long in
+      let long : length y ≡ length row = ap length f ∙ length-map w (log_of (field_at m)) ∙ p.powering.given.long in
       let l : length rows₁ ≡ length rows = ap (λ j. length (take at rows ++ (y ++ drop j (drop at rows)))) o ∙ part-long at (length row) y rows r long in
       record {
         powering = power-on p.powering h e n;
         place = next_place i (length row) p.place;
         room = subst (λ j. k * length row ≤ j) (sym l) p.room;
         long-rows = l ∙ p.long-rows;
-        saved = ap₂ (λ u v. u ++ powerRows m q (k - (i + 1)) v) (part-front at (length row) d y rows r long ∙ ap (λ u. take at rows ++ u) f) e
-            ∙ append_assoc (take at rows) (logRow m w) (powerRows m q (k - (i + 1)) (rem (G m) q (square (G m) w)))
-            ∙ ap (λ j. take at rows ++ powerRows m q j w) (sym left) ∙ p.saved;
+        saved = ap₂ (λ u v. u ++ power_rows m q (k - (i + 1)) v) (part-front at (length row) d y rows r long ∙ ap (λ u. take at rows ++ u) f) e
+            ∙ append_assoc (take at rows) (log_row m w) (power_rows m q (k - (i + 1)) (rem (G m) q (square (G m) w)))
+            ∙ ap (λ j. take at rows ++ power_rows m q j w) (sym left) ∙ p.saved;
       }
 
   pub saving-end : k ≤ i → Saved m (held m row) k w₀ w rows
-  unfolding powerRows
+  unfolding power_rows
   saving-end h =
       let z : k - i ≡ 0 = omega (arith, p.powering.within) in
       let all : i ≡ k = omega (arith, p.powering.within) in
       let here : at ≡ k * length (held m row) = p.place ∙ ap₂ (λ a b. a * b) all (sym (held-long m row)) in
       record {
         power = power-end p.powering h;
-        rows_are = ap (λ j. take j rows) (sym here) ∙ sym (append-nil (take at rows)) ∙ ap (λ j. take at rows ++ powerRows m (held m row) j w) (sym z) ∙ p.saved;
+        rows_are = ap (λ j. take j rows) (sym here) ∙ sym (append-nil (take at rows)) ∙ ap (λ j. take at rows ++ power_rows m (held m row) j w) (sym z) ∙ p.saved;
       }
 
 -- ---- `add_trace`
@@ -136,7 +136,7 @@ pub record Combining (m : ℕ) (ls ts rows : List ℕ) (k b : ℕ) (t₀ t : Lis
   pub element : c < 2 ^ m
   pub place : at ≡ i * length t₀
   pub long : length t ≡ length t₀
-  pub sum : add (G m) t (traceSum m (length t₀) (k - i) c (drop at rows)) ≡ add (G m) t₀ (traceSum m (length t₀) k b rows)
+  pub sum : add (G m) t (trace_sum m (length t₀) (k - i) c (drop at rows)) ≡ add (G m) t₀ (trace_sum m (length t₀) k b rows)
 
 pub combine-from : {m : ℕ} {ls ts rows t : List ℕ} {k b : ℕ} → Summable m ls ts rows k b t → Combining m ls ts rows k b t t b 0 0
 combine-from {m} {rows = rows} {t} {k} {b} g =
@@ -147,7 +147,7 @@ combine-from {m} {rows = rows} {t} {k} {b} g =
       element = g.element;
       place = omega arith;
       long = refl;
-      sum = ap (λ j. add (G m) t (traceSum m (length t) j b rows)) e;
+      sum = ap (λ j. add (G m) t (trace_sum m (length t) j b rows)) e;
     }
 
 module _ {m : ℕ} {ls ts rows : List ℕ} {k b : ℕ} {t₀ t : List ℕ} {c at i : ℕ} (p : Combining m ls ts rows k b t₀ t c at i) where
@@ -171,27 +171,27 @@ module _ {m : ℕ} {ls ts rows : List ℕ} {k b : ℕ} {t₀ t : List ℕ} {c at
   -- one term more
   pub combine-on : {c₁ : ℕ} {t₁ : List ℕ} → i < k → t₁ ≡ add (G m) t (map ((G m).mul c) (held m (take (at + length t₀ - at) (drop at rows)))) → c₁ ≡ mul (field_at m) c c
       → Combining m ls ts rows k b t₀ t₁ c₁ (at + length t₀) (i + 1)
-  unfolding traceSum
+  unfolding trace_sum
   combine-on {c₁} {t₁} h e f =
       let o : at + length t₀ - at ≡ length t₀ = omega arith in
       let left : k - i ≡ suc (k - (i + 1)) = omega arith in
       let a : List ℕ = map ((G m).mul c) (held m (take (length t₀) (drop at rows))) in
       let to : t₁ ≡ add (G m) t a = e ∙ ap (λ j. add (G m) t (map ((G m).mul c) (held m (take j (drop at rows))))) o in
       let r : Addable m ls ts c (take (length t₀) (drop at rows)) t = subst (λ j. Addable m ls ts c (take j (drop at rows)) t) o (combine-asks h) in
-      let rest : List ℕ = traceSum m (length t₀) (k - (i + 1)) ((G m).mul c c) (drop (length t₀) (drop at rows)) in
+      let rest : List ℕ = trace_sum m (length t₀) (k - (i + 1)) ((G m).mul c c) (drop (length t₀) (drop at rows)) in
       record {
         given = p.given;
         within = omega arith;
         element = subst (λ x. x < 2 ^ m) (sym f) ((numbers_of p.given.tables).mul-below c c p.element p.element);
         place = next_place i (length t₀) p.place;
         long = ap length to ∙ long-row m t (held m (take (length t₀) (drop at rows))) c (omega (arith, held-long m (take (length t₀) (drop at rows)), r.room)) ∙ p.long;
-        sum = ap₂ (λ u v. add (G m) u (traceSum m (length t₀) (k - (i + 1)) v (drop (at + length t₀) rows))) to f
-            ∙ ap (λ l. add (G m) (add (G m) t a) (traceSum m (length t₀) (k - (i + 1)) ((G m).mul c c) l)) (sym (drop-drop (length t₀) at rows))
-            ∙ add_assoc m t a rest ∙ ap (λ j. add (G m) t (traceSum m (length t₀) j c (drop at rows))) (sym left) ∙ p.sum;
+        sum = ap₂ (λ u v. add (G m) u (trace_sum m (length t₀) (k - (i + 1)) v (drop (at + length t₀) rows))) to f
+            ∙ ap (λ l. add (G m) (add (G m) t a) (trace_sum m (length t₀) (k - (i + 1)) ((G m).mul c c) l)) (sym (drop-drop (length t₀) at rows))
+            ∙ add_assoc m t a rest ∙ ap (λ j. add (G m) t (trace_sum m (length t₀) j c (drop at rows))) (sym left) ∙ p.sum;
       }
 
-  pub combine-end : k ≤ i → t ≡ add (G m) t₀ (traceSum m (length t₀) k b rows)
-  unfolding traceSum
+  pub combine-end : k ≤ i → t ≡ add (G m) t₀ (trace_sum m (length t₀) k b rows)
+  unfolding trace_sum
   combine-end h =
       let z : k - i ≡ 0 = omega (arith, p.within) in
-      sym (add-nil m t) ∙ ap (λ j. add (G m) t (traceSum m (length t₀) j c (drop at rows))) (sym z) ∙ p.sum
+      sym (add-nil m t) ∙ ap (λ j. add (G m) t (trace_sum m (length t₀) j c (drop at rows))) (sym z) ∙ p.sum

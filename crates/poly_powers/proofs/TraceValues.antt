@@ -1,7 +1,7 @@
 -- What a trace sum of rows means: at a root r of p, where the rows hold the powers w, w^2, w^4, .. modulo p, it is the
 -- trace of b w(r).
---   traceSum-below   its coefficients are elements
---   powerRows-long   how long the rows are;  powerRows-row  they are logs
+--   trace_sum-below   its coefficients are elements
+--   power_rows-long   how long the rows are;  power_rows-row  they are logs
 --   TRACE-VALUE      the law
 -- Assumes nothing.
 use mathlib.Core.Path.{◌≡◌, refl, sym, ap, ap₂, ◌∙◌}
@@ -20,9 +20,9 @@ use Rattle.algebra.proofs.NumberElements.{square-mul}
 use Rattle.algebra.proofs.NumberEvaluation.{eval_add, eval-scale, eval-square}
 use Rattle.algebra.proofs.NumberDivision.{eval-rem}
 use Rattle.field.specs.Field.{field_at, G}
-use Rattle.field.specs.Tables.{logOf}
-use Rattle.poly.specs.Lent.{Lent, LogRow, IsLog, logRow, held}
-use Rattle.poly_powers.specs.Powers.{powerRows, traceSum}
+use Rattle.field.specs.Tables.{log_of}
+use Rattle.poly.specs.Lent.{Lent, LogRow, IsLog, log_row, held}
+use Rattle.poly_powers.specs.Powers.{power_rows, trace_sum}
 use Rattle.poly.proofs.Logs.{numbers_of, held-row, held_below, row-is-row}
 
 module _ {m : ℕ} {ls ts : List ℕ} (l : Lent m ls ts) where
@@ -30,12 +30,12 @@ module _ {m : ℕ} {ls ts : List ℕ} (l : Lent m ls ts) where
   N = numbers_of l
 
   -- its coefficients are elements, whatever the rows hold
-  pub traceSum-below : (n k b : ℕ) (rows : List ℕ) → b < 2 ^ m → Below (2 ^ m) (traceSum m n k b rows)
-  unfolding traceSum
-  traceSum-below n zero b rows h = tt
-  traceSum-below n (suc k) b rows h =
-      add-below N (map ((G m).mul b) (held m (take n rows))) (traceSum m n k ((G m).mul b b) (drop n rows))
-      (scale-below N b (held m (take n rows)) h (held_below l (take n rows))) (traceSum-below n k ((G m).mul b b) (drop n rows) (N.mul-below b b h h))
+  pub trace_sum-below : (n k b : ℕ) (rows : List ℕ) → b < 2 ^ m → Below (2 ^ m) (trace_sum m n k b rows)
+  unfolding trace_sum
+  trace_sum-below n zero b rows h = tt
+  trace_sum-below n (suc k) b rows h =
+      add-below N (map ((G m).mul b) (held m (take n rows))) (trace_sum m n k ((G m).mul b b) (drop n rows))
+      (scale-below N b (held m (take n rows)) h (held_below l (take n rows))) (trace_sum-below n k ((G m).mul b b) (drop n rows) (N.mul-below b b h h))
 
   module _ (p : List ℕ) (hp : Below (2 ^ m) p) where
     -- the next power
@@ -46,27 +46,27 @@ module _ {m : ℕ} {ls ts : List ℕ} (l : Lent m ls ts) where
     next-long w = length-rem (G m) p (square (G m) w)
 
     -- the rows stand one behind the other
-    pub powerRows-long : (k : ℕ) (w : List ℕ) → length w ≡ length p → length (powerRows m p k w) ≡ k * length p
-    unfolding powerRows
-    powerRows-long zero w e = omega arith
-    powerRows-long (suc k) w e =
+    pub power_rows-long : (k : ℕ) (w : List ℕ) → length w ≡ length p → length (power_rows m p k w) ≡ k * length p
+    unfolding power_rows
+    power_rows-long zero w e = omega arith
+    power_rows-long (suc k) w e =
         let a : suc k * length p ≡ k * length p + length p = suc-mul k (length p) in
         omega (
           arith,
-          length-append (logRow m w) (powerRows m p k (rem (G m) p (square (G m) w))),
-          length-map w (logOf (field_at m)),
-          powerRows-long k (rem (G m) p (square (G m) w)) (next-long w),
+          length-append (log_row m w) (power_rows m p k (rem (G m) p (square (G m) w))),
+          length-map w (log_of (field_at m)),
+          power_rows-long k (rem (G m) p (square (G m) w)) (next-long w),
         )
 
     -- and are logs
-    pub powerRows-row : (k : ℕ) (w : List ℕ) → Below (2 ^ m) w → LogRow m (powerRows m p k w)
-    unfolding powerRows
-    powerRows-row zero w hw = record { entry = λ i h. absurd (let x : ⊥ = omega arith in x) }
-    powerRows-row (suc k) w hw =
-        let rest : List ℕ = powerRows m p k (rem (G m) p (square (G m) w)) in
-        let a : LogRow m (logRow m w) = row-is-row l w hw in
-        let b : LogRow m rest = powerRows-row k (rem (G m) p (square (G m) w)) (next_small w hw) in
-        record { entry = λ i h. both (logRow m w) rest a b i h }
+    pub power_rows-row : (k : ℕ) (w : List ℕ) → Below (2 ^ m) w → LogRow m (power_rows m p k w)
+    unfolding power_rows
+    power_rows-row zero w hw = record { entry = λ i h. absurd (let x : ⊥ = omega arith in x) }
+    power_rows-row (suc k) w hw =
+        let rest : List ℕ = power_rows m p k (rem (G m) p (square (G m) w)) in
+        let a : LogRow m (log_row m w) = row-is-row l w hw in
+        let b : LogRow m rest = power_rows-row k (rem (G m) p (square (G m) w)) (next_small w hw) in
+        record { entry = λ i h. both (log_row m w) rest a b i h }
       where
         both : (u v : List ℕ) → LogRow m u → LogRow m v → (i : ℕ) → i < length (u ++ v) → IsLog m (get_or (u ++ v) i 0)
         both [] v a b i h = b.entry i h
@@ -80,22 +80,22 @@ module _ {m : ℕ} {ls ts : List ℕ} (l : Lent m ls ts) where
 
       -- THE LAW
       pub trace-value : (k b : ℕ) (w : List ℕ) → b < 2 ^ m → Below (2 ^ m) w → length w ≡ length p
-          → eval (G m) (traceSum m (length p) k b (powerRows m p k w)) r ≡ trace (G m) k ((G m).mul b (eval (G m) w r))
-      unfolding traceSum powerRows eval trace
+          → eval (G m) (trace_sum m (length p) k b (power_rows m p k w)) r ≡ trace (G m) k ((G m).mul b (eval (G m) w r))
+      unfolding trace_sum power_rows eval trace
       trace-value zero b w hb hw e = refl
       trace-value (suc k) b w hb hw e =
           let w₁ : List ℕ = rem (G m) p (square (G m) w) in
-          let rest : List ℕ = powerRows m p k w₁ in
+          let rest : List ℕ = power_rows m p k w₁ in
           let n : ℕ = length p in
-          let long : length (logRow m w) ≡ n = length-map w (logOf (field_at m)) ∙ e in
+          let long : length (log_row m w) ≡ n = length-map w (log_of (field_at m)) ∙ e in
           let v : ℕ = eval (G m) w r in
           let hv : v < 2 ^ m = eval-below N w r hw hr in
           let bb : ℕ = (G m).mul b b in
           let hbb : bb < 2 ^ m = N.mul-below b b hb hb in
-          let first : held m (take n (logRow m w ++ rest)) ≡ w = ap (held m) (take_at (logRow m w) rest n long) ∙ held-row l w hw in
-          let behind : drop n (logRow m w ++ rest) ≡ rest = drop_at (logRow m w) rest n long in
-          ap₂ (λ x y. eval (G m) (add (G m) (map ((G m).mul b) x) (traceSum m n k bb y)) r) first behind
-          ∙ eval_add N (map ((G m).mul b) w) (traceSum m n k bb rest) (scale-below N b w hb hw) (traceSum-below n k bb rest hbb) r hr
+          let first : held m (take n (log_row m w ++ rest)) ≡ w = ap (held m) (take_at (log_row m w) rest n long) ∙ held-row l w hw in
+          let behind : drop n (log_row m w ++ rest) ≡ rest = drop_at (log_row m w) rest n long in
+          ap₂ (λ x y. eval (G m) (add (G m) (map ((G m).mul b) x) (trace_sum m n k bb y)) r) first behind
+          ∙ eval_add N (map ((G m).mul b) w) (trace_sum m n k bb rest) (scale-below N b w hb hw) (trace_sum-below n k bb rest hbb) r hr
           ∙ ap₂ (G m).add (eval-scale N b w hb hw r hr)
           (trace-value k bb w₁ hbb (next_small w hw) (next-long w)
           ∙ ap (λ x. trace (G m) k x) (ap ((G m).mul bb) (next-value w hw) ∙ sym (square-mul N b v hb hv)))

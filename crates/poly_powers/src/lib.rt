@@ -2,12 +2,12 @@
 // z once for all b. The work is here, for degrees up to the house's limit.
 ghost use Rattle.std.specs.Prelude.{◌≡◌, ◌+◌, ◌*◌, ◌≤◌, ◌<◌, ◌^◌, [], ◌∷◌, length};
 ghost use Rattle.algebra.specs.Polynomial.{add};
-ghost use Rattle.algebra.specs.Routines.{rem, square, frobeniusMod, traceMod};
+ghost use Rattle.algebra.specs.Routines.{rem, square, frobenius_mod, trace_mod};
 ghost use Rattle.field.specs.Field.{mul, field_at, G};
 ghost use Rattle.poly.specs.Lent.{Lent, held};
 ghost use Rattle.input.specs.Limit.{limit};
 ghost use Rattle.poly_powers.specs.Powers.{Spreadable, Squarable, Startable, Started};
-ghost use Rattle.poly_powers.specs.Powers.{Savable, Saved, Summable, traceSum};
+ghost use Rattle.poly_powers.specs.Powers.{Savable, Saved, Summable, trace_sum};
 
 use input::{LIMIT, SQUARE};
 use poly::division::{divide, remainder};
@@ -55,7 +55,7 @@ fn square_mod(m: u16, logs: &[u16], antilogs: &[u16], row: &[u16], w: &mut [u16]
 // Squares w k times, so that it becomes w^(2^k) modulo the polynomial that the row holds.
 pub fn power_mod(m: u16, logs: &[u16], antilogs: &[u16], row: &[u16], k: u16, w: &mut [u16])
     requires { Squarable m logs.now antilogs.now row.now w.old }
-    ensures { w.new ≡ frobeniusMod (G m) (held m row.now) k w.old }
+    ensures { w.new ≡ frobenius_mod (G m) (held m row.now) k w.old }
 {
     let mut s = [0u16; SQUARE];
     let mut i: u16 = 0;
@@ -93,7 +93,7 @@ fn add_to(m: u16, w: &[u16], sum: &mut [u16])
 // is used up.
 fn trace_mod(m: u16, logs: &[u16], antilogs: &[u16], row: &[u16], w: &mut [u16], t: &mut [u16])
     requires { Squarable m logs.now antilogs.now row.now w.old × (length t.old ≡ length row.now) }
-    ensures { t.new ≡ traceMod (G m) (held m row.now) m w.old }
+    ensures { t.new ≡ trace_mod (G m) (held m row.now) m w.old }
 {
     let mut s = [0u16; SQUARE];
     slices::copy(&w[..], t);
@@ -136,7 +136,7 @@ fn power_rows(
 pub fn z_power(m: u16, logs: &[u16], antilogs: &[u16], p: &[u16], k: u16, w: &mut [u16])
     requires { Startable m logs.now antilogs.now p.now w.old }
     ensures { w.new
-        ≡ frobeniusMod (G m) p.now k (rem (G m) p.now (0 ∷ 1 ∷ [])) }
+        ≡ frobenius_mod (G m) p.now k (rem (G m) p.now (0 ∷ 1 ∷ [])) }
 {
     let n = p.len();
     let mut row = [0u16; LIMIT];
@@ -147,7 +147,7 @@ pub fn z_power(m: u16, logs: &[u16], antilogs: &[u16], p: &[u16], k: u16, w: &mu
 // Writes Tr(bz) modulo the monic polynomial with the low coefficients p to t.
 pub fn trace_of(m: u16, logs: &[u16], antilogs: &[u16], p: &[u16], b: u16, t: &mut [u16])
     requires { Startable m logs.now antilogs.now p.now t.old × (b < 2 ^ m) }
-    ensures { t.new ≡ traceMod (G m) p.now m (rem (G m) p.now (0 ∷ b ∷ [])) }
+    ensures { t.new ≡ trace_mod (G m) p.now m (rem (G m) p.now (0 ∷ b ∷ [])) }
 {
     let n = p.len();
     let mut row = [0u16; LIMIT];
@@ -190,7 +190,7 @@ pub fn add_trace(
 )
     requires { Summable m logs.now antilogs.now rows.now k b t.old }
     ensures { t.new
-        ≡ add (G m) t.old (traceSum m (length t.old) k b rows.now) }
+        ≡ add (G m) t.old (trace_sum m (length t.old) k b rows.now) }
 {
     let n = t.len();
     let mut c = b;

@@ -29,7 +29,7 @@ use Rattle.field.proofs.Ring.{ring}
 use Rattle.field.proofs.Xor.{xor-equal, xor-cancel}
 use Rattle.field.proofs.Solutions.{solution, no-solution, root-to, root-from, quad-trace}
 use Rattle.poly_resultants.specs.Maps.{quad, tower, low, high, image, digits}
-use Rattle.poly_resultants.specs.Levels.{most, Solves, Lifts, valueBy, normBy, Few, Polynomial, Levelled}
+use Rattle.poly_resultants.specs.Levels.{most, Solves, Lifts, value_by, norm_by, Few, Polynomial, Levelled}
 use Rattle.poly_resultants.proofs.Ring.{Ring, known-ring, add_left_comm, mul_left_comm, add_back, add-mul, add-zero}
 use Rattle.poly_resultants.proofs.Values.{digits_value, resultant-value, root-image}
 use Rattle.poly_resultants.proofs.Numbers.{N, few-roots, quotient-quad, quotient-zero, quotient-only, zero-low, quad-lt}
@@ -158,7 +158,7 @@ module _ (m : ℕ) (k : known m ≡ true) where
   pub lifts-none : (b : ℕ) (p r : List ℕ) → Lifts m b p r [] []
   lifts-none b p r = record { exact = λ x. (λ i. absurd (Memᴰ.not-nil i), λ i. absurd (Memᴰ.not-nil i.1)); distinct = tt }
 
-  module _ (b : ℕ) (p r : List ℕ) (hp : Below q p) (hr : Below q r) (y : ℕ) (hy : y < q) (z : normBy m b p r y ≡ 0) where
+  module _ (b : ℕ) (p r : List ℕ) (hp : Below q p) (hr : Below q r) (y : ℕ) (hy : y < q) (z : norm_by m b p r y ≡ 0) where
     -- the value of p and of r at y
     abbrev v : ℕ
     v = eval (G m) p y
@@ -166,14 +166,14 @@ module _ (m : ℕ) (k : known m ≡ true) where
     abbrev w : ℕ
     w = eval (G m) r y
 
-    at_y : (x : ℕ) → quad (G m) b x ≡ y → valueBy m b p r x ≡ bit_xor v (mul (field_at m) x w)
+    at_y : (x : ℕ) → quad (G m) b x ≡ y → value_by m b p r x ≡ bit_xor v (mul (field_at m) x w)
     at_y x e = ap (λ t. bit_xor (eval (G m) p t) (mul (field_at m) x (eval (G m) r t))) e
 
     pub lifts-one : w ≢ 0 → Lifts m b p r (y ∷ []) (mul (field_at m) (inverse (field_at m) w) v ∷ [])
     lifts-one n = record {
       exact = λ x. (
         λ i. let e : x ≡ one = Memᴰ.eq_of_singleton i in
-            subst (λ t. (t < q) × Memᴰ (quad (G m) b t) (y ∷ []) × (valueBy m b p r t ≡ 0)) (sym e)
+            subst (λ t. (t < q) × Memᴰ (quad (G m) b t) (y ∷ []) × (value_by m b p r t ≡ 0)) (sym e)
             (mul-lt (inverse (field_at m) w) v, Memᴰ.head goes, at_y one goes ∙ quotient-zero m k v w hv hw n),
         λ i. Memᴰ.head (quotient-only m k v w x hv hw n i.0 (sym (at_y x (Memᴰ.eq_of_singleton i.1)) ∙ i.2)),
       );
@@ -225,14 +225,14 @@ module _ (m : ℕ) (k : known m ≡ true) where
 
   pub lifts-few : {b : ℕ} {p r ys xs : List ℕ} → Few m b p r → Lifts m b p r ys xs → length xs ≤ most
   lifts-few {b} {p} {r} {ys} {xs} f l =
-      f xs l.distinct (all_from (λ x. (x < q) × (valueBy m b p r x ≡ 0)) xs (λ x i. let h = (l.exact x).0 i in (h.0, h.2)))
+      f xs l.distinct (all_from (λ x. (x < q) × (value_by m b p r x ≡ 0)) xs (λ x i. let h = (l.exact x).0 i in (h.0, h.2)))
 
   -- ---- from a level to the one above it
 
   module _ (b : ℕ) (f : List ℕ) where
     -- a root of the resultant makes the norm 0
     pub norm-zeros : (ys : List ℕ) → All (λ y. (y < q) × (eval (G m) (image (G m) b f) y ≡ 0)) ys
-        → All (λ y. (y < q) × (normBy m b (low (G m) b f) (high (G m) b f) y ≡ 0)) ys
+        → All (λ y. (y < q) × (norm_by m b (low (G m) b f) (high (G m) b f) y ≡ 0)) ys
     norm-zeros ys = all_map (λ y h. (h.0, sym (resultant-value R b (digits (G m) b f) y) ∙ h.1)) ys
 
     pub image-few : Polynomial m f → Few m b (low (G m) b f) (high (G m) b f)

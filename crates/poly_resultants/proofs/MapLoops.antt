@@ -18,8 +18,8 @@ use Rattle.algebra.proofs.StaysBelow.{drop-below, below_at}
 use Rattle.slices.proofs.Filling.{Filling, fill-from, fill_on, fill-next, fill_end, map-from, map_on}
 use Rattle.field.specs.Field.{field_at, G, mul as times}
 use Rattle.input.specs.Limit.{limit}
-use Rattle.field.specs.Tables.{logOf}
-use Rattle.poly.specs.Lent.{Lent, LogRow, logRow, held, Addable, Loggable}
+use Rattle.field.specs.Tables.{log_of}
+use Rattle.poly.specs.Lent.{Lent, LogRow, log_row, held, Addable, Loggable}
 use Rattle.poly.proofs.Parts.{part-rest, part_none}
 use Rattle.poly.proofs.Logs.{held-long, held-row, row-is-row}
 use Rattle.poly.proofs.RowLoops.{added}
@@ -370,13 +370,13 @@ module _ {m : ℕ} {ls ts : List ℕ} {b : ℕ} {p q g : List ℕ} (d : Digits m
   row-asks e = record { tables = d.factors.tables; small = high_small; room = sym e }
 
   -- the row that was written, as it is lent again
-  pub row_back : (y rest : List ℕ) → y ≡ logRow m q → take (length q) (y ++ rest) ≡ logRow m q
-  row_back y rest e = take_at y rest (length q) (ap length e ∙ length-map q (logOf (field_at m))) ∙ e
+  pub row_back : (y rest : List ℕ) → y ≡ log_row m q → take (length q) (y ++ rest) ≡ log_row m q
+  row_back y rest e = take_at y rest (length q) (ap length e ∙ length-map q (log_of (field_at m))) ∙ e
 
-  pub row_fits : (y rest : List ℕ) → y ≡ logRow m q → length q ≤ length (y ++ rest)
-  row_fits y rest e = omega (arith, length-append y rest, ap length e, length-map q (logOf (field_at m)))
+  pub row_fits : (y rest : List ℕ) → y ≡ log_row m q → length q ≤ length (y ++ rest)
+  row_fits y rest e = omega (arith, length-append y rest, ap length e, length-map q (log_of (field_at m)))
 
-  pub product-asks : {row s : List ℕ} → row ≡ logRow m q → s ≡ map (λ c. times (field_at m) c c) g → Products m ls ts b p row s
+  pub product-asks : {row s : List ℕ} → row ≡ log_row m q → s ≡ map (λ c. times (field_at m) c c) g → Products m ls ts b p row s
   product-asks {row} {s} e f = record {
     factors = record {
       tables = d.factors.tables;
@@ -385,11 +385,11 @@ module _ {m : ℕ} {ls ts : List ℕ} {b : ℕ} {p q g : List ℕ} (d : Digits m
       elements = subst (Below (2 ^ m)) (sym d.low) (evens-below m d.factors.tables.degree g d.factors.elements);
     };
     logs = subst (LogRow m) (sym e) (row-is-row d.factors.tables q high_small);
-    some = let l = d.least in omega (arith, ap length e, length-map q (logOf (field_at m)), high-long);
-    space = omega (arith, ap length e, length-map q (logOf (field_at m)), low-long, ap length f, length-map g (λ c. times (field_at m) c c));
+    some = let l = d.least in omega (arith, ap length e, length-map q (log_of (field_at m)), high-long);
+    space = omega (arith, ap length e, length-map q (log_of (field_at m)), low-long, ap length f, length-map g (λ c. times (field_at m) c c));
   }
 
-  pub product-end : {row s r : List ℕ} → row ≡ logRow m q → s ≡ map (λ c. times (field_at m) c c) g
+  pub product-end : {row s r : List ℕ} → row ≡ log_row m q → s ≡ map (λ c. times (field_at m) c c) g
       → r ≡ add (G m) s (mul (G m) (map ((G m).mul b) p) (held m row)) → r ≡ resultant (G m) b g
   unfolding resultant
   product-end {row} {s} {r} e f h =

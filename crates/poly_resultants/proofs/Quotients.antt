@@ -12,7 +12,7 @@ use native.Mathlib.Omega.{arith}
 use lib.ListN.{length, get_or}
 use Rattle.algebra.specs.Field.{power}
 use Rattle.field.specs.Field.{Field, order, mul, inverse, numbers, position, field_at}
-use Rattle.field.specs.Tables.{logOf, antilogOf}
+use Rattle.field.specs.Tables.{log_of, antilog_of}
 use Rattle.field.proofs.Ring.{power-add, mul-zero-r}
 use Rattle.field.proofs.Generator.{one_below, position-is}
 use Rattle.field.proofs.Logarithms.{log-position, log-lt, antilog-even, antilog-odd}
@@ -20,8 +20,8 @@ use Rattle.poly.specs.Lent.{Lent}
 use Rattle.poly.proofs.Logs.{field_of, log-at, inverse-fits, inverse-at}
 
 -- the log of 0
-log-none : (F : Field) → logOf F 0 ≡ 1
-unfolding logOf
+log-none : (F : Field) → log_of F 0 ≡ 1
+unfolding log_of
 log-none F = refl
 
 module _ {m : ℕ} {ls ts : List ℕ} (l : Lent m ls ts) {x y : ℕ} (p : 0 < x) (h : x < 2 ^ m) (k : y < 2 ^ m) where
@@ -54,20 +54,20 @@ module _ {m : ℕ} {ls ts : List ℕ} (l : Lent m ls ts) {x y : ℕ} (p : 0 < x)
   inverse-power : inverse F x ≡ power (numbers F) 2 i
   inverse-power =
       sym (inverse-at l p h) ∙ l.antilogs.entry (2 * (length ls - 1) - get_or ls x 0) (omega (arith, (inverse-fits l p h).1, l.antilogs.entries))
-      ∙ ap (antilogOf F) place ∙ antilog-even F i
+      ∙ ap (antilog_of F) place ∙ antilog-even F i
 
   pub quotient-at : get_or ts (2 * (length ls - 1) - get_or ls x 0 + get_or ls y 0) 0 ≡ mul F (inverse F x) y
   quotient-at =
       l.antilogs.entry (2 * (length ls - 1) - get_or ls x 0 + get_or ls y 0) (omega (arith, quotient_fits, l.antilogs.entries))
-      ∙ ap₂ (λ a b. antilogOf F (a + b)) place (log-at l k) ∙ go (dec_lt 0 y)
+      ∙ ap₂ (λ a b. antilog_of F (a + b)) place (log-at l k) ∙ go (dec_lt 0 y)
     where
-      go : Dec (0 < y) → antilogOf F (2 * i + logOf F y) ≡ mul F (inverse F x) y
+      go : Dec (0 < y) → antilog_of F (2 * i + log_of F y) ≡ mul F (inverse F x) y
       go (yes q) =
-          let sum : 2 * i + logOf F y ≡ 2 * (i + position F y) = omega (arith, log-position F y q) in
-          ap (antilogOf F) sum ∙ antilog-even F (i + position F y)
+          let sum : 2 * i + log_of F y ≡ 2 * (i + position F y) = omega (arith, log-position F y q) in
+          ap (antilog_of F) sum ∙ antilog-even F (i + position F y)
           ∙ power-add F (field_of l).monic (one_below F (field_of l)) 2 i (position F y)
           ∙ ap₂ (mul F) (sym inverse-power) (position-is F (field_of l) y q k).1
       go (no z) =
           let e : y ≡ 0 = omega arith in
-          antilog-odd F (2 * i + logOf F y) (omega (arith, ap (logOf F) e, log-none F))
+          antilog-odd F (2 * i + log_of F y) (omega (arith, ap (log_of F) e, log-none F))
           ∙ sym (mul-zero-r F (field_of l).monic (inverse F x)) ∙ ap (mul F (inverse F x)) (sym e)

@@ -15,7 +15,7 @@ use lib.Bits.{bit_xor, xor_lt}
 use lib.Dec.{T, ltb, ltb→lt}
 use lib.Pow.{pow_pos}
 use Rattle.algebra.specs.Trial.{All}
-use Rattle.field.specs.Rows.{known, polyIn}
+use Rattle.field.specs.Rows.{known, poly_in}
 use Rattle.field.specs.Field.{G, mul}
 use Rattle.field.proofs.Known.{by_row, row4, row8, row11, listed}
 use Rattle.field.proofs.Digits.{bit-cases}
@@ -23,7 +23,7 @@ use Rattle.field.proofs.Xor.{xor-digits}
 use Rattle.field.proofs.Additive.{Additive, basis, additive-double, additive-zero}
 use Rattle.poly_resultants.specs.Maps.{quad, tower}
 use Rattle.poly_resultants.specs.Levels.{Fours}
-use Rattle.poly_resultants.specs.Chains.{Chained, chainOf, end_of, chain4, chain8, chain11}
+use Rattle.poly_resultants.specs.Chains.{Chained, chain_of, end_of, chain4, chain8, chain11}
 use Rattle.poly_resultants.proofs.Ring.{known-ring, square-add, add_left_comm}
 
 -- ---- a tower is additive
@@ -94,10 +94,10 @@ chained m k d bs f s u = record {
 -- ---- the known fields
 
 -- each, by its tests
-pub chained-of : (m : ℕ) → known m ≡ true → Chained m (chainOf m) (end_of m)
-unfolding under steady basis tower mul polyIn
+pub chained-of : (m : ℕ) → known m ≡ true → Chained m (chain_of m) (end_of m)
+unfolding under steady basis tower mul poly_in
 chained-of m d =
-    by_row (λ m p. Chained m (chainOf m) (end_of m))
+    by_row (λ m p. Chained m (chain_of m) (end_of m))
     (chained 4 3 row4.degree chain4 (record { least = omega arith; fours = refl; within = omega arith }) tt tt)
     (chained 8 4 row8.degree chain8 (record { least = omega arith; fours = refl; within = omega arith }) tt tt)
     (chained 11 5 row11.degree chain11 (record { least = omega arith; fours = refl; within = omega arith }) tt tt) (listed m d)

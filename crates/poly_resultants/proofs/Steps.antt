@@ -24,7 +24,7 @@ use Rattle.field.proofs.Solutions.{solution}
 use Rattle.poly.specs.Lent.{Lent}
 use Rattle.poly.proofs.Logs.{field_of, numbers_of}
 use Rattle.poly_resultants.specs.Pairs.{Evaluable}
-use Rattle.poly_resultants.specs.Levels.{most, Solves, Lifts, normBy, Put, Written, BothsLent, Aboves, Descends, Descended}
+use Rattle.poly_resultants.specs.Levels.{most, Solves, Lifts, norm_by, Put, Written, BothsLent, Aboves, Descends, Descended}
 use Rattle.poly_resultants.proofs.Descending.{solves-none, solves-two, lifts-none, lifts-one, lifts-both, lifts-append, lifts-few, distinct_apart}
 
 -- ---- numbers written behind the first n
@@ -181,7 +181,7 @@ module _ {m : ℕ} {ls ts : List ℕ} {b : ℕ} {p q ys out₀ : List ℕ} {n : 
 
   pub lifting-asks : i < length ys → Aboves m ls ts b p q (get_or ys i 0) out n
   lifting-asks h =
-      let z = all_here (λ y. (y < 2 ^ m) × (normBy m b p q y ≡ 0)) ys 0 i l.given.zeros h in
+      let z = all_here (λ y. (y < 2 ^ m) × (norm_by m b p q y ≡ 0)) ys 0 i l.given.zeros h in
       record {
         boths = record {
           tables = l.given.tables;

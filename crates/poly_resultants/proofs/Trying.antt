@@ -20,9 +20,9 @@ use lib.Dec.{eqb}
 use lib.ListN.{length, set}
 use lib.Seq.{length-take-le}
 use Rattle.algebra.specs.Trial.{All, Distinct, keep, up_from}
-use Rattle.algebra.specs.Polynomial.{eval, isRoot}
+use Rattle.algebra.specs.Polynomial.{eval, is_root}
 use Rattle.algebra.proofs.Trial.{ascending-distinct, kept-ascending, kept-exactly}
-use Rattle.algebra.proofs.RootList.{isRoot-is}
+use Rattle.algebra.proofs.RootList.{is_root-is}
 use Rattle.field.specs.Field.{G}
 use Rattle.field.proofs.Known.{by_row, listed}
 use Rattle.poly.specs.Lent.{Lent}
@@ -83,8 +83,8 @@ tried-note {m} {x} {n} {v} {k} {f} t h e p =
       long = l ∙ t.long;
       front = omega (arith, one-long (eqb v 0) x);
       passed = p.front ∙ ap₂ ◌++◌ t.passed (ap (λ w. cond (eqb w 0) (x ∷ []) []) e)
-          ∙ sym (ap (λ j. keep (isRoot (G m) f) (up_from 0 j)) next ∙ kept_next (isRoot (G m) f) 0 x
-          ∙ ap (λ y. keep (isRoot (G m) f) (up_from 0 x) ++ one (isRoot (G m) f) y) (zero-add x));
+          ∙ sym (ap (λ j. keep (is_root (G m) f) (up_from 0 j)) next ∙ kept_next (is_root (G m) f) 0 x
+          ∙ ap (λ y. keep (is_root (G m) f) (up_from 0 x) ++ one (is_root (G m) f) y) (zero-add x));
     }
   where
     next : x + 1 ≡ suc x
@@ -104,16 +104,16 @@ tried-over t u = record { long = u.long ∙ t.long; front = u.front; passed = u.
 
 module _ {m : ℕ} {ls ts f out₀ : List ℕ} (g : Tries m ls ts f out₀) {x n : ℕ} {out : List ℕ} (t : Tried m f out₀ x n out) (h : x ≤ 2 ^ m) where
   -- what is written are roots
-  roots-below : All (λ y. (y < 2 ^ m) × (eval (G m) f y ≡ 0)) (keep (isRoot (G m) f) (up_from 0 x))
-  roots-below = all_from (λ y. (y < 2 ^ m) × (eval (G m) f y ≡ 0)) (keep (isRoot (G m) f) (up_from 0 x)) (λ y j.
-      let e = (kept-exactly (isRoot (G m) f) x y).0 j in
+  roots-below : All (λ y. (y < 2 ^ m) × (eval (G m) f y ≡ 0)) (keep (is_root (G m) f) (up_from 0 x))
+  roots-below = all_from (λ y. (y < 2 ^ m) × (eval (G m) f y ≡ 0)) (keep (is_root (G m) f) (up_from 0 x)) (λ y j.
+      let e = (kept-exactly (is_root (G m) f) x y).0 j in
       let b = e.0 in
       let s : y < 2 ^ m = omega arith in
-      (s, (isRoot-is (N m g.tables.degree) f g.poly.small y s).0 e.1))
+      (s, (is_root-is (N m g.tables.degree) f g.poly.small y s).0 e.1))
 
   -- each once
-  once-below : Distinct (keep (isRoot (G m) f) (up_from 0 x))
-  once-below = ascending-distinct (keep (isRoot (G m) f) (up_from 0 x)) (kept-ascending (isRoot (G m) f) x)
+  once-below : Distinct (keep (is_root (G m) f) (up_from 0 x))
+  once-below = ascending-distinct (keep (is_root (G m) f) (up_from 0 x)) (kept-ascending (is_root (G m) f) x)
 
   pub tried-room : n < length out
   tried-room =
@@ -123,7 +123,7 @@ module _ {m : ℕ} {ls ts f out₀ : List ℕ} (g : Tries m ls ts f out₀) {x n
       let b = t.front in
       omega (
         arith,
-        few-roots m g.tables.degree f (keep (isRoot (G m) f) (up_from 0 x)) g.poly.small g.poly.led once-below roots-below,
+        few-roots m g.tables.degree f (keep (is_root (G m) f) (up_from 0 x)) g.poly.small g.poly.led once-below roots-below,
         ap length t.passed,
         length-take-le n out b,
       )
@@ -134,7 +134,7 @@ module _ {m : ℕ} {ls ts f out₀ : List ℕ} (g : Tries m ls ts f out₀) {x n
     within = t.front;
     roots = subst (All (λ y. (y < 2 ^ m) × (eval (G m) f y ≡ 0))) (sym t.passed) roots-below;
     whole = λ y hy z b. subst (Memᴰ y) (sym t.passed)
-        ((kept-exactly (isRoot (G m) f) x y).1 (omega arith, (isRoot-is (N m g.tables.degree) f g.poly.small y hy).1 z));
+        ((kept-exactly (is_root (G m) f) x y).1 (omega arith, (is_root-is (N m g.tables.degree) f g.poly.small y hy).1 z));
     distinct = subst Distinct (sym t.passed) once-below;
   }
 

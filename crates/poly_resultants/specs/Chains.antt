@@ -1,7 +1,7 @@
 -- The chains of maps: for each field the constants b of its maps x^2 + b x, which take every element to a number
 -- below an end.
 --   chain4, below4 ..    the chain of field 4 and its end, and so on
---   chainOf m, end_of m   those of the known field of degree m
+--   chain_of m, end_of m   those of the known field of degree m
 --   Chained              every element of the field is taken to a number below e by the maps of the chain
 -- Each map halves the elements that are left, down to the numbers below 2^k, of which four in a row are tried side by
 -- side.
@@ -34,8 +34,8 @@ abbrev pub below11 : ℕ
 below11 = 32
 
 -- by the degree
-abbrev pub chainOf : ℕ → List ℕ
-chainOf m = cond (eqb m 4) chain4 (cond (eqb m 8) chain8 chain11)
+abbrev pub chain_of : ℕ → List ℕ
+chain_of m = cond (eqb m 4) chain4 (cond (eqb m 8) chain8 chain11)
 
 abbrev pub end_of : ℕ → ℕ
 end_of m = cond (eqb m 4) below4 (cond (eqb m 8) below8 below11)

@@ -19,7 +19,7 @@ use Rattle.std.specs.Prelude.{◌≡◌, ◌↔◌, cond, ℕ, suc, ◌+◌, ◌
 use mathlib.Core.List.{List, Memᴰ, [], ◌∷◌, ◌++◌}
 use Rattle.std.specs.Int.Bits.{bit_xor}
 use Rattle.algebra.specs.Trial.{All, Distinct, keep, up_from}
-use Rattle.algebra.specs.Polynomial.{eval, isRoot, Below}
+use Rattle.algebra.specs.Polynomial.{eval, is_root, Below}
 use Rattle.field.specs.Field.{field_at, G, mul}
 use Rattle.field.specs.Tables.{Halves}
 use Rattle.input.specs.Limit.{limit}
@@ -39,17 +39,17 @@ pub record Solves (m b y : ℕ) (xs : List ℕ) : Type 0 where
   pub distinct : Distinct xs
 
 -- p(y) + x q(y), at the y below x
-abbrev pub valueBy : ℕ → ℕ → List ℕ → List ℕ → ℕ → ℕ
-valueBy m b p q x = bit_xor (eval (G m) p (quad (G m) b x)) (mul (field_at m) x (eval (G m) q (quad (G m) b x)))
+abbrev pub value_by : ℕ → ℕ → List ℕ → List ℕ → ℕ → ℕ
+value_by m b p q x = bit_xor (eval (G m) p (quad (G m) b x)) (mul (field_at m) x (eval (G m) q (quad (G m) b x)))
 
 -- the roots above
 pub record Lifts (m b : ℕ) (p q ys xs : List ℕ) : Type 0 where
-  pub exact : (x : ℕ) → Memᴰ x xs ↔ ((x < 2 ^ m) × Memᴰ (quad (G m) b x) ys × (valueBy m b p q x ≡ 0))
+  pub exact : (x : ℕ) → Memᴰ x xs ↔ ((x < 2 ^ m) × Memᴰ (quad (G m) b x) ys × (value_by m b p q x ≡ 0))
   pub distinct : Distinct xs
 
 -- p^2 + y q^2 + b p q
-abbrev pub normBy : ℕ → ℕ → List ℕ → List ℕ → ℕ → ℕ
-normBy m b p q y =
+abbrev pub norm_by : ℕ → ℕ → List ℕ → List ℕ → ℕ → ℕ
+norm_by m b p q y =
     bit_xor
     (bit_xor (mul (field_at m) (eval (G m) p y) (eval (G m) p y))
     (mul (field_at m) y (mul (field_at m) (eval (G m) q y) (eval (G m) q y))))
@@ -69,7 +69,7 @@ pub record Written (P : List ℕ → Type 0) (n : ℕ) (out : List ℕ) (k : ℕ
 
 -- of whatever list
 abbrev pub Few : ℕ → ℕ → List ℕ → List ℕ → Type 0
-Few m b p q = (xs : List ℕ) → Distinct xs → All (λ x. (x < 2 ^ m) × (valueBy m b p q x ≡ 0)) xs → length xs ≤ most
+Few m b p q = (xs : List ℕ) → Distinct xs → All (λ x. (x < 2 ^ m) × (value_by m b p q x ≡ 0)) xs → length xs ≤ most
 
 -- ---- what the routines may take for granted
 
@@ -91,7 +91,7 @@ pub record Aboves (m : ℕ) (ls ts : List ℕ) (b : ℕ) (p q : List ℕ) (y : �
   pub boths : Boths m ls ts b y out n
   pub low : Below (2 ^ m) p
   pub high : Below (2 ^ m) q
-  pub zero : normBy m b p q y ≡ 0
+  pub zero : norm_by m b p q y ≡ 0
   pub least : length q ≤ length p
   pub longest : length p ≤ suc (length q)
 
@@ -102,7 +102,7 @@ pub record Descends (m : ℕ) (ls ts : List ℕ) (b : ℕ) (p q ys out : List �
   pub small : b < 2 ^ m
   pub low : Below (2 ^ m) p
   pub high : Below (2 ^ m) q
-  pub zeros : All (λ y. (y < 2 ^ m) × (normBy m b p q y ≡ 0)) ys
+  pub zeros : All (λ y. (y < 2 ^ m) × (norm_by m b p q y ≡ 0)) ys
   pub once : Distinct ys
   pub few : Few m b p q
   pub least : length q ≤ length p
@@ -156,7 +156,7 @@ pub record Fours (m e : ℕ) : Type 0 where
 pub record Tried (m : ℕ) (f out : List ℕ) (x n : ℕ) (out' : List ℕ) : Type 0 where
   pub long : length out' ≡ length out
   pub front : n ≤ length out'
-  pub passed : take n out' ≡ keep (isRoot (G m) f) (up_from 0 x)
+  pub passed : take n out' ≡ keep (is_root (G m) f) (up_from 0 x)
 
 -- and four more can be
 pub record Blocks (m : ℕ) (ls ts f : List ℕ) (x : ℕ) (out : List ℕ) (n : ℕ) : Type 0 where

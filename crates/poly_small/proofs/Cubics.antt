@@ -11,10 +11,10 @@ use native.Mathlib.Omega.{arith}
 use lib.Bits.{bit_xor, xor_zero_r}
 use lib.ListN.{length, get_or, set, replicate, length-set}
 use Rattle.algebra.specs.Field.{OnNumbers}
-use Rattle.algebra.specs.Polynomial.{Below, add, fieldPoly, traceOf}
-use Rattle.algebra.specs.Routines.{gcd, rem, frobeniusMod, traceMod}
-use Rattle.algebra.proofs.Lengths.{length-rem, length-frobeniusMod}
-use Rattle.algebra.proofs.StaysBelow.{add-below, rem_below, frobeniusMod-below, traceMod-below}
+use Rattle.algebra.specs.Polynomial.{Below, add, field_poly, trace_of}
+use Rattle.algebra.specs.Routines.{gcd, rem, frobenius_mod, trace_mod}
+use Rattle.algebra.proofs.Lengths.{length-rem, length-frobenius_mod}
+use Rattle.algebra.proofs.StaysBelow.{add-below, rem_below, frobenius_mod-below, trace_mod-below}
 use Rattle.algebra.proofs.NumberSteps.{field-run, trace-run}
 use Rattle.field.specs.Field.{G}
 use Rattle.poly_powers.specs.Powers.{Startable}
@@ -61,21 +61,21 @@ module _ {m : ℕ} {ls ts p g : List ℕ} (c : Cubic m ls ts p g) where
   z-below = rem_below N p (0 ∷ 1 ∷ []) c.small (N.zero-below, (N.one_below, tt))
 
   -- z^(2^m), modulo the cubic, is as long as the cubic
-  power-long : {w : List ℕ} → w ≡ frobeniusMod (G m) p m z → length w ≡ 3
-  power-long e = ap length e ∙ length-frobeniusMod (G m) p m z (length-rem (G m) p (0 ∷ 1 ∷ [])) ∙ c.three
+  power-long : {w : List ℕ} → w ≡ frobenius_mod (G m) p m z → length w ≡ 3
+  power-long e = ap length e ∙ length-frobenius_mod (G m) p m z (length-rem (G m) p (0 ∷ 1 ∷ [])) ∙ c.three
 
   -- z is added
-  with-z : {w : List ℕ} → w ≡ frobeniusMod (G m) p m z → set w 1 (bit_xor (get_or w 1 0) 1) ≡ add (G m) (frobeniusMod (G m) p m z) z
+  with-z : {w : List ℕ} → w ≡ frobenius_mod (G m) p m z → set w 1 (bit_xor (get_or w 1 0) 1) ≡ add (G m) (frobenius_mod (G m) p m z) z
   with-z {w} e = add-z m w (power-long e) ∙ ap₂ (add (G m)) e (sym z-is)
 
   -- what the gcd with z^(2^m) + z asks
-  pub split-asks : {w : List ℕ} → w ≡ frobeniusMod (G m) p m z → Commonable m ls ts p (set w 1 (bit_xor (get_or w 1 0) 1)) g
+  pub split-asks : {w : List ℕ} → w ≡ frobenius_mod (G m) p m z → Commonable m ls ts p (set w 1 (bit_xor (get_or w 1 0) 1)) g
   split-asks {w} k =
       gcd-asks (length-set w 1 _ ∙ power-long k)
-      (subst (Below (2 ^ m)) (sym (with-z k)) (add-below N (frobeniusMod (G m) p m z) z (frobeniusMod-below N p m z c.small z-below) z-below))
+      (subst (Below (2 ^ m)) (sym (with-z k)) (add-below N (frobenius_mod (G m) p m z) z (frobenius_mod-below N p m z c.small z-below) z-below))
 
   -- and what it is
-  pub split-is : {w g' : List ℕ} {n : ℕ} → w ≡ frobeniusMod (G m) p m z → GcdIs m p (set w 1 (bit_xor (get_or w 1 0) 1)) n g' → GcdOf m p (fieldPoly (G m) m) n g'
+  pub split-is : {w g' : List ℕ} {n : ℕ} → w ≡ frobenius_mod (G m) p m z → GcdIs m p (set w 1 (bit_xor (get_or w 1 0) 1)) n g' → GcdOf m p (field_poly (G m) m) n g'
   split-is k i = gcd-out (ap (gcd (G m) p) (with-z k) ∙ sym (field-run N m p c.small)) i
 
   -- what a remainder by the cubic asks
@@ -84,14 +84,14 @@ module _ {m : ℕ} {ls ts p g : List ℕ} (c : Cubic m ls ts p g) where
 
   -- ---- the part at a level
 
-  module _ {b : ℕ} {t : List ℕ} (h : b < 2 ^ m) (k : t ≡ traceMod (G m) p m (rem (G m) p (0 ∷ b ∷ []))) where
+  module _ {b : ℕ} {t : List ℕ} (h : b < 2 ^ m) (k : t ≡ trace_mod (G m) p m (rem (G m) p (0 ∷ b ∷ []))) where
     -- what the gcd with Tr(bz) asks
     pub part-asks : length t ≡ 3 → Commonable m ls ts p t g
     part-asks l =
         gcd-asks l
         (subst (Below (2 ^ m)) (sym k)
-        (traceMod-below N p m (rem (G m) p (0 ∷ b ∷ [])) c.small (rem_below N p (0 ∷ b ∷ []) c.small (N.zero-below, (h, tt)))))
+        (trace_mod-below N p m (rem (G m) p (0 ∷ b ∷ [])) c.small (rem_below N p (0 ∷ b ∷ []) c.small (N.zero-below, (h, tt)))))
 
     -- and what it is
-    pub part-is : {g' : List ℕ} {n : ℕ} → GcdIs m p t n g' → GcdOf m p (traceOf (G m) m b) n g'
+    pub part-is : {g' : List ℕ} {n : ℕ} → GcdIs m p t n g' → GcdOf m p (trace_of (G m) m b) n g'
     part-is i = gcd-out (ap (gcd (G m) p) k ∙ sym (trace-run N m b h p c.small)) i

@@ -14,7 +14,7 @@ use native.Mathlib.Omega.{arith}
 use lib.Pow.{pow-lt}
 use lib.ListN.{length, take}
 use lib.Seq.{length-take-le}
-use Rattle.algebra.specs.Polynomial.{traceOf}
+use Rattle.algebra.specs.Polynomial.{trace_of}
 use Rattle.algebra.specs.Routines.{gcd}
 use Rattle.field.specs.Field.{G}
 use Rattle.poly_small.specs.Parting.{Cubic, GcdOf, Parts, CubicPartable, CubicParted}
@@ -39,18 +39,18 @@ module _ {m : ℕ} {ls ts p g₀ g : List ℕ} {b i : ℕ} (a : CubicPartable m 
   )
 
   -- a level that parts the cubic is found
-  pub seek-level-found : {n k : ℕ} {g' : List ℕ} → i < m → 0 < k → k < 3 → n ≡ k → GcdOf m p (traceOf (G m) m b) n g' → CubicParted m p k g'
+  pub seek-level-found : {n k : ℕ} {g' : List ℕ} → i < m → 0 < k → k < 3 → n ≡ k → GcdOf m p (trace_of (G m) m b) n g' → CubicParted m p k g'
   seek-level-found {g' = g'} h u v e d =
-      record { level = i; below = pow-lt h; least = u; less = v; low = ap (λ k. take k g') (sym e) ∙ d.low ∙ ap (λ k. gcd (G m) p (traceOf (G m) m k)) s.power }
+      record { level = i; below = pow-lt h; least = u; less = v; low = ap (λ k. take k g') (sym e) ∙ d.low ∙ ap (λ k. gcd (G m) p (trace_of (G m) m k)) s.power }
 
   -- the gcd is as long as it was said to be
-  gcd-long : {n : ℕ} {g' : List ℕ} → length g' ≡ length g → GcdOf m p (traceOf (G m) m b) n g' → length (gcd (G m) p (traceOf (G m) m (2 ^ i))) ≡ n
+  gcd-long : {n : ℕ} {g' : List ℕ} → length g' ≡ length g → GcdOf m p (trace_of (G m) m b) n g' → length (gcd (G m) p (trace_of (G m) m (2 ^ i))) ≡ n
   gcd-long {n} {g'} l d =
-      ap (λ k. length (gcd (G m) p (traceOf (G m) m k))) (sym s.power) ∙ sym (ap length d.low)
+      ap (λ k. length (gcd (G m) p (trace_of (G m) m k))) (sym s.power) ∙ sym (ap length d.low)
       ∙ length-take-le n g' (omega (arith, d.count, s.long, a.cubic.room))
 
   -- a level that does not part it is passed
-  pub seek-level-on : {n : ℕ} {g' : List ℕ} → i < m → length g' ≡ length g → GcdOf m p (traceOf (G m) m b) n g' → n ≢ 1 → n ≢ 2 → SeekingLevel m p g₀ g' (b * 2) (i + 1)
+  pub seek-level-on : {n : ℕ} {g' : List ℕ} → i < m → length g' ≡ length g → GcdOf m p (trace_of (G m) m b) n g' → n ≢ 1 → n ≢ 2 → SeekingLevel m p g₀ g' (b * 2) (i + 1)
   seek-level-on {n} {g'} h l d x y =
       let e = gcd-long l d in
       let not-here : Parts m p i → ⊥ = λ k. omega (arith, k.least, k.less, a.cubic.three, d.count) in

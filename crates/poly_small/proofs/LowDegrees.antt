@@ -19,12 +19,12 @@ use lib.Seq.{take-suc-set}
 use Rattle.algebra.specs.Field.{OnNumbers}
 use Rattle.algebra.specs.Polynomial.{Below}
 use Rattle.algebra.specs.Routines.{monic}
-use Rattle.algebra.proofs.RootList.{rootsOf-none, rootsOf-one, rootsOf-count}
-use Rattle.field.specs.Rows.{known, polyOf, ListedRow}
+use Rattle.algebra.proofs.RootList.{roots_of-none, roots_of-one, roots_of-count}
+use Rattle.field.specs.Rows.{known, poly_of, ListedRow}
 use Rattle.field.proofs.Known.{listed}
-use Rattle.field.specs.Field.{field_of, G, rootsAt}
+use Rattle.field.specs.Field.{field_of, G, roots_at}
 use Rattle.field.specs.Tables.{Halves}
-use Rattle.field.specs.Quadratics.{rootsIn, rootsOfQuadratic}
+use Rattle.field.specs.Quadratics.{roots_in, roots_of_quadratic}
 use Rattle.field.specs.declared.solver.Quadratic.{Quadratic}
 use Rattle.field.proofs.Instance.{known-numbers}
 use Rattle.poly_small.specs.Roots.{Front, RootsOut, Halvable, Lowly}
@@ -53,7 +53,7 @@ front-within {rs} {k} {o} f = omega (arith, f.count, ap length f.front, length-t
 -- ---- the quadratic
 
 -- what the solver asks
-pub quadratic-asks : {m poly a b : ℕ} {hs out : List ℕ} → Halvable m hs a b out → poly ≡ polyOf m
+pub quadratic-asks : {m poly a b : ℕ} {hs out : List ℕ} → Halvable m hs a b out → poly ≡ poly_of m
     → ListedRow m poly × Halves (field_of m poly) hs × (a < 2 ^ m) × (b < 2 ^ m)
 quadratic-asks {m} {hs = hs} h e = (
   record { degree = h.degree; poly = sym e },
@@ -63,9 +63,9 @@ quadratic-asks {m} {hs = hs} h e = (
 )
 
 -- the roots are the values of the answer
-pub quadratic-list : (m a b : ℕ) {poly : ℕ} {q r : Quadratic} → poly ≡ polyOf m → rootsIn q ≡ rootsOfQuadratic (field_of m poly) a b → q ≡ r
-    → rootsAt m (b ∷ a ∷ 1 ∷ []) ≡ rootsIn r
-quadratic-list m a b e h s = ap (λ n. rootsOfQuadratic (field_of m n) a b) (sym e) ∙ sym h ∙ ap rootsIn s
+pub quadratic-list : (m a b : ℕ) {poly : ℕ} {q r : Quadratic} → poly ≡ poly_of m → roots_in q ≡ roots_of_quadratic (field_of m poly) a b → q ≡ r
+    → roots_at m (b ∷ a ∷ 1 ∷ []) ≡ roots_in r
+quadratic-list m a b e h s = ap (λ n. roots_of_quadratic (field_of m n) a b) (sym e) ∙ sym h ∙ ap roots_in s
 
 -- one root
 pub quadratic-one-root : {m a b : ℕ} {hs out : List ℕ} (x : ℕ) {rs : List ℕ} → Halvable m hs a b out → rs ≡ x ∷ [] → Front rs 1 (set out 0 x)
@@ -83,20 +83,20 @@ module _ {m : ℕ} {hs p out : List ℕ} (l : Lowly m hs p out) where
   N = known-numbers (listed m l.degree)
 
   -- a constant has no root
-  pub low-none : length p ≡ 0 → Front (rootsAt m (monic (G m) p)) 0 out
+  pub low-none : length p ≡ 0 → Front (roots_at m (monic (G m) p)) 0 out
   low-none e = front-none out (go p e)
     where
-      go : (p : List ℕ) → length p ≡ 0 → rootsAt m (monic (G m) p) ≡ []
-      go [] e = rootsOf-none N
+      go : (p : List ℕ) → length p ≡ 0 → roots_at m (monic (G m) p) ≡ []
+      go [] e = roots_of-none N
       go (x ∷ p) e = absurd (omega arith)
 
   -- z + c has the root c
-  pub low-one : length p ≡ 1 → Front (rootsAt m (monic (G m) p)) 1 (set out 0 (get_or p 0 0))
+  pub low-one : length p ≡ 1 → Front (roots_at m (monic (G m) p)) 1 (set out 0 (get_or p 0 0))
   low-one e = front-one out (get_or p 0 0) (omega (arith, l.room)) (go p l.small e)
     where
-      go : (p : List ℕ) → Below (2 ^ m) p → length p ≡ 1 → rootsAt m (monic (G m) p) ≡ get_or p 0 0 ∷ []
+      go : (p : List ℕ) → Below (2 ^ m) p → length p ≡ 1 → roots_at m (monic (G m) p) ≡ get_or p 0 0 ∷ []
       go [] s e = absurd (omega arith)
-      go (x ∷ []) s e = rootsOf-one N x s.0
+      go (x ∷ []) s e = roots_of-one N x s.0
       go (x ∷ y ∷ p) s e = absurd (omega arith)
 
   -- the degree that is left
@@ -113,11 +113,11 @@ module _ {m : ℕ} {hs p out : List ℕ} (l : Lowly m hs p out) where
       go (x ∷ y ∷ p) s e = (s.1.0, s.0)
 
   -- a quadratic's roots
-  pub low-two : {k : ℕ} {o : List ℕ} → length p ≢ 0 → length p ≢ 1 → Front (rootsAt m (get_or p 0 0 ∷ get_or p 1 0 ∷ 1 ∷ [])) k o
-      → Front (rootsAt m (monic (G m) p)) k o
+  pub low-two : {k : ℕ} {o : List ℕ} → length p ≢ 0 → length p ≢ 1 → Front (roots_at m (get_or p 0 0 ∷ get_or p 1 0 ∷ 1 ∷ [])) k o
+      → Front (roots_at m (monic (G m) p)) k o
   low-two {k} {o} a b = go p (two a b)
     where
-      go : (p : List ℕ) → length p ≡ 2 → Front (rootsAt m (get_or p 0 0 ∷ get_or p 1 0 ∷ 1 ∷ [])) k o → Front (rootsAt m (monic (G m) p)) k o
+      go : (p : List ℕ) → length p ≡ 2 → Front (roots_at m (get_or p 0 0 ∷ get_or p 1 0 ∷ 1 ∷ [])) k o → Front (roots_at m (monic (G m) p)) k o
       go [] e f = absurd (omega arith)
       go (x ∷ []) e f = absurd (omega arith)
       go (x ∷ y ∷ []) e f = f
@@ -127,10 +127,10 @@ module _ {m : ℕ} {hs p out : List ℕ} (l : Lowly m hs p out) where
 
 -- a list of the roots of monic p, where monic r has the same
 pub front_out : {m : ℕ} {p : List ℕ} (r : List ℕ) {k : ℕ} {o : List ℕ} → known m ≡ true → Below (2 ^ m) p
-    → rootsAt m (monic (G m) r) ≡ rootsAt m (monic (G m) p) → Front (rootsAt m (monic (G m) r)) k o → RootsOut m p k o
+    → roots_at m (monic (G m) r) ≡ roots_at m (monic (G m) p) → Front (roots_at m (monic (G m) r)) k o → RootsOut m p k o
 front_out {m} {p} r {k} {o} d h e f =
-    let s : take k o ≡ rootsAt m (monic (G m) p) = f.front ∙ e in
+    let s : take k o ≡ roots_at m (monic (G m) p) = f.front ∙ e in
     record {
-      count = omega (arith, f.count, ap length e, rootsOf-count (known-numbers (listed m d)) p h);
+      count = omega (arith, f.count, ap length e, roots_of-count (known-numbers (listed m d)) p h);
       members = λ x. rw s (λ t. t, λ t. t);
     }

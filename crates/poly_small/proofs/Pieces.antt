@@ -20,13 +20,13 @@ use native.Mathlib.Omega.{arith}
 use lib.ListN.{length, take, drop, length-append, length-drop}
 use lib.Seq.{length-take-le, take-append-add, take-append-le, take_at}
 use Rattle.algebra.specs.Field.{OnNumbers, squared}
-use Rattle.algebra.specs.Polynomial.{Below, fieldPoly, traceOf}
+use Rattle.algebra.specs.Polynomial.{Below, field_poly, trace_of}
 use Rattle.algebra.specs.Routines.{gcd, cofactor, monic}
 use Rattle.algebra.proofs.Lengths.{length-cofactor}
-use Rattle.algebra.proofs.StaysBelow.{gcd-below, cofactor-below, traceOf-below, fieldPoly-below}
-use Rattle.algebra.proofs.RootList.{rootsOf-count, rootsOf-parts, rootsOf-begin}
+use Rattle.algebra.proofs.StaysBelow.{gcd-below, cofactor-below, trace_of-below, field_poly-below}
+use Rattle.algebra.proofs.RootList.{roots_of-count, roots_of-parts, roots_of-begin}
 use Rattle.algebra.proofs.Parting.{parting-roots}
-use Rattle.field.specs.Field.{field_at, G, rootsAt}
+use Rattle.field.specs.Field.{field_at, G, roots_at}
 use Rattle.field.proofs.Instance.{squared-size}
 use Rattle.poly.specs.Lent.{Lent}
 use Rattle.poly_gcd.specs.Euclid.{Cofactorable}
@@ -87,15 +87,15 @@ module _ {m : ℕ} {ls ts hs p g out : List ℕ} (i : Pieces m ls ts hs p g out)
       }
 
   -- the roots of one part leave room for the others
-  pub piece-room : {k : ℕ} {o : List ℕ} → Front (rootsAt m (monic (G m) g)) k o → k ≤ length g
-  piece-room f = omega (arith, f.count, rootsOf-count N g small-g)
+  pub piece-room : {k : ℕ} {o : List ℕ} → Front (roots_at m (monic (G m) g)) k o → k ≤ length g
+  piece-room f = omega (arith, f.count, roots_of-count N g small-g)
 
   -- it has few roots
-  pub rest-count : {h : List ℕ} {j : ℕ} {u : List ℕ} → h ≡ cofactor (G m) p g → Front (rootsAt m (monic (G m) h)) j u → j ≤ 3
-  rest-count {h} e f = omega (arith, f.count, rest-long e, rootsOf-count N h (subst (Below (2 ^ m)) (sym e) (cofactor-below N p g i.given.small small-g)))
+  pub rest-count : {h : List ℕ} {j : ℕ} {u : List ℕ} → h ≡ cofactor (G m) p g → Front (roots_at m (monic (G m) h)) j u → j ≤ 3
+  rest-count {h} e f = omega (arith, f.count, rest-long e, roots_of-count N h (subst (Below (2 ^ m)) (sym e) (cofactor-below N p g i.given.small small-g)))
 
   -- and they have room behind the first
-  pub rest-room : {k : ℕ} {o : List ℕ} → Front (rootsAt m (monic (G m) g)) k o → length o ≡ length out → 3 - length g ≤ length (take (length o - k) (drop k o))
+  pub rest-room : {k : ℕ} {o : List ℕ} → Front (roots_at m (monic (G m) g)) k o → length o ≡ length out → 3 - length g ≤ length (take (length o - k) (drop k o))
   rest-room {k} {o} f e = omega (arith, piece-room f, i.less, i.given.room, length-take-le (length o - k) (drop k o) (omega (arith, length-drop k o)))
 
   -- what is left without the part stands in front
@@ -104,26 +104,26 @@ module _ {m : ℕ} {ls ts hs p g out : List ℕ} (i : Pieces m ls ts hs p g out)
 
   -- the roots of both parts
   pub pieces-out : {h : List ℕ} {k j : ℕ} {o u : List ℕ} (t : List ℕ) → h ≡ cofactor (G m) p g
-      → Front (rootsAt m (monic (G m) g)) k o → Front (rootsAt m (monic (G m) h)) j u → RootsOut m p (k + j) (take k o ++ (u ++ t))
+      → Front (roots_at m (monic (G m) g)) k o → Front (roots_at m (monic (G m) h)) j u → RootsOut m p (k + j) (take k o ++ (u ++ t))
   pieces-out {h} {k} {j} {o} {u} t e a b =
-      let rg : List ℕ = rootsAt m (monic (G m) g) in
-      let rh : List ℕ = rootsAt m (monic (G m) h) in
+      let rg : List ℕ = roots_at m (monic (G m) g) in
+      let rh : List ℕ = roots_at m (monic (G m) h) in
       let whole : take (k + j) (take k o ++ (u ++ t)) ≡ rg ++ rh =
       ap (λ n. take (n + j) (take k o ++ (u ++ t))) (sym (length-take-le k o (front-within a))) ∙ take-append-add (take k o) (u ++ t) j
       ∙ ap₂ (λ x y. x ++ y) a.front (take-append-le j u t (front-within b) ∙ b.front) in
       let is-h : cofactor (G m) p (gcd (G m) p i.with) ≡ h = ap (cofactor (G m) p) (sym i.is) ∙ sym e in
       let lh : length h ≡ length p - length g = ap length e ∙ length-cofactor (G m) p g in
-      let both : (x : ℕ) → Memᴰ x (rootsAt m (monic (G m) p)) ↔ (Memᴰ x rg ⊎ Memᴰ x rh) =
-      λ x. subst (λ v. Memᴰ x (rootsAt m (monic (G m) p)) ↔ (Memᴰ x rg ⊎ Memᴰ x (rootsAt m (monic (G m) v)))) is-h
-      (subst (λ v. Memᴰ x (rootsAt m (monic (G m) p)) ↔ (Memᴰ x (rootsAt m (monic (G m) v)) ⊎ Memᴰ x (rootsAt m (monic (G m) (cofactor (G m) p (gcd (G m) p i.with))))))
-      (sym i.is) (rootsOf-parts N p i.with i.given.small i.small x)) in
+      let both : (x : ℕ) → Memᴰ x (roots_at m (monic (G m) p)) ↔ (Memᴰ x rg ⊎ Memᴰ x rh) =
+      λ x. subst (λ v. Memᴰ x (roots_at m (monic (G m) p)) ↔ (Memᴰ x rg ⊎ Memᴰ x (roots_at m (monic (G m) v)))) is-h
+      (subst (λ v. Memᴰ x (roots_at m (monic (G m) p)) ↔ (Memᴰ x (roots_at m (monic (G m) v)) ⊎ Memᴰ x (roots_at m (monic (G m) (cofactor (G m) p (gcd (G m) p i.with))))))
+      (sym i.is) (roots_of-parts N p i.with i.given.small i.small x)) in
       record {
         count = omega (
           arith,
           a.count,
           b.count,
-          rootsOf-count N g small-g,
-          rootsOf-count N h (subst (Below (2 ^ m)) (sym e) (cofactor-below N p g i.given.small small-g)),
+          roots_of-count N g small-g,
+          roots_of-count N h (subst (Below (2 ^ m)) (sym e) (cofactor-below N p g i.given.small small-g)),
           i.less,
           i.three,
         );
@@ -160,29 +160,29 @@ module _ {m : ℕ} {ls ts hs p out : List ℕ} (s : SplitCubic m ls ts hs p out)
         three = s.three;
         least = omega (arith, d.least);
         less = omega (arith, d.less);
-        with = traceOf (G m) m (2 ^ d.level);
-        small = traceOf-below (numbers_of s.given.tables) m (2 ^ d.level) d.below;
+        with = trace_of (G m) m (2 ^ d.level);
+        small = trace_of-below (numbers_of s.given.tables) m (2 ^ d.level) d.below;
         is = d.low;
       }
 
 -- ---- the part that splits
 
-module _ {m : ℕ} {ls ts hs p out : List ℕ} (s : SmallSolvable m ls ts hs p out) (two : 2 < length p) {n : ℕ} {g : List ℕ} (room : 3 < length g) (d : GcdOf m p (fieldPoly (G m) m) n g)
+module _ {m : ℕ} {ls ts hs p out : List ℕ} (s : SmallSolvable m ls ts hs p out) (two : 2 < length p) {n : ℕ} {g : List ℕ} (room : 3 < length g) (d : GcdOf m p (field_poly (G m) m) n g)
   where
     M : OnNumbers (G m) (2 ^ m)
     M = numbers_of s.tables
 
     -- the coefficients are elements
     part_small : Below (2 ^ m) (take n g)
-    part_small = subst (Below (2 ^ m)) (sym d.low) (gcd-below M p (fieldPoly (G m) m) s.small (fieldPoly-below M m))
+    part_small = subst (Below (2 ^ m)) (sym d.low) (gcd-below M p (field_poly (G m) m) s.small (field_poly-below M m))
 
     -- the degree
     part-long : length (take n g) ≡ n
     part-long = length-take-le n g (omega (arith, d.count))
 
     -- it has all the roots
-    part-roots : rootsAt m (monic (G m) (take n g)) ≡ rootsAt m (monic (G m) p)
-    part-roots = ap (λ r. rootsAt m (monic (G m) r)) d.low ∙ rootsOf-begin M m refl M.one_below (field_laws s.tables) p s.small
+    part-roots : roots_at m (monic (G m) (take n g)) ≡ roots_at m (monic (G m) p)
+    part-roots = ap (λ r. roots_at m (monic (G m) r)) d.low ∙ roots_of-begin M m refl M.one_below (field_laws s.tables) p s.small
 
     -- of degree at most 2
     pub split-low : n < 3 → Lowly m hs (take n g) out
@@ -190,7 +190,7 @@ module _ {m : ℕ} {ls ts hs p out : List ℕ} (s : SmallSolvable m ls ts hs p o
         record { degree = s.tables.degree; halves = s.halves; small = part_small; low = omega (arith, part-long); room = omega (arith, part-long, s.room) }
 
     -- its roots are those of the cubic
-    pub split-out : {k : ℕ} {o : List ℕ} → Front (rootsAt m (monic (G m) (take n g))) k o → RootsOut m p k o
+    pub split-out : {k : ℕ} {o : List ℕ} → Front (roots_at m (monic (G m) (take n g))) k o → RootsOut m p k o
     split-out f = front_out (take n g) s.tables.degree s.small part-roots f
 
     -- of degree 3
@@ -202,7 +202,7 @@ module _ {m : ℕ} {ls ts hs p out : List ℕ} (s : SmallSolvable m ls ts hs p o
     split-given h =
         let c = d.count in
         let l : length (take 3 g) ≡ 3 = length-take-le 3 g (omega arith) in
-        let e : take 3 g ≡ gcd (G m) p (fieldPoly (G m) m) = whole h ∙ d.low in
+        let e : take 3 g ≡ gcd (G m) p (field_poly (G m) m) = whole h ∙ d.low in
         let w = parting-roots M m refl refl (λ x y. refl) (small_of s.tables).degree-pos (field_laws s.tables) p s.small M.one_below (omega (arith, ap length e)) in
         record {
           given = record { tables = s.tables; halves = s.halves; small = subst (Below (2 ^ m)) (sym (whole h)) part_small; low = omega arith; room = s.room };
@@ -215,6 +215,6 @@ module _ {m : ℕ} {ls ts hs p out : List ℕ} (s : SmallSolvable m ls ts hs p o
     pub whole_out : {k : ℕ} {o : List ℕ} → 3 ≤ n → RootsOut m (take 3 g) k o → RootsOut m p k o
     whole_out {k} {o} h r =
         let l : length (take 3 g) ≡ 3 = length-take-le 3 g (omega arith) in
-        let e : rootsAt m (monic (G m) (take 3 g)) ≡ rootsAt m (monic (G m) p) =
-        ap (λ u. rootsAt m (monic (G m) u)) (whole h) ∙ part-roots in
+        let e : roots_at m (monic (G m) (take 3 g)) ≡ roots_at m (monic (G m) p) =
+        ap (λ u. roots_at m (monic (G m) u)) (whole h) ∙ part-roots in
         record { count = omega (arith, r.count); members = λ x. subst (λ u. Memᴰ x (take k o) ↔ Memᴰ x u) e (r.members x) }

@@ -22,10 +22,10 @@ use Rattle.algebra.specs.Polynomial.{Below, eval}
 use Rattle.algebra.specs.Routines.{monic}
 use Rattle.algebra.proofs.Trial.{all_map}
 use Rattle.algebra.proofs.StaysBelow.{monic-below}
-use Rattle.algebra.proofs.RootList.{rootsOf-whole}
+use Rattle.algebra.proofs.RootList.{roots_of-whole}
 use Rattle.slices.specs.Lists.{copied}
 use Rattle.slices.proofs.Lists.{copied-front}
-use Rattle.field.specs.Field.{G, rootsAt}
+use Rattle.field.specs.Field.{G, roots_at}
 use Rattle.poly.specs.Lent.{Lent}
 use Rattle.poly.proofs.Logs.{numbers_of}
 use Rattle.poly_small.specs.Roots.{RootsOut, SmallSolvable}
@@ -63,12 +63,12 @@ module _ {m : ℕ} {f xs : List ℕ} where
         }
 
     -- all passed, as many as the degree
-    pub try-end : OnNumbers (G m) (2 ^ m) → (p : List ℕ) → Below (2 ^ m) p → f ≡ monic (G m) p → length p ≡ length xs → i ≡ 0 → rootsAt m f ≡ xs
+    pub try-end : OnNumbers (G m) (2 ^ m) → (p : List ℕ) → Below (2 ^ m) p → f ≡ monic (G m) p → length p ≡ length xs → i ≡ 0 → roots_at m f ≡ xs
     try-end N p small whole many e =
         let a : Ascending xs = subst (λ k. Ascending (drop k xs)) e s.ascends in
         let z : All (λ y. (y < 2 ^ m) × (eval (G m) f y ≡ 0)) xs = subst (λ k. All (λ y. (y < 2 ^ m) × (eval (G m) f y ≡ 0)) (drop k xs)) e s.zeros in
         let w : All (λ y. (y < 2 ^ m) × (eval (G m) (monic (G m) p) y ≡ 0)) xs = subst (λ g. All (λ y. (y < 2 ^ m) × (eval (G m) g y ≡ 0)) xs) whole z in
-        ap (rootsAt m) whole ∙ rootsOf-whole N p xs small a w (omega arith)
+        ap (roots_at m) whole ∙ roots_of-whole N p xs small a w (omega arith)
 
 module _ {m : ℕ} {ls ts f xs : List ℕ} (t : Triable m ls ts f xs) where
   -- the polynomial's coefficients are elements
@@ -82,7 +82,7 @@ module _ {m : ℕ} {ls ts f xs : List ℕ} (t : Triable m ls ts f xs) where
   pub try-size : length ls ≤ 2 ^ m
   try-size = omega (arith, t.tables.logs.entries)
 
-  pub try-all : {bound i : ℕ} → Trying m f xs bound i → i ≡ 0 → rootsAt m f ≡ xs
+  pub try-all : {bound i : ℕ} → Trying m f xs bound i → i ≡ 0 → roots_at m f ≡ xs
   try-all s = try-end s (numbers_of t.tables) t.low t.small t.whole t.many
 
 -- ---- low coefficients, and a list of numbers
@@ -111,9 +111,9 @@ module _ {m : ℕ} {ls ts p xs out f : List ℕ} (g : Guessable m ls ts p out) (
   check-asks = record { tables = g.tables; low = p; small = g.small; whole = lead-front m p four e; many = n }
 
   -- what it gives
-  pub check-out : {o : List ℕ} → rootsAt m (take (length p + 1) f) ≡ xs → o ≡ copied xs out → Guessed m p true o
+  pub check-out : {o : List ℕ} → roots_at m (take (length p + 1) f) ≡ xs → o ≡ copied xs out → Guessed m p true o
   check-out {o} r w =
-      let s : rootsAt m (monic (G m) p) ≡ xs = ap (rootsAt m) (sym (lead-front m p four e)) ∙ r in
+      let s : roots_at m (monic (G m) p) ≡ xs = ap (roots_at m) (sym (lead-front m p four e)) ∙ r in
       record { all = λ y. record { count = n ∙ sym (ap length s); front = ap (take (length p)) w ∙ copied-front xs out (sym n) ∙ sym s } }
 
 -- nothing is said where the answer is no

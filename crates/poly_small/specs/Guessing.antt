@@ -6,7 +6,7 @@
 use Rattle.std.specs.Prelude.{◌≡◌, Bool, true, List, ℕ, ◌^◌, ◌≤◌, length}
 use Rattle.algebra.specs.Polynomial.{Below}
 use Rattle.algebra.specs.Routines.{monic}
-use Rattle.field.specs.Field.{G, rootsAt}
+use Rattle.field.specs.Field.{G, roots_at}
 use Rattle.poly.specs.Lent.{Lent}
 use Rattle.poly_small.specs.Roots.{Front}
 
@@ -26,4 +26,4 @@ pub record Guessable (m : ℕ) (ls ts p out : List ℕ) : Type 0 where
 
 -- nothing is said where the answer is no
 pub record Guessed (m : ℕ) (p : List ℕ) (r : Bool) (out : List ℕ) : Type 0 where
-  pub all : r ≡ true → Front (rootsAt m (monic (G m) p)) (length p) out
+  pub all : r ≡ true → Front (roots_at m (monic (G m) p)) (length p) out

@@ -7,7 +7,7 @@
 --   Pieces          g is a gcd of the cubic p, of degree 1 or 2, so that both parts can be solved
 -- Assumes nothing.
 use Rattle.std.specs.Prelude.{◌≡◌, List, ℕ, ◌^◌, ◌≤◌, ◌<◌, length, take}
-use Rattle.algebra.specs.Polynomial.{Below, traceOf}
+use Rattle.algebra.specs.Polynomial.{Below, trace_of}
 use Rattle.algebra.specs.Routines.{gcd}
 use Rattle.field.specs.Field.{G}
 use Rattle.poly.specs.Lent.{Lent}
@@ -28,8 +28,8 @@ pub record GcdOf (m : ℕ) (p t : List ℕ) (n : ℕ) (g : List ℕ) : Type 0 wh
 -- below m, as the field has 2^m elements
 pub record Parts (m : ℕ) (p : List ℕ) (i : ℕ) : Type 0 where
   pub level : i < m
-  pub least : 0 < length (gcd (G m) p (traceOf (G m) m (2 ^ i)))
-  pub less : length (gcd (G m) p (traceOf (G m) m (2 ^ i))) < length p
+  pub least : 0 < length (gcd (G m) p (trace_of (G m) m (2 ^ i)))
+  pub less : length (gcd (G m) p (trace_of (G m) m (2 ^ i))) < length p
 
 -- at a level that need not be known
 pub record CubicPartable (m : ℕ) (ls ts p g : List ℕ) : Type 0 where
@@ -43,7 +43,7 @@ pub record CubicParted (m : ℕ) (p : List ℕ) (n : ℕ) (g : List ℕ) : Type 
   pub below : 2 ^ level < 2 ^ m
   pub least : 0 < n
   pub less : n < 3
-  pub low : take n g ≡ gcd (G m) p (traceOf (G m) m (2 ^ level))
+  pub low : take n g ≡ gcd (G m) p (trace_of (G m) m (2 ^ level))
 
 -- with some polynomial t
 pub record Pieces (m : ℕ) (ls ts hs p g out : List ℕ) : Type 0 where

@@ -10,7 +10,7 @@ use mathlib.Core.List.{List, Memᴰ}
 use Rattle.algebra.specs.Polynomial.{Below}
 use Rattle.algebra.specs.Routines.{monic}
 use Rattle.field.specs.Rows.{known}
-use Rattle.field.specs.Field.{field_at, G, rootsAt}
+use Rattle.field.specs.Field.{field_at, G, roots_at}
 use Rattle.field.specs.Tables.{Halves}
 use Rattle.poly.specs.Lent.{Lent}
 
@@ -22,7 +22,7 @@ pub record Front (rs : List ℕ) (k : ℕ) (out : List ℕ) : Type 0 where
 -- in any order
 pub record RootsOut (m : ℕ) (p : List ℕ) (k : ℕ) (out : List ℕ) : Type 0 where
   pub count : k ≤ length p
-  pub members : (x : ℕ) → Memᴰ x (take k out) ↔ Memᴰ x (rootsAt m (monic (G m) p))
+  pub members : (x : ℕ) → Memᴰ x (take k out) ↔ Memᴰ x (roots_at m (monic (G m) p))
 
 -- two elements, and room for two roots
 pub record Halvable (m : ℕ) (hs : List ℕ) (a b : ℕ) (out : List ℕ) : Type 0 where

@@ -2,7 +2,7 @@
 // that d ascending numbers at which it is 0 are all of them, wherever they came from. Where a guess fails, who asked
 // goes another way: a polynomial need not split.
 ghost use Rattle.std.specs.Prelude.{◌≡◌, true, ◌≤◌, length};
-ghost use Rattle.field.specs.Field.{rootsAt};
+ghost use Rattle.field.specs.Field.{roots_at};
 ghost use Rattle.poly_small.specs.Guessing.{Triable, Guessable, Guessed};
 
 use crate::guess::{four_guess, three_guess};
@@ -11,7 +11,7 @@ use poly::values::evaluate;
 // Are the numbers xs, ascending, roots of the monic polynomial f, which has as many degrees? Then they are all.
 fn all_roots(m: u16, logs: &[u16], antilogs: &[u16], f: &[u16], xs: &[u16]) -> bool
     requires { Triable m logs.now antilogs.now f.now xs.now }
-    ensures { result ≡ true → rootsAt m f.now ≡ xs.now }
+    ensures { result ≡ true → roots_at m f.now ≡ xs.now }
 {
     let mut bound = logs.len();
     let mut i = xs.len();

@@ -1,7 +1,7 @@
 // Degrees 0 to 2: no root, the coefficient itself, and the quadratic solver over a lent half-table.
 ghost use Rattle.std.specs.Prelude.{[], ◌∷◌};
 ghost use Rattle.algebra.specs.Routines.{monic};
-ghost use Rattle.field.specs.Field.{G, rootsAt};
+ghost use Rattle.field.specs.Field.{G, roots_at};
 ghost use Rattle.poly_small.specs.Roots.{Halvable, Lowly, Front};
 
 use field::rows::poly_of;
@@ -10,7 +10,7 @@ use field::solver::{Quadratic, quadratic_of};
 // Writes the roots of z^2 + az + b to the front of out. Returns how many there are.
 fn quadratic_roots(m: u16, halves: &[u16], a: u16, b: u16, out: &mut [u16]) -> usize
     requires { Halvable m halves.now a b out.old }
-    ensures { Front (rootsAt m (b ∷ a ∷ 1 ∷ [])) result out.new }
+    ensures { Front (roots_at m (b ∷ a ∷ 1 ∷ [])) result out.new }
 {
     let poly = poly_of(m);
     match quadratic_of(m, poly, halves, a, b) {
@@ -31,7 +31,7 @@ fn quadratic_roots(m: u16, halves: &[u16], a: u16, b: u16, out: &mut [u16]) -> u
 // Returns how many there are.
 pub fn low_roots(m: u16, halves: &[u16], p: &[u16], out: &mut [u16]) -> usize
     requires { Lowly m halves.now p.now out.old }
-    ensures { Front (rootsAt m (monic (G m) p.now)) result out.new }
+    ensures { Front (roots_at m (monic (G m) p.now)) result out.new }
 {
     if p.len() == 0 {
         return 0;

@@ -1,7 +1,7 @@
 // Degree 3 by traces: the part of a cubic that splits, and its parting by the traces Tr(2^i z), i = 0, 1, .. , into
 // degrees 1 and 2.
 ghost use Rattle.std.specs.Prelude.{◌<◌, ◌^◌, length};
-ghost use Rattle.algebra.specs.Polynomial.{fieldPoly, traceOf};
+ghost use Rattle.algebra.specs.Polynomial.{field_poly, trace_of};
 ghost use Rattle.field.specs.Field.{G};
 ghost use Rattle.poly_small.specs.Roots.{SmallSolvable, RootsOut};
 ghost use Rattle.poly_small.specs.Parting.{Cubic, GcdOf, CubicPartable, CubicParted, Pieces};
@@ -14,7 +14,7 @@ use poly_powers::{trace_of, z_power};
 // of g. Returns its degree.
 fn cubic_split_part(m: u16, logs: &[u16], antilogs: &[u16], p: &[u16], g: &mut [u16]) -> usize
     requires { Cubic m logs.now antilogs.now p.now g.old }
-    ensures { GcdOf m p.now (fieldPoly (G m) m) result g.new }
+    ensures { GcdOf m p.now (field_poly (G m) m) result g.new }
 {
     let mut w: [u16; 3] = [0; 3];
     z_power(m, logs, antilogs, p, m, &mut w);
@@ -25,7 +25,7 @@ fn cubic_split_part(m: u16, logs: &[u16], antilogs: &[u16], p: &[u16], g: &mut [
 // Writes the gcd of the monic cubic with the low coefficients p and Tr(bz) to the front of g. Returns its degree.
 fn part_at(m: u16, logs: &[u16], antilogs: &[u16], p: &[u16], b: u16, g: &mut [u16]) -> usize
     requires { Cubic m logs.now antilogs.now p.now g.old × (b < 2 ^ m) }
-    ensures { GcdOf m p.now (traceOf (G m) m b) result g.new }
+    ensures { GcdOf m p.now (trace_of (G m) m b) result g.new }
 {
     let mut t: [u16; 3] = [0; 3];
     trace_of(m, logs, antilogs, p, b, &mut t);

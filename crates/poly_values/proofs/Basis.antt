@@ -1,7 +1,7 @@
 -- The levels of a list of steps obey the laws of levels; z times what stands in their basis.
 --   vanishing-additive, vanishing-vanishes   the vanishing map respects sums, and is 0 at every step
 --   levels-hold     the levels obey the laws of levels
---   raisedIn-value    z times what stands in the basis
+--   raised_in-value    z times what stands in the basis
 --   value_none, value-single, value-zeros   the value of no coefficient, of one, and of zeros
 -- Assumes nothing.
 use mathlib.Core.Path.{◌≡◌, refl, sym, ap, ap₂, ◌∙◌}
@@ -16,7 +16,7 @@ use Rattle.algebra.specs.Field.{Ops, Laws}
 use Rattle.algebra.specs.Polynomial.{add}
 use Rattle.algebra.proofs.Elements as S
 use Rattle.poly_values.specs.Transform.{Level, Additive, Vanishes, Levels, value}
-use Rattle.poly_values.specs.Basis.{Step, vanishing, RightSteps, levels, raisedIn}
+use Rattle.poly_values.specs.Basis.{Step, vanishing, RightSteps, levels, raised_in}
 use Rattle.algebra.specs.Trial.{All}
 use Rattle.poly_values.proofs.Transform as T
 use Rattle.poly_values.proofs.Image.{all_take, all_drop}
@@ -82,14 +82,14 @@ module _ {K : Type 0} {F : Ops K} (laws : Laws F) where
   pub size-levels : (B : List (Step K)) → 2 ^ length (levels F B) ≡ 2 ^ length B
   size-levels B = ap (λ n. 2 ^ n) (length-levels B)
 
-  pub length-raisedIn : (B : List (Step K)) (a : List K) → length (raisedIn F B a).0 ≡ 2 ^ length B
-  unfolding raisedIn
-  length-raisedIn [] a = refl
-  length-raisedIn (b ∷ B) a =
-      let l = length-raisedIn B (take (2 ^ length B) a) in
-      let h = length-raisedIn B (drop (2 ^ length B) a) in
-      length-append (raisedIn F B (take (2 ^ length B) a)).0 (add F (raisedIn F B (drop (2 ^ length B) a)).0 (_ ∷ []))
-      ∙ ap₂ ◌+◌ l (length-add-le F (raisedIn F B (drop (2 ^ length B) a)).0 (_ ∷ []) (omega (arith, h, pow_pos (length B))) ∙ h)
+  pub length-raised_in : (B : List (Step K)) (a : List K) → length (raised_in F B a).0 ≡ 2 ^ length B
+  unfolding raised_in
+  length-raised_in [] a = refl
+  length-raised_in (b ∷ B) a =
+      let l = length-raised_in B (take (2 ^ length B) a) in
+      let h = length-raised_in B (drop (2 ^ length B) a) in
+      length-append (raised_in F B (take (2 ^ length B) a)).0 (add F (raised_in F B (drop (2 ^ length B) a)).0 (_ ∷ []))
+      ∙ ap₂ ◌+◌ l (length-add-le F (raised_in F B (drop (2 ^ length B) a)).0 (_ ∷ []) (omega (arith, h, pow_pos (length B))) ∙ h)
       ∙ omega (arith, pow-suc 2 (length B))
 
   -- ---- values of few coefficients
@@ -151,14 +151,14 @@ module _ {K : Type 0} {F : Ops K} (laws : Laws F) where
             ∙ ap (λ y. l ⊕ y) (S.add_left_comm laws a h (w ⊕ b) ∙ ap (λ y. h ⊕ y) (S.add_left_comm laws a w b ∙ add_comm w (a ⊕ b)) ∙ sym (add_assoc h (a ⊕ b) w))
             ∙ sym (add_assoc l (h ⊕ (a ⊕ b)) w)
 
-  pub raisedIn-value : (B : List (Step K)) → RightSteps F B → (a : List K) (x : K)
-      → x ⊗ value F (levels F B) a x ≡ value F (levels F B) (raisedIn F B a).0 x ⊕ (raisedIn F B a).1 ⊗ vanishing F B x
-  unfolding raisedIn value levels vanishing part van
-  raisedIn-value [] ok a x = mul_comm x _ ∙ sym (zero-add _)
-  raisedIn-value (s ∷ B) ok a x =
+  pub raised_in-value : (B : List (Step K)) → RightSteps F B → (a : List K) (x : K)
+      → x ⊗ value F (levels F B) a x ≡ value F (levels F B) (raised_in F B a).0 x ⊕ (raised_in F B a).1 ⊗ vanishing F B x
+  unfolding raised_in value levels vanishing part van
+  raised_in-value [] ok a x = mul_comm x _ ∙ sym (zero-add _)
+  raised_in-value (s ∷ B) ok a x =
       mul-add x _ _ ∙ ap (λ y. x ⊗ value F L (take n a) x ⊕ y) (S.mul_left_comm laws x (p) _)
       ∙ ap₂ (λ i j. x ⊗ value F L (take i a) x ⊕ p ⊗ (x ⊗ value F L (drop j a) x)) (size-levels B) (size-levels B)
-      ∙ ap₂ (λ y z. y ⊕ p ⊗ z) (raisedIn-value B ok.2 (take h a) x) (raisedIn-value B ok.2 (drop h a) x)
+      ∙ ap₂ (λ y z. y ⊕ p ⊗ z) (raised_in-value B ok.2 (take h a) x) (raised_in-value B ok.2 (drop h a) x)
       ∙ halves-raised s B ok x (value F L lo.0 x) (value F L hi.0 x) lo.1 hi.1
       ∙ ap (λ y. (value F L lo.0 x ⊕ p ⊗ y) ⊕ (hi.1 ⊗ s.back) ⊗ vanishing F (s ∷ B) x)
       (sym (T.value-add laws L hi.0 (more ∷ []) x ∙ ap (λ y. value F L hi.0 x ⊕ y) (value-single L more x)))
@@ -178,10 +178,10 @@ module _ {K : Type 0} {F : Ops K} (laws : Laws F) where
       p = s.back ⊗ vanishing F B x
 
       lo : List K × K
-      lo = raisedIn F B (take h a)
+      lo = raised_in F B (take h a)
 
       hi : List K × K
-      hi = raisedIn F B (drop h a)
+      hi = raised_in F B (drop h a)
 
       more : K
       more = (lo.1 ⊕ hi.1) ⊗ s.unit
@@ -190,7 +190,7 @@ module _ {K : Type 0} {F : Ops K} (laws : Laws F) where
       up = add F hi.0 (more ∷ [])
 
       long : length lo.0 ≡ n
-      long = length-raisedIn B (take h a) ∙ sym (size-levels B)
+      long = length-raised_in B (take h a) ∙ sym (size-levels B)
 
   -- ---- zeros
 

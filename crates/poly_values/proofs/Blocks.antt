@@ -18,12 +18,12 @@ use Rattle.algebra.specs.Trial.{All}
 use Rattle.algebra.specs.Polynomial.{add, eval}
 use Rattle.algebra.proofs.Elements as S
 use Rattle.poly_values.specs.Transform.{Level, value, scaled, transform, mults, points}
-use Rattle.poly_values.specs.Basis.{Step, vanishing, RightSteps, levels, raisedIn}
-use Rattle.poly_values.specs.Blocks.{whole_of, next_of, powerIn, ColumnsOf, mix, cosetOf}
+use Rattle.poly_values.specs.Basis.{Step, vanishing, RightSteps, levels, raised_in}
+use Rattle.poly_values.specs.Blocks.{whole_of, next_of, power_in, ColumnsOf, mix, coset_of}
 use Rattle.poly_values.proofs.Image.{all_take, all_drop}
-use Rattle.poly_values.proofs.Lists.{getD-add, getD-scaled, length-add-le}
+use Rattle.poly_values.proofs.Lists.{get_or-add, get_or-scaled, length-add-le}
 use Rattle.poly_values.proofs.Transform as T
-use Rattle.poly_values.proofs.Basis.{vanishing-additive, vanishing-vanishes, levels-hold, length-raisedIn, raisedIn-value, value-single, value-zeros, size-levels}
+use Rattle.poly_values.proofs.Basis.{vanishing-additive, vanishing-vanishes, levels-hold, length-raised_in, raised_in-value, value-single, value-zeros, size-levels}
 
 module _ {K : Type 0} {F : Ops K} (laws : Laws F) where
   infixl 60 ◌⊕◌
@@ -34,9 +34,9 @@ module _ {K : Type 0} {F : Ops K} (laws : Laws F) where
   -- ---- z times blocks
 
   -- a block is as long as there are sums of steps
-  length-block : (B : List (Step K)) (a : List K) (c : K) → length (add F (raisedIn F B a).0 (c ∷ [])) ≡ 2 ^ length B
+  length-block : (B : List (Step K)) (a : List K) (c : K) → length (add F (raised_in F B a).0 (c ∷ [])) ≡ 2 ^ length B
   length-block B a c =
-      length-add-le F (raisedIn F B a).0 (c ∷ []) (omega (arith, length-raisedIn laws B a, pow_pos (length B))) ∙ length-raisedIn laws B a
+      length-add-le F (raised_in F B a).0 (c ∷ []) (omega (arith, length-raised_in laws B a, pow_pos (length B))) ∙ length-raised_in laws B a
 
   -- what stands behind the blocks stands behind the others
   behind : (n m : ℕ) (a : List K) → get_or (drop m a) (n * m) 0# ≡ get_or a (suc n * m) 0#
@@ -51,7 +51,7 @@ module _ {K : Type 0} {F : Ops K} (laws : Laws F) where
       ap₂ (λ s t. value F L s z ⊕ w ⊗ whole_of F B n t z) (take_at block others N (length-block B (take N a) c)) (drop_at block others N (length-block B (take N a) c))
       ∙ ap₂ ◌⊕◌ (T.value-add laws L up.0 (c ∷ []) z ∙ ap (λ y. value F L up.0 z ⊕ y) (value-single laws L c z) ∙ add_comm _ c)
       (ap (λ y. w ⊗ y) (next-whole B ok n up.1 (drop N a) z (behind n N a ∙ e)) ∙ mul-add w up.1 (z ⊗ r) ∙ ap₂ ◌⊕◌ (mul_comm w up.1) (S.mul_left_comm laws w z r))
-      ∙ add_assoc c _ _ ∙ ap (λ y. c ⊕ y) (sym (add_assoc _ _ _) ∙ ap (λ y. y ⊕ z ⊗ (w ⊗ r)) (sym (raisedIn-value laws B ok (take N a) z)) ∙ sym (mul-add z _ _))
+      ∙ add_assoc c _ _ ∙ ap (λ y. c ⊕ y) (sym (add_assoc _ _ _) ∙ ap (λ y. y ⊕ z ⊗ (w ⊗ r)) (sym (raised_in-value laws B ok (take N a) z)) ∙ sym (mul-add z _ _))
     where
       N : ℕ
       N = 2 ^ length B
@@ -66,7 +66,7 @@ module _ {K : Type 0} {F : Ops K} (laws : Laws F) where
       r = whole_of F B n (drop N a) z
 
       up : List K × K
-      up = raisedIn F B (take N a)
+      up = raised_in F B (take N a)
 
       block : List K
       block = add F up.0 (c ∷ [])
@@ -78,7 +78,7 @@ module _ {K : Type 0} {F : Ops K} (laws : Laws F) where
 
   whole_sum : (B : List (Step K)) (n : ℕ) (a b : List K) (z : K) → whole_of F B n (add F a b) z ≡ whole_of F B n a z ⊕ whole_of F B n b z
   unfolding whole_of
-  whole_sum B zero a b z = getD-add F zero-add (S.add-zero laws) a b 0
+  whole_sum B zero a b z = get_or-add F zero-add (S.add-zero laws) a b 0
   whole_sum B (suc n) a b z =
       ap₂ (λ s t. value F (levels F B) s z ⊕ vanishing F B z ⊗ whole_of F B n t z) (T.take-add laws (2 ^ length B) a b) (T.drop-add laws (2 ^ length B) a b)
       ∙ ap₂ (λ s t. s ⊕ vanishing F B z ⊗ t) (T.value-add laws (levels F B) (take (2 ^ length B) a) (take (2 ^ length B) b) z)
@@ -87,7 +87,7 @@ module _ {K : Type 0} {F : Ops K} (laws : Laws F) where
 
   whole_multiple : (B : List (Step K)) (n : ℕ) (e : K) (a : List K) (z : K) → whole_of F B n (scaled F e a) z ≡ e ⊗ whole_of F B n a z
   unfolding whole_of
-  whole_multiple B zero e a z = getD-scaled F e (S.mul-zero laws e) a 0
+  whole_multiple B zero e a z = get_or-scaled F e (S.mul-zero laws e) a 0
   whole_multiple B (suc n) e a z =
       ap₂ (λ s t. value F (levels F B) s z ⊕ vanishing F B z ⊗ whole_of F B n t z) (T.take-map laws (F.mul e) (2 ^ length B) a) (T.drop-map laws (F.mul e) (2 ^ length B) a)
       ∙ ap₂ (λ s t. s ⊕ vanishing F B z ⊗ t) (T.value-scaled laws (levels F B) e (take (2 ^ length B) a) z) (whole_multiple B n e (drop (2 ^ length B) a) z)
@@ -144,35 +144,35 @@ module _ {K : Type 0} {F : Ops K} (laws : Laws F) where
   bound (x ∷ u) (y ∷ v) zero p r = absurd (omega arith)
   bound (x ∷ u) (y ∷ v) (suc n) p r = let b = bound u v n (omega arith) (omega arith) in omega arith
 
-  length-coset : (B : List (Step K)) (n : ℕ) (a : List K) (c : K) → length (cosetOf F B n a c) ≤ 2 ^ length B
-  unfolding cosetOf
+  length-coset : (B : List (Step K)) (n : ℕ) (a : List K) (c : K) → length (coset_of F B n a c) ≤ 2 ^ length B
+  unfolding coset_of
   length-coset B zero a c = pow_pos (length B)
   length-coset B (suc n) a c =
-      bound (take (2 ^ length B) a) (scaled F (vanishing F B c) (cosetOf F B n (drop (2 ^ length B) a) c)) (2 ^ length B) (omega (arith, length-take (2 ^ length B) a))
-      (omega (arith, length-coset B n (drop (2 ^ length B) a) c, length-map (cosetOf F B n (drop (2 ^ length B) a) c) (F.mul (vanishing F B c))))
+      bound (take (2 ^ length B) a) (scaled F (vanishing F B c) (coset_of F B n (drop (2 ^ length B) a) c)) (2 ^ length B) (omega (arith, length-take (2 ^ length B) a))
+      (omega (arith, length-coset B n (drop (2 ^ length B) a) c, length-map (coset_of F B n (drop (2 ^ length B) a) c) (F.mul (vanishing F B c))))
 
-  coset-at : (B : List (Step K)) (n : ℕ) (a : List K) (c x : K) → vanishing F B x ≡ vanishing F B c → value F (levels F B) (cosetOf F B n a c) x ≡ whole_of F B n a x
-  unfolding cosetOf whole_of
+  coset-at : (B : List (Step K)) (n : ℕ) (a : List K) (c x : K) → vanishing F B x ≡ vanishing F B c → value F (levels F B) (coset_of F B n a c) x ≡ whole_of F B n a x
+  unfolding coset_of whole_of
   coset-at B zero a c x e = value-single laws (levels F B) (get_or a 0 0#) x
   coset-at B (suc n) a c x e =
-      T.value-add laws (levels F B) (take (2 ^ length B) a) (scaled F (vanishing F B c) (cosetOf F B n (drop (2 ^ length B) a) c)) x
+      T.value-add laws (levels F B) (take (2 ^ length B) a) (scaled F (vanishing F B c) (coset_of F B n (drop (2 ^ length B) a) c)) x
       ∙ ap (λ y. value F (levels F B) (take (2 ^ length B) a) x ⊕ y)
-      (T.value-scaled laws (levels F B) (vanishing F B c) (cosetOf F B n (drop (2 ^ length B) a) c) x ∙ ap₂ ◌⊗◌ (sym e) (coset-at B n (drop (2 ^ length B) a) c x e))
+      (T.value-scaled laws (levels F B) (vanishing F B c) (coset_of F B n (drop (2 ^ length B) a) c) x ∙ ap₂ ◌⊗◌ (sym e) (coset-at B n (drop (2 ^ length B) a) c x e))
 
   -- the length of a coset's list, whose first block is full
-  pub coset-full : (B : List (Step K)) (n : ℕ) (a : List K) (c : K) → 2 ^ length B ≤ length a → length (cosetOf F B (suc n) a c) ≡ 2 ^ length B
-  unfolding cosetOf
+  pub coset-full : (B : List (Step K)) (n : ℕ) (a : List K) (c : K) → 2 ^ length B ≤ length a → length (coset_of F B (suc n) a c) ≡ 2 ^ length B
+  unfolding coset_of
   coset-full B n a c h =
-      length-add-le F (take (2 ^ length B) a) (scaled F (vanishing F B c) (cosetOf F B n (drop (2 ^ length B) a) c))
-      (omega (arith, length-take-le (2 ^ length B) a h, length-coset B n (drop (2 ^ length B) a) c, length-map (cosetOf F B n (drop (2 ^ length B) a) c) (F.mul (vanishing F B c))))
+      length-add-le F (take (2 ^ length B) a) (scaled F (vanishing F B c) (coset_of F B n (drop (2 ^ length B) a) c))
+      (omega (arith, length-take-le (2 ^ length B) a h, length-coset B n (drop (2 ^ length B) a) c, length-map (coset_of F B n (drop (2 ^ length B) a) c) (F.mul (vanishing F B c))))
       ∙ length-take-le (2 ^ length B) a h
 
   -- THE LAW for any number of blocks
   pub blocks-values : (B : List (Step K)) → RightSteps F B → (n : ℕ) (a : List K) → 2 ^ length B ≤ length a → (c : K)
-      → transform F (mults F (levels F B) c) (cosetOf F B (suc n) a c) ≡ map (whole_of F B (suc n) a) (points F (levels F B) c)
+      → transform F (mults F (levels F B) c) (coset_of F B (suc n) a c) ≡ map (whole_of F B (suc n) a) (points F (levels F B) c)
   blocks-values B ok n a h c =
-      T.transform-values laws (levels F B) (levels-hold laws B ok) c (cosetOf F B (suc n) a c) (coset-full B n a c h ∙ sym (size-levels laws B))
-      ∙ T.transform-agree laws (levels F B) (vanishing-additive laws B) (vanishing-vanishes laws B ok) (value F (levels F B) (cosetOf F B (suc n) a c)) (whole_of F B (suc n) a) c
+      T.transform-values laws (levels F B) (levels-hold laws B ok) c (coset_of F B (suc n) a c) (coset-full B n a c h ∙ sym (size-levels laws B))
+      ∙ T.transform-agree laws (levels F B) (vanishing-additive laws B) (vanishing-vanishes laws B ok) (value F (levels F B) (coset_of F B (suc n) a c)) (whole_of F B (suc n) a) c
       (λ x e. coset-at B (suc n) a c x e)
 
   longer : (u v : List K) → length u ≤ length (add F u v)
@@ -189,7 +189,7 @@ module _ {K : Type 0} {F : Ops K} (laws : Laws F) where
   -- the values of f
   pub blocks-mixed : (B : List (Step K)) → RightSteps F B → (n : ℕ) (f z : List K) (columns : List (List K)) → All (λ c. c ≡ 0#) z → 2 ^ length B ≤ length z
       → ColumnsOf F B (suc n) (1# ∷ z) columns → 1 ≤ length f → length f ≤ suc (length columns) → (c : K)
-      → transform F (mults F (levels F B) c) (cosetOf F B (suc n) (mix F f ((1# ∷ z) ∷ columns)) c) ≡ map (eval F f) (points F (levels F B) c)
+      → transform F (mults F (levels F B) c) (coset_of F B (suc n) (mix F f ((1# ∷ z) ∷ columns)) c) ≡ map (eval F f) (points F (levels F B) c)
   blocks-mixed B ok n f z columns zeros long cs some h c =
       blocks-values B ok n (mix F f ((1# ∷ z) ∷ columns)) (omega (arith, length-mix f (1# ∷ z) columns some)) c ∙ map_same (points F (levels F B) c)
     where
@@ -200,13 +200,13 @@ module _ {K : Type 0} {F : Ops K} (laws : Laws F) where
 -- ---- columns that go on where others end
 
 module _ {K : Type 0} (F : Ops K) (B : List (Step K)) (n : ℕ) where
-  pub columns-join : (j : ℕ) (xs ys : List (List K)) → ColumnsOf F B n (powerIn F B n j) xs → ColumnsOf F B n (powerIn F B n (j + length xs)) ys
-      → ColumnsOf F B n (powerIn F B n j) (xs ++ ys)
-  unfolding powerIn
-  columns-join j [] ys c d = subst (λ (k : ℕ). ColumnsOf F B n (powerIn F B n k) ys) (add-zero j) d
+  pub columns-join : (j : ℕ) (xs ys : List (List K)) → ColumnsOf F B n (power_in F B n j) xs → ColumnsOf F B n (power_in F B n (j + length xs)) ys
+      → ColumnsOf F B n (power_in F B n j) (xs ++ ys)
+  unfolding power_in
+  columns-join j [] ys c d = subst (λ (k : ℕ). ColumnsOf F B n (power_in F B n k) ys) (add-zero j) d
   columns-join j (x ∷ xs) ys c d = (
     c.0,
     c.1,
     subst (λ a. ColumnsOf F B n a (xs ++ ys)) c.1
-        (columns-join (suc j) xs ys (subst (λ a. ColumnsOf F B n a xs) (sym c.1) c.2) (subst (λ (k : ℕ). ColumnsOf F B n (powerIn F B n k) ys) (add-suc j (length xs) ∙ sym (suc-add j (length xs))) d)),
+        (columns-join (suc j) xs ys (subst (λ a. ColumnsOf F B n a xs) (sym c.1) c.2) (subst (λ (k : ℕ). ColumnsOf F B n (power_in F B n k) ys) (add-suc j (length xs) ∙ sym (suc-add j (length xs))) d)),
   )

@@ -12,7 +12,7 @@ use lib.Pow.{pow_pos}
 use lib.ListN.{length, take, drop}
 use lib.Seq.{take_at, drop_at}
 use borrow.Rule.Slice.PartMut.{put_mid}
-use Rattle.poly_values.specs.Planes.{wordsAt, butterfliesAt, transformAt, halvesAt}
+use Rattle.poly_values.specs.Planes.{words_at, butterflies_at, transform_at, halves_at}
 use Rattle.poly_values.proofs.Tail.{lent-tail, back}
 
 -- the half of n = 2^k
@@ -30,22 +30,22 @@ half_count k n h e =
 
 -- what stands when both halves are back
 pub halves-back : (q g p : List ℕ) {e b y z : List ℕ} (k h : ℕ) → 0 < k → h ≡ 2 ^ (k - 1) → length y ≡ h * length q
-    → e ≡ wordsAt (length q) g 0 → b ≡ butterfliesAt q e (h * length q) h p
-    → y ≡ transformAt q (k - 1) (take (length g - length q) (drop (length q) g)) (take (h * length q - 0) b)
-    → z ≡ transformAt q (k - 1) (take (length g - h * length q) (drop (h * length q) g))
+    → e ≡ words_at (length q) g 0 → b ≡ butterflies_at q e (h * length q) h p
+    → y ≡ transform_at q (k - 1) (take (length g - length q) (drop (length q) g)) (take (h * length q - 0) b)
+    → z ≡ transform_at q (k - 1) (take (length g - h * length q) (drop (h * length q) g))
     (take (length (y ++ drop (h * length q - 0) b) - h * length q) (drop (h * length q) (y ++ drop (h * length q - 0) b)))
-    → put_mid (h * length q) (length (y ++ drop (h * length q - 0) b) - h * length q) (y ++ drop (h * length q - 0) b) z ≡ transformAt q k g p
-unfolding transformAt
+    → put_mid (h * length q) (length (y ++ drop (h * length q - 0) b) - h * length q) (y ++ drop (h * length q - 0) b) z ≡ transform_at q k g p
+unfolding transform_at
 halves-back q g p {e} {b} {y} {z} k h some half n ee eb ey ez =
     back (y ++ drop (u - 0) b) z u
     ∙ ap₂ ◌++◌
-    (take_at y (drop (u - 0) b) u n ∙ ey ∙ ap₂ (λ s t. transformAt q (k - 1) s t) (lent-tail g (length q)) (ap (λ i. take i b) nought))
-    (ez ∙ ap₂ (λ s t. transformAt q (k - 1) s t) (lent-tail g u) (lent-tail (y ++ drop (u - 0) b) u ∙ drop_at y (drop (u - 0) b) u n ∙ ap (λ i. drop i b) nought))
-    ∙ ap (λ l. transformAt q (k - 1) (drop (length q) g) (take u l) ++ transformAt q (k - 1) (drop u g) (drop u l))
-    (eb ∙ ap (λ l. butterfliesAt q l u h p) ee)
-    ∙ ap (λ i. transformAt q (k - 1) (drop (length q) g) (take (i * length q) (butterfliesAt q (wordsAt (length q) g 0) (i * length q) i p))
-    ++ transformAt q (k - 1) (drop (i * length q) g) (drop (i * length q) (butterfliesAt q (wordsAt (length q) g 0) (i * length q) i p))) half
-    ∙ ap (λ i. transformAt q i g p) (sym down)
+    (take_at y (drop (u - 0) b) u n ∙ ey ∙ ap₂ (λ s t. transform_at q (k - 1) s t) (lent-tail g (length q)) (ap (λ i. take i b) nought))
+    (ez ∙ ap₂ (λ s t. transform_at q (k - 1) s t) (lent-tail g u) (lent-tail (y ++ drop (u - 0) b) u ∙ drop_at y (drop (u - 0) b) u n ∙ ap (λ i. drop i b) nought))
+    ∙ ap (λ l. transform_at q (k - 1) (drop (length q) g) (take u l) ++ transform_at q (k - 1) (drop u g) (drop u l))
+    (eb ∙ ap (λ l. butterflies_at q l u h p) ee)
+    ∙ ap (λ i. transform_at q (k - 1) (drop (length q) g) (take (i * length q) (butterflies_at q (words_at (length q) g 0) (i * length q) i p))
+    ++ transform_at q (k - 1) (drop (i * length q) g) (drop (i * length q) (butterflies_at q (words_at (length q) g 0) (i * length q) i p))) half
+    ∙ ap (λ i. transform_at q i g p) (sym down)
   where
     u : ℕ
     u = h * length q
@@ -58,15 +58,15 @@ halves-back q g p {e} {b} {y} {z} k h some half n ee eb ey ez =
 
 -- what stands when both halves are back, with no butterflies before
 pub halves-back-plain : (q g p : List ℕ) {y z : List ℕ} (k h : ℕ) → length y ≡ h * length q
-    → y ≡ transformAt q k (take (length g - length q) (drop (length q) g)) (take (h * length q - 0) p)
-    → z ≡ transformAt q k (take (length g - h * length q) (drop (h * length q) g))
+    → y ≡ transform_at q k (take (length g - length q) (drop (length q) g)) (take (h * length q - 0) p)
+    → z ≡ transform_at q k (take (length g - h * length q) (drop (h * length q) g))
     (take (length (y ++ drop (h * length q - 0) p) - h * length q) (drop (h * length q) (y ++ drop (h * length q - 0) p)))
-    → put_mid (h * length q) (length (y ++ drop (h * length q - 0) p) - h * length q) (y ++ drop (h * length q - 0) p) z ≡ halvesAt q k h g p
+    → put_mid (h * length q) (length (y ++ drop (h * length q - 0) p) - h * length q) (y ++ drop (h * length q - 0) p) z ≡ halves_at q k h g p
 halves-back-plain q g p {y} {z} k h n ey ez =
     back (y ++ drop (u - 0) p) z u
     ∙ ap₂ ◌++◌
-    (take_at y (drop (u - 0) p) u n ∙ ey ∙ ap₂ (λ s t. transformAt q k s t) (lent-tail g (length q)) (ap (λ i. take i p) nought))
-    (ez ∙ ap₂ (λ s t. transformAt q k s t) (lent-tail g u) (lent-tail (y ++ drop (u - 0) p) u ∙ drop_at y (drop (u - 0) p) u n ∙ ap (λ i. drop i p) nought))
+    (take_at y (drop (u - 0) p) u n ∙ ey ∙ ap₂ (λ s t. transform_at q k s t) (lent-tail g (length q)) (ap (λ i. take i p) nought))
+    (ez ∙ ap₂ (λ s t. transform_at q k s t) (lent-tail g u) (lent-tail (y ++ drop (u - 0) p) u ∙ drop_at y (drop (u - 0) p) u n ∙ ap (λ i. drop i p) nought))
   where
     u : ℕ
     u = h * length q

@@ -10,7 +10,7 @@ use lib.ListN.{length, take, drop}
 use Rattle.algebra.specs.Field.{Ops}
 use Rattle.algebra.specs.Polynomial.{add}
 use Rattle.algebra.specs.Trial.{All}
-use Rattle.poly_values.specs.Transform.{Mults, leaf, node, width, scaled, lower, transform, mapMults}
+use Rattle.poly_values.specs.Transform.{Mults, leaf, node, width, scaled, lower, transform, map_mults}
 
 -- φ respects sums and products of F's elements of which P holds, and F's operations keep P
 pub record Respects {A B : Type 0} (F : Ops A) (G : Ops B) (P : A → Type 0) (φ : A → B) : Type 0 where
@@ -74,22 +74,22 @@ module _ {A B : Type 0} {F : Ops A} {G : Ops B} {P : A → Type 0} {φ : A → B
       map-add (take n a) (scaled F e (drop n a)) (all_take P n a h) (all-scaled e (drop n a) (all_drop P n a h))
       ∙ ap₂ (add G) (map-take φ n a) (map-scaled e (drop n a) (all_drop P n a h) ∙ ap (scaled G (φ e)) (map-drop φ n a))
 
-  width-map : (T : Mults A) → width (mapMults φ T) ≡ width T
-  unfolding width mapMults
+  width-map : (T : Mults A) → width (map_mults φ T) ≡ width T
+  unfolding width map_mults
   width-map leaf = refl
   width-map (node e l r) = ap₂ ◌+◌ (width-map l) (width-map l)
 
   -- the transform of the images is the image of the transform
-  pub transform-image : (T : Mults A) (a : List A) → All P a → map φ (transform F T a) ≡ transform G (mapMults φ T) (map φ a)
-  unfolding transform mapMults
+  pub transform-image : (T : Mults A) (a : List A) → All P a → map φ (transform F T a) ≡ transform G (map_mults φ T) (map φ a)
+  unfolding transform map_mults
   transform-image leaf a h = refl
   transform-image (node e l r) a h =
       map-append φ (transform F l u) (transform F r (add F u (drop n a)))
       ∙ ap₂ ◌++◌
-      (transform-image l u (all-lower e n a h) ∙ ap (transform G (mapMults φ l)) (map-lower e n a h))
+      (transform-image l u (all-lower e n a h) ∙ ap (transform G (map_mults φ l)) (map-lower e n a h))
       (transform-image r (add F u (drop n a)) (all-add u (drop n a) (all-lower e n a h) (all_drop P n a h))
-      ∙ ap (transform G (mapMults φ r)) (map-add u (drop n a) (all-lower e n a h) (all_drop P n a h) ∙ ap₂ (add G) (map-lower e n a h) (map-drop φ n a)))
-      ∙ ap (λ k. transform G (mapMults φ l) (lower G (φ e) k (map φ a)) ++ transform G (mapMults φ r) (add G (lower G (φ e) k (map φ a)) (drop k (map φ a))))
+      ∙ ap (transform G (map_mults φ r)) (map-add u (drop n a) (all-lower e n a h) (all_drop P n a h) ∙ ap₂ (add G) (map-lower e n a h) (map-drop φ n a)))
+      ∙ ap (λ k. transform G (map_mults φ l) (lower G (φ e) k (map φ a)) ++ transform G (map_mults φ r) (add G (lower G (φ e) k (map φ a)) (drop k (map φ a))))
       (sym (width-map l))
     where
       n : ℕ

@@ -1,5 +1,5 @@
 -- In every lane the transform of a row of vectors is the transform in the field.
---   laneRow-at    an entry of a row of lanes
+--   lane_row-at    an entry of a row of lanes
 --   row-append    the row of two parts
 --   row-run       the lanes of a row that was transformed
 --   node_by       one level: the two halves of the row after its butterflies, transformed
@@ -15,12 +15,12 @@ use lib.Seq.{get_or-append-add, get_or-drop, get_or-take, drop-drop, ext_get_or,
 use Rattle.algebra.specs.Trial.{All}
 use Rattle.algebra.specs.Polynomial.{add}
 use Rattle.field.specs.Field.{Field, mul, numbers}
-use Rattle.poly_values.specs.Transform.{Mults, leaf, node, width, scaled, lower, transform, mapMults}
-use Rattle.poly_values.specs.Planes.{lane, wordsAt, tabulate, laneProduct, planeOps, fieldBy, flat, tree_of, transformAt, lane_row}
+use Rattle.poly_values.specs.Transform.{Mults, leaf, node, width, scaled, lower, transform, map_mults}
+use Rattle.poly_values.specs.Planes.{lane, words_at, tabulate, lane_product, plane_ops, field_by, flat, tree_of, transform_at, lane_row}
 use Rattle.poly_values.proofs.Image.{Respects, transform-image, all-transform}
-use Rattle.poly_values.proofs.Planes.{BinaryDigits, lane-sum, lane-product, length-sum, length-laneProduct}
+use Rattle.poly_values.proofs.Planes.{BinaryDigits, lane-sum, lane-product, length-sum, length-lane_product}
 use Rattle.poly_values.proofs.Rows.{transform-rows, length-transform, length-flat, words-at, flat_append}
-use Rattle.poly_values.proofs.Lists.{length-tabulate, get_d_tabulate, getD-add, getD-scaled}
+use Rattle.poly_values.proofs.Lists.{length-tabulate, get_d_tabulate, get_or-add, get_or-scaled}
 use Rattle.poly_values.proofs.Scalars.{words-next}
 
 -- ---- rows
@@ -30,17 +30,17 @@ unfolding lane_row
 length-row m l zero p = refl
 length-row m l (suc n) p = ap suc (length-row m l n (drop m p))
 
-pub laneRow-at : (m l n : ℕ) (p : List ℕ) (i : ℕ) → i < n → get_or (lane_row m l n p) i 0 ≡ lane l (wordsAt m p (i * m))
+pub lane_row-at : (m l n : ℕ) (p : List ℕ) (i : ℕ) → i < n → get_or (lane_row m l n p) i 0 ≡ lane l (words_at m p (i * m))
 unfolding lane_row
-laneRow-at m l zero p i h = absurd (omega arith)
-laneRow-at m l (suc n) p zero h = ap (λ (k : ℕ). lane l (wordsAt m p k)) (sym (zero-mul m))
-laneRow-at m l (suc n) p (suc i) h =
-    laneRow-at m l n (drop m p) i (omega arith) ∙ ap (lane l) (words-next m i p)
+lane_row-at m l zero p i h = absurd (omega arith)
+lane_row-at m l (suc n) p zero h = ap (λ (k : ℕ). lane l (words_at m p k)) (sym (zero-mul m))
+lane_row-at m l (suc n) p (suc i) h =
+    lane_row-at m l n (drop m p) i (omega arith) ∙ ap (lane l) (words-next m i p)
 
 -- the vectors of a row
 vectors : ℕ → ℕ → List ℕ → List (List ℕ)
 vectors m zero p = []
-vectors m (suc n) p = wordsAt m p 0 ∷ vectors m n (drop m p)
+vectors m (suc n) p = words_at m p 0 ∷ vectors m n (drop m p)
 
 length-vectors : (m n : ℕ) (p : List ℕ) → length (vectors m n p) ≡ n
 unfolding vectors
@@ -52,9 +52,9 @@ unfolding vectors
 all-vectors m zero p = tt
 all-vectors m (suc n) p = (length-tabulate m _, all-vectors m n (drop m p))
 
-pub take_words : (m : ℕ) (p : List ℕ) → m ≤ length p → wordsAt m p 0 ≡ take m p
+pub take_words : (m : ℕ) (p : List ℕ) → m ≤ length p → words_at m p 0 ≡ take m p
 take_words m p h =
-    ext_get_or 0 (wordsAt m p 0) (take m p) (length-tabulate m _ ∙ sym (length-take m p ∙ omega arith))
+    ext_get_or 0 (words_at m p 0) (take m p) (length-tabulate m _ ∙ sym (length-take m p ∙ omega arith))
     (λ i k. get_d_tabulate m (λ j. get_or p (0 + j) 0) i (omega (arith, length-tabulate m (λ j. get_or p (0 + j) 0))) ∙ sym (get_or-take m p i 0 (omega (arith, length-tabulate m (λ j. get_or p (0 + j) 0))) ∙ ap (λ (j : ℕ). get_or p j 0) (omega arith)))
 
 flat-vectors : (m n : ℕ) (p : List ℕ) → length p ≡ n * m → flat (vectors m n p) ≡ p
@@ -67,7 +67,7 @@ flat-vectors m (suc n) p h =
 row-vectors : (m l n : ℕ) (p : List ℕ) → lane_row m l n p ≡ map (lane l) (vectors m n p)
 unfolding lane_row vectors
 row-vectors m l zero p = refl
-row-vectors m l (suc n) p = ap (λ s. lane l (wordsAt m p 0) ∷ s) (row-vectors m l n (drop m p))
+row-vectors m l (suc n) p = ap (λ s. lane l (words_at m p 0) ∷ s) (row-vectors m l n (drop m p))
 
 -- the row of vectors that stand one after the other
 row-flat : (m l : ℕ) (vs : List (List ℕ)) → All (λ v. length v ≡ m) vs → lane_row m l (length vs) (flat vs) ≡ map (lane l) vs
@@ -91,36 +91,36 @@ row-append m l n k p r h j =
 -- ---- the transform of a row
 
 module _ (q : List ℕ) (ok : BinaryDigits q) (l : ℕ) where
-  lane-respects : Respects (planeOps q) (numbers (fieldBy q)) (λ v. length v ≡ length q) (lane l)
+  lane-respects : Respects (plane_ops q) (numbers (field_by q)) (λ v. length v ≡ length q) (lane l)
   lane-respects =
       record {
         sums = λ x y h k. lane-sum l x y;
         products = λ e x h. lane-product q ok l e x h;
         kept-sum = λ x y h k. length-sum x y (length q) h k;
-        kept-product = λ e x h. length-laneProduct q e x h;
+        kept-product = λ e x h. length-lane_product q e x h;
       }
 
   lane-transform : (T : Mults (List ℕ)) (a : List (List ℕ)) → All (λ v. length v ≡ length q) a
-      → map (lane l) (transform (planeOps q) T a) ≡ transform (numbers (fieldBy q)) (mapMults (lane l) T) (map (lane l) a)
+      → map (lane l) (transform (plane_ops q) T a) ≡ transform (numbers (field_by q)) (map_mults (lane l) T) (map (lane l) a)
   lane-transform T a h = transform-image lane-respects T a h
 
   pub row-run : (k : ℕ) (g p : List ℕ) → length p ≡ 2 ^ k * length q
-      → lane_row (length q) l (2 ^ k) (transformAt q k g p) ≡ transform (numbers (fieldBy q)) (mapMults (lane l) (tree_of q k g)) (lane_row (length q) l (2 ^ k) p)
+      → lane_row (length q) l (2 ^ k) (transform_at q k g p) ≡ transform (numbers (field_by q)) (map_mults (lane l) (tree_of q k g)) (lane_row (length q) l (2 ^ k) p)
   row-run k g p h =
-      ap (λ s. lane_row (length q) l (2 ^ k) (transformAt q k g s)) (sym (flat-vectors (length q) (2 ^ k) p h))
+      ap (λ s. lane_row (length q) l (2 ^ k) (transform_at q k g s)) (sym (flat-vectors (length q) (2 ^ k) p h))
       ∙ ap (lane_row (length q) l (2 ^ k)) (transform-rows q k g vs (length-vectors (length q) (2 ^ k) p) (all-vectors (length q) (2 ^ k) p))
-      ∙ ap (λ n. lane_row (length q) l n (flat (transform (planeOps q) (tree_of q k g) vs))) (sym (length-transform q k g vs (length-vectors (length q) (2 ^ k) p)))
-      ∙ row-flat (length q) l (transform (planeOps q) (tree_of q k g) vs) (all-transform lane-respects (tree_of q k g) vs (all-vectors (length q) (2 ^ k) p))
+      ∙ ap (λ n. lane_row (length q) l n (flat (transform (plane_ops q) (tree_of q k g) vs))) (sym (length-transform q k g vs (length-vectors (length q) (2 ^ k) p)))
+      ∙ row-flat (length q) l (transform (plane_ops q) (tree_of q k g) vs) (all-transform lane-respects (tree_of q k g) vs (all-vectors (length q) (2 ^ k) p))
       ∙ lane-transform (tree_of q k g) vs (all-vectors (length q) (2 ^ k) p)
-      ∙ ap (transform (numbers (fieldBy q)) (mapMults (lane l) (tree_of q k g))) (sym (row-vectors (length q) l (2 ^ k) p))
+      ∙ ap (transform (numbers (field_by q)) (map_mults (lane l) (tree_of q k g))) (sym (row-vectors (length q) l (2 ^ k) p))
     where
       vs : List (List ℕ)
       vs = vectors (length q) (2 ^ k) p
 
 -- ---- one level
 
-pub width-tree : (q : List ℕ) (l k : ℕ) (g : List ℕ) → width (mapMults (lane l) (tree_of q k g)) ≡ 2 ^ k
-unfolding width tree_of mapMults
+pub width-tree : (q : List ℕ) (l k : ℕ) (g : List ℕ) → width (map_mults (lane l) (tree_of q k g)) ≡ 2 ^ k
+unfolding width tree_of map_mults
 width-tree q l zero g = refl
 width-tree q l (suc k) g = ap₂ ◌+◌ (width-tree q l k (drop (length q) g)) (width-tree q l k (drop (length q) g)) ∙ omega (arith, pow-suc 2 k)
 
@@ -152,19 +152,19 @@ module _ (F : Field) (zero_right : (x : ℕ) → mul F x 0 ≡ 0) where
 
       low : lower (numbers F) e h a ≡ s
       low = ext_get_or 0 (lower (numbers F) e h a) s (long ∙ sym ns)
-          (λ i k. getD-add (numbers F) (λ x. refl) xor_zero_r (take h a) (scaled (numbers F) e (drop h a)) i
-          ∙ ap₂ bit_xor (get_or-take h a i 0 (omega (arith, long))) (getD-scaled (numbers F) e (zero_right e) (drop h a) i ∙ ap (mul F e) (get_or-drop h a i 0)) ∙ sym (at i (omega (arith, long))).0)
+          (λ i k. get_or-add (numbers F) (λ x. refl) xor_zero_r (take h a) (scaled (numbers F) e (drop h a)) i
+          ∙ ap₂ bit_xor (get_or-take h a i 0 (omega (arith, long))) (get_or-scaled (numbers F) e (zero_right e) (drop h a) i ∙ ap (mul F e) (get_or-drop h a i 0)) ∙ sym (at i (omega (arith, long))).0)
 
       high : add (numbers F) s (drop h a) ≡ t
       high = ext_get_or 0 (add (numbers F) s (drop h a)) t (length-add s (drop h a) h ns (length-drop h a ∙ omega arith) ∙ sym nt)
-          (λ i k. getD-add (numbers F) (λ x. refl) xor_zero_r s (drop h a) i ∙ ap (bit_xor (get_or s i 0)) (get_or-drop h a i 0) ∙ sym (at i (omega (arith, length-add s (drop h a) h ns (length-drop h a ∙ omega arith)))).1)
+          (λ i k. get_or-add (numbers F) (λ x. refl) xor_zero_r s (drop h a) i ∙ ap (bit_xor (get_or s i 0)) (get_or-drop h a i 0) ∙ sym (at i (omega (arith, length-add s (drop h a) h ns (length-drop h a ∙ omega arith)))).1)
 
 -- the transform keeps the number of words
-pub length_at : (q : List ℕ) (ok : BinaryDigits q) (k : ℕ) (g p : List ℕ) → length p ≡ 2 ^ k * length q → length (transformAt q k g p) ≡ 2 ^ k * length q
+pub length_at : (q : List ℕ) (ok : BinaryDigits q) (k : ℕ) (g p : List ℕ) → length p ≡ 2 ^ k * length q → length (transform_at q k g p) ≡ 2 ^ k * length q
 length_at q ok k g p h =
-    ap (λ s. length (transformAt q k g s)) (sym (flat-vectors (length q) (2 ^ k) p h))
+    ap (λ s. length (transform_at q k g s)) (sym (flat-vectors (length q) (2 ^ k) p h))
     ∙ ap length (transform-rows q k g vs (length-vectors (length q) (2 ^ k) p) (all-vectors (length q) (2 ^ k) p))
-    ∙ length-flat (length q) (transform (planeOps q) (tree_of q k g) vs) (all-transform (lane-respects q ok 0) (tree_of q k g) vs (all-vectors (length q) (2 ^ k) p))
+    ∙ length-flat (length q) (transform (plane_ops q) (tree_of q k g) vs) (all-transform (lane-respects q ok 0) (tree_of q k g) vs (all-vectors (length q) (2 ^ k) p))
     ∙ ap (λ n. n * length q) (length-transform q k g vs (length-vectors (length q) (2 ^ k) p))
   where
     vs : List (List ℕ)
@@ -181,13 +181,13 @@ module _ (m l h : ℕ) (p : List ℕ) (n : length p ≡ (h + h) * m) where
   both_halves : lane_row m l (h + h) p ≡ lane_row m l h (take (h * m) p) ++ lane_row m l h (drop (h * m) p)
   both_halves = ap (lane_row m l (h + h)) (sym (take-append-drop (h * m) p)) ∙ row-append m l h h (take (h * m) p) (drop (h * m) p) length-lower length-upper
 
-  pub lower-row : (i : ℕ) → i < h → get_or (lane_row m l h (take (h * m) p)) i 0 ≡ lane l (wordsAt m p (i * m))
+  pub lower-row : (i : ℕ) → i < h → get_or (lane_row m l h (take (h * m) p)) i 0 ≡ lane l (words_at m p (i * m))
   lower-row i k =
       sym (get_or-append (lane_row m l h (take (h * m) p)) (lane_row m l h (drop (h * m) p)) 0 i (omega (arith, length-row m l h (take (h * m) p))))
-      ∙ ap (λ s. get_or s i 0) (sym both_halves) ∙ laneRow-at m l (h + h) p i (omega arith)
+      ∙ ap (λ s. get_or s i 0) (sym both_halves) ∙ lane_row-at m l (h + h) p i (omega arith)
 
-  pub upper-row : (i : ℕ) → i < h → get_or (lane_row m l h (drop (h * m) p)) i 0 ≡ lane l (wordsAt m p ((h + i) * m))
+  pub upper-row : (i : ℕ) → i < h → get_or (lane_row m l h (drop (h * m) p)) i 0 ≡ lane l (words_at m p ((h + i) * m))
   upper-row i k =
       sym (ap (λ j. get_or (lane_row m l h (take (h * m) p) ++ lane_row m l h (drop (h * m) p)) (j + i) 0) (sym (length-row m l h (take (h * m) p)))
       ∙ get_or-append-add (lane_row m l h (take (h * m) p)) (lane_row m l h (drop (h * m) p)) i 0)
-      ∙ ap (λ s. get_or s (h + i) 0) (sym both_halves) ∙ laneRow-at m l (h + h) p (h + i) (omega arith)
+      ∙ ap (λ s. get_or s (h + i) 0) (sym both_halves) ∙ lane_row-at m l (h + h) p (h + i) (omega arith)

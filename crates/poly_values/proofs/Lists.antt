@@ -1,9 +1,9 @@
 -- Lists that the other files build on: what stands at a place of a table, of zeros, of a sum and of a multiple.
 --   length-tabulate, get_d_tabulate   the length of a table, and its entry at a place
 --   tabulate-below, tabulate-same    two tables with the same entries
---   getD-zeros          zeros at every place, and behind them
---   getD-ended          a 0 more at the end changes no place
---   getD-add, getD-scaled   the places of a sum and of a multiple of polynomials
+--   get_or-zeros          zeros at every place, and behind them
+--   get_or-ended          a 0 more at the end changes no place
+--   get_or-add, get_or-scaled   the places of a sum and of a multiple of polynomials
 --   length-add-le       the length of a sum whose second part is no longer
 -- Assumes nothing.
 use mathlib.Core.Path.{◌≡◌, refl, sym, ap, ap₂, ◌∙◌}
@@ -37,31 +37,31 @@ tabulate-same n f g h = tabulate-below n f g (λ k l. h k)
 
 -- ---- places
 
-pub getD-zeros : (n i : ℕ) → get_or {A = ℕ} (replicate {A = ℕ} n 0) i 0 ≡ 0
-getD-zeros zero i = refl
-getD-zeros (suc n) zero = refl
-getD-zeros (suc n) (suc i) = getD-zeros n i
+pub get_or-zeros : (n i : ℕ) → get_or {A = ℕ} (replicate {A = ℕ} n 0) i 0 ≡ 0
+get_or-zeros zero i = refl
+get_or-zeros (suc n) zero = refl
+get_or-zeros (suc n) (suc i) = get_or-zeros n i
 
-pub getD-ended : (b : List ℕ) (i : ℕ) → get_or (b ++ 0 ∷ []) i 0 ≡ get_or b i 0
-getD-ended [] zero = refl
-getD-ended [] (suc i) = refl
-getD-ended (x ∷ b) zero = refl
-getD-ended (x ∷ b) (suc i) = getD-ended b i
+pub get_or-ended : (b : List ℕ) (i : ℕ) → get_or (b ++ 0 ∷ []) i 0 ≡ get_or b i 0
+get_or-ended [] zero = refl
+get_or-ended [] (suc i) = refl
+get_or-ended (x ∷ b) zero = refl
+get_or-ended (x ∷ b) (suc i) = get_or-ended b i
 
 -- over any operations whose 0 adds nothing
 module _ {K : Type 0} (F : Ops K) where
-  pub getD-add : ((x : K) → F.add F.zero x ≡ x) → ((x : K) → F.add x F.zero ≡ x) → (a b : List K) (k : ℕ)
+  pub get_or-add : ((x : K) → F.add F.zero x ≡ x) → ((x : K) → F.add x F.zero ≡ x) → (a b : List K) (k : ℕ)
       → get_or (add F a b) k F.zero ≡ F.add (get_or a k F.zero) (get_or b k F.zero)
   unfolding add
-  getD-add l r [] b k = sym (l (get_or b k F.zero))
-  getD-add l r (x ∷ a) [] k = sym (r (get_or (x ∷ a) k F.zero))
-  getD-add l r (x ∷ a) (y ∷ b) zero = refl
-  getD-add l r (x ∷ a) (y ∷ b) (suc k) = getD-add l r a b k
+  get_or-add l r [] b k = sym (l (get_or b k F.zero))
+  get_or-add l r (x ∷ a) [] k = sym (r (get_or (x ∷ a) k F.zero))
+  get_or-add l r (x ∷ a) (y ∷ b) zero = refl
+  get_or-add l r (x ∷ a) (y ∷ b) (suc k) = get_or-add l r a b k
 
-  pub getD-scaled : (e : K) → F.mul e F.zero ≡ F.zero → (a : List K) (k : ℕ) → get_or (scaled F e a) k F.zero ≡ F.mul e (get_or a k F.zero)
-  getD-scaled e z [] k = sym z
-  getD-scaled e z (x ∷ a) zero = refl
-  getD-scaled e z (x ∷ a) (suc k) = getD-scaled e z a k
+  pub get_or-scaled : (e : K) → F.mul e F.zero ≡ F.zero → (a : List K) (k : ℕ) → get_or (scaled F e a) k F.zero ≡ F.mul e (get_or a k F.zero)
+  get_or-scaled e z [] k = sym z
+  get_or-scaled e z (x ∷ a) zero = refl
+  get_or-scaled e z (x ∷ a) (suc k) = get_or-scaled e z a k
 
   pub length-add-le : (a b : List K) → length b ≤ length a → length (add F a b) ≡ length a
   unfolding add

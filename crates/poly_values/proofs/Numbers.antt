@@ -1,7 +1,7 @@
 -- What the law of the transform is made of, carried from field elements to numbers below the field's size.
---   lowStep, lowSteps, liftSteps        steps as numbers, and as elements
---   low-vanishing, low-points, low-mults, low-raisedIn, low_values   the same on numbers as on elements
---   low_same, liftAll, zero-list        lists of elements
+--   low_step, low_steps, lift_steps        steps as numbers, and as elements
+--   low-vanishing, low-points, low-mults, low-raised_in, low_values   the same on numbers as on elements
+--   low_same, lift_all, zero-list        lists of elements
 -- Assumes nothing.
 use mathlib.Core.Path.{◌≡◌, refl, sym, ap, ap₂, ◌∙◌}
 use mathlib.Core.List.{List, [], ◌∷◌, ◌++◌, map, map-append}
@@ -12,8 +12,8 @@ use Rattle.algebra.specs.Field.{Ops, OnNumbers}
 use Rattle.algebra.specs.Trial.{All}
 use Rattle.algebra.specs.Polynomial.{add, eval, Below}
 use Rattle.algebra.proofs.Crossing.{Elem, elem-equal, elems, low, low-add, low-eval, lift, low-lift}
-use Rattle.poly_values.specs.Transform.{node, points, mults, mapMults}
-use Rattle.poly_values.specs.Basis.{Step, vanishing, RightSteps, levels, joinRaised, raisedIn}
+use Rattle.poly_values.specs.Transform.{node, points, mults, map_mults}
+use Rattle.poly_values.specs.Basis.{Step, vanishing, RightSteps, levels, join_raised, raised_in}
 use Rattle.poly_values.proofs.Image.{Respects, map-take, map-drop}
 
 -- the numbers of a step are below q
@@ -30,58 +30,58 @@ module _ {G : Ops ℕ} {q : ℕ} (N : OnNumbers G q) where
   abbrev pub φ : Elem q → ℕ
   φ u = u.0
 
-  abbrev pub lowStep : Step (Elem q) → Step ℕ
-  lowStep s = record { step = s.step.0; unit = s.unit.0; back = s.back.0 }
+  abbrev pub low_step : Step (Elem q) → Step ℕ
+  low_step s = record { step = s.step.0; unit = s.unit.0; back = s.back.0 }
 
-  abbrev pub lowSteps : List (Step (Elem q)) → List (Step ℕ)
-  lowSteps = map lowStep
+  abbrev pub low_steps : List (Step (Elem q)) → List (Step ℕ)
+  low_steps = map low_step
 
-  pub liftSteps : (B : List (Step ℕ)) → All (StepBelow q) B → List (Step (Elem q))
-  liftSteps [] h = []
-  liftSteps (s ∷ B) h = record { step = (s.step, h.0.step); unit = (s.unit, h.0.unit); back = (s.back, h.0.back) } ∷ liftSteps B h.1
+  pub lift_steps : (B : List (Step ℕ)) → All (StepBelow q) B → List (Step (Elem q))
+  lift_steps [] h = []
+  lift_steps (s ∷ B) h = record { step = (s.step, h.0.step); unit = (s.unit, h.0.unit); back = (s.back, h.0.back) } ∷ lift_steps B h.1
 
-  pub low-liftSteps : (B : List (Step ℕ)) (h : All (StepBelow q) B) → lowSteps (liftSteps B h) ≡ B
-  unfolding liftSteps
-  low-liftSteps [] h = refl
-  low-liftSteps (s ∷ B) h = ap (λ l. s ∷ l) (low-liftSteps B h.1)
+  pub low-lift_steps : (B : List (Step ℕ)) (h : All (StepBelow q) B) → low_steps (lift_steps B h) ≡ B
+  unfolding lift_steps
+  low-lift_steps [] h = refl
+  low-lift_steps (s ∷ B) h = ap (λ l. s ∷ l) (low-lift_steps B h.1)
 
-  pub low-vanishing : (B : List (Step (Elem q))) (z : Elem q) → φ (vanishing E B z) ≡ vanishing G (lowSteps B) (φ z)
+  pub low-vanishing : (B : List (Step (Elem q))) (z : Elem q) → φ (vanishing E B z) ≡ vanishing G (low_steps B) (φ z)
   unfolding vanishing
   low-vanishing [] z = refl
   low-vanishing (b ∷ B) z = ap (λ x. G.mul x (G.add x b.unit.0)) (low-vanishing B z)
 
-  pub right-up : (B : List (Step (Elem q))) → RightSteps G (lowSteps B) → RightSteps E B
+  pub right-up : (B : List (Step (Elem q))) → RightSteps G (low_steps B) → RightSteps E B
   right-up [] ok = tt
   right-up (b ∷ B) ok = (elem-equal (low-vanishing B b.step ∙ ok.0), elem-equal ok.1, right-up B ok.2)
 
-  pub low-points : (B : List (Step (Elem q))) (c : Elem q) → low N (points E (levels E B) c) ≡ points G (levels G (lowSteps B)) (φ c)
+  pub low-points : (B : List (Step (Elem q))) (c : Elem q) → low N (points E (levels E B) c) ≡ points G (levels G (low_steps B)) (φ c)
   unfolding points levels
   low-points [] c = refl
   low-points (b ∷ B) c =
       map-append φ (points E (levels E B) c) (points E (levels E B) (E.add c b.step)) ∙ ap₂ ◌++◌ (low-points B c) (low-points B (E.add c b.step))
 
-  pub low-mults : (B : List (Step (Elem q))) (c : Elem q) → mapMults φ (mults E (levels E B) c) ≡ mults G (levels G (lowSteps B)) (φ c)
-  unfolding mults levels mapMults
+  pub low-mults : (B : List (Step (Elem q))) (c : Elem q) → map_mults φ (mults E (levels E B) c) ≡ mults G (levels G (low_steps B)) (φ c)
+  unfolding mults levels map_mults
   low-mults [] c = refl
   low-mults (b ∷ B) c = λ i. node (G.mul b.back.0 (low-vanishing B c i)) (low-mults B c i) (low-mults B (E.add c b.step) i)
 
-  pub low-getD : (l : List (Elem q)) (n : ℕ) → φ (get_or l n E.zero) ≡ get_or (low N l) n G.zero
-  low-getD l n = sym (get_or-map φ l n E.zero)
+  pub low-get_or : (l : List (Elem q)) (n : ℕ) → φ (get_or l n E.zero) ≡ get_or (low N l) n G.zero
+  low-get_or l n = sym (get_or-map φ l n E.zero)
 
-  abbrev pub lowPair : List (Elem q) × Elem q → List ℕ × ℕ
-  lowPair p = (low N p.0, p.1.0)
+  abbrev pub low_pair : List (Elem q) × Elem q → List ℕ × ℕ
+  low_pair p = (low N p.0, p.1.0)
 
-  pub low-raisedIn : (B : List (Step (Elem q))) (a : List (Elem q)) → lowPair (raisedIn E B a) ≡ raisedIn G (lowSteps B) (low N a)
-  unfolding raisedIn
-  low-raisedIn [] a = ap (λ x. (G.zero ∷ [], x)) (low-getD a 0)
-  low-raisedIn (s ∷ B) a =
-      join (raisedIn E B (take (2 ^ length B) a)) (raisedIn E B (drop (2 ^ length B) a))
-      ∙ ap₂ (joinRaised G (lowStep s)) (low-raisedIn B (take (2 ^ length B) a)) (low-raisedIn B (drop (2 ^ length B) a))
-      ∙ ap₂ (λ x y. joinRaised G (lowStep s) (raisedIn G (lowSteps B) x) (raisedIn G (lowSteps B) y))
-      (map-take φ (2 ^ length B) a ∙ ap (λ n. take (2 ^ n) (low N a)) (sym (length-map B lowStep)))
-      (map-drop φ (2 ^ length B) a ∙ ap (λ n. drop (2 ^ n) (low N a)) (sym (length-map B lowStep)))
+  pub low-raised_in : (B : List (Step (Elem q))) (a : List (Elem q)) → low_pair (raised_in E B a) ≡ raised_in G (low_steps B) (low N a)
+  unfolding raised_in
+  low-raised_in [] a = ap (λ x. (G.zero ∷ [], x)) (low-get_or a 0)
+  low-raised_in (s ∷ B) a =
+      join (raised_in E B (take (2 ^ length B) a)) (raised_in E B (drop (2 ^ length B) a))
+      ∙ ap₂ (join_raised G (low_step s)) (low-raised_in B (take (2 ^ length B) a)) (low-raised_in B (drop (2 ^ length B) a))
+      ∙ ap₂ (λ x y. join_raised G (low_step s) (raised_in G (low_steps B) x) (raised_in G (low_steps B) y))
+      (map-take φ (2 ^ length B) a ∙ ap (λ n. take (2 ^ n) (low N a)) (sym (length-map B low_step)))
+      (map-drop φ (2 ^ length B) a ∙ ap (λ n. drop (2 ^ n) (low N a)) (sym (length-map B low_step)))
     where
-      join : (lo hi : List (Elem q) × Elem q) → lowPair (joinRaised E s lo hi) ≡ joinRaised G (lowStep s) (lowPair lo) (lowPair hi)
+      join : (lo hi : List (Elem q) × Elem q) → low_pair (join_raised E s lo hi) ≡ join_raised G (low_step s) (low_pair lo) (low_pair hi)
       join lo hi = ap (λ l. (l, G.mul hi.1.0 s.back.0))
           (map-append φ lo.0 (add E hi.0 (_ ∷ [])) ∙ ap (λ l. low N lo.0 ++ l) (low-add N hi.0 (_ ∷ [])))
 
@@ -106,14 +106,14 @@ module _ {G : Ops ℕ} {q : ℕ} (N : OnNumbers G q) where
   anything [] = tt
   anything (x ∷ a) = (tt, anything a)
 
-  pub liftAll : (ls : List (List ℕ)) → All (Below q) ls → List (List (Elem q))
-  liftAll [] h = []
-  liftAll (l ∷ ls) h = lift N l h.0 ∷ liftAll ls h.1
+  pub lift_all : (ls : List (List ℕ)) → All (Below q) ls → List (List (Elem q))
+  lift_all [] h = []
+  lift_all (l ∷ ls) h = lift N l h.0 ∷ lift_all ls h.1
 
-  pub low-liftAll : (ls : List (List ℕ)) (h : All (Below q) ls) → lows (liftAll ls h) ≡ ls
-  unfolding liftAll lows
-  low-liftAll [] h = refl
-  low-liftAll (l ∷ ls) h = ap₂ ◌∷◌ (low-lift N l h.0) (low-liftAll ls h.1)
+  pub low-lift_all : (ls : List (List ℕ)) (h : All (Below q) ls) → lows (lift_all ls h) ≡ ls
+  unfolding lift_all lows
+  low-lift_all [] h = refl
+  low-lift_all (l ∷ ls) h = ap₂ ◌∷◌ (low-lift N l h.0) (low-lift_all ls h.1)
 
   pub zero-list : ℕ → List (Elem q)
   zero-list zero = []

@@ -4,7 +4,7 @@
 --   vanishing   the product of z + u over the sums u of the steps: an additive map
 --   RightSteps  what a list of steps says of itself is so
 --   levels      the levels of a list of steps
---   raisedIn    z times what stands in the basis: what stays in it, and the multiple of the vanishing map that falls
+--   raised_in    z times what stands in the basis: what stays in it, and the multiple of the vanishing map that falls
 --               out
 -- Nobody has to believe this file: it serves the inner contracts of this crate. What others cite is `Values` in
 -- Tables.
@@ -30,19 +30,19 @@ module _ {K : Type 0} (F : Ops K) where
   RightSteps [] = Unit {0}
   RightSteps (s ∷ S) = (vanishing S s.step ≡ s.unit) × (F.mul s.unit s.back ≡ F.one) × RightSteps S
 
-  abbrev pub levelOn : Step K → List (Step K) → Level K
-  levelOn s S = record { step = s.step; part = λ z. F.mul s.back (vanishing S z) }
+  abbrev pub level_on : Step K → List (Step K) → Level K
+  level_on s S = record { step = s.step; part = λ z. F.mul s.back (vanishing S z) }
 
   unfoldable pub levels : List (Step K) → List (Level K)
   levels [] = []
-  levels (s ∷ S) = levelOn s S ∷ levels S
+  levels (s ∷ S) = level_on s S ∷ levels S
 
   -- with V the vanishing map of the steps behind s: V part = V^2 back, and V^2 = (the vanishing map with s) + V unit
-  abbrev pub joinRaised : Step K → (List K × K) → (List K × K) → List K × K
-  joinRaised s lo hi =
+  abbrev pub join_raised : Step K → (List K × K) → (List K × K) → List K × K
+  join_raised s lo hi =
       (lo.0 ++ add F hi.0 (F.mul (F.add lo.1 hi.1) s.unit ∷ []), F.mul hi.1 s.back)
 
-  unfoldable pub raisedIn : List (Step K) → List K → List K × K
+  unfoldable pub raised_in : List (Step K) → List K → List K × K
   unfolding add
-  raisedIn [] a = (F.zero ∷ [], get_or a 0 F.zero)
-  raisedIn (s ∷ S) a = joinRaised s (raisedIn S (take (2 ^ length S) a)) (raisedIn S (drop (2 ^ length S) a))
+  raised_in [] a = (F.zero ∷ [], get_or a 0 F.zero)
+  raised_in (s ∷ S) a = join_raised s (raised_in S (take (2 ^ length S) a)) (raised_in S (drop (2 ^ length S) a))

@@ -2,10 +2,10 @@
 -- power of the vanishing map, and one more coefficient behind the blocks.
 --   whole_of    the value at z of n blocks and one more
 --   next_of     z times n blocks, with a carry into the first; what falls out of the last is the one more
---   powerIn    z^j in n blocks and one more
+--   power_in    z^j in n blocks and one more
 --   ColumnsOf  each list stands for z times what the one before it stands for
 --   mix        the sum of the columns, each times its coefficient of f
---   cosetOf    the blocks brought together for the coset of c, by Horner's rule in the value of the vanishing map
+--   coset_of    the blocks brought together for the coset of c, by Horner's rule in the value of the vanishing map
 --              there
 -- Nobody has to believe this file: it serves the inner contracts of this crate. What others cite is `Values` in
 -- Tables.
@@ -17,7 +17,7 @@ use Rattle.std.proofs.Math.ListN.{length, replicate}
 use Rattle.algebra.specs.Field.{Ops}
 use Rattle.algebra.specs.Polynomial.{add}
 use Rattle.poly_values.specs.Transform.{scaled, value}
-use Rattle.poly_values.specs.Basis.{Step, vanishing, levels, raisedIn}
+use Rattle.poly_values.specs.Basis.{Step, vanishing, levels, raised_in}
 
 module _ {K : Type 0} (F : Ops K) where
   unfoldable pub whole_of : List (Step K) → ℕ → List K → K → K
@@ -27,16 +27,16 @@ module _ {K : Type 0} (F : Ops K) where
       (F.mul (vanishing F S z) (whole_of S n (drop (2 ^ length S) a) z))
 
   unfoldable pub next_of : List (Step K) → ℕ → K → List K → List K
-  unfolding add raisedIn
+  unfolding add raised_in
   next_of S zero c a = c ∷ []
   next_of S (suc n) c a =
-      add F (raisedIn F S (take (2 ^ length S) a)).0 (c ∷ [])
-      ++ next_of S n (raisedIn F S (take (2 ^ length S) a)).1 (drop (2 ^ length S) a)
+      add F (raised_in F S (take (2 ^ length S) a)).0 (c ∷ [])
+      ++ next_of S n (raised_in F S (take (2 ^ length S) a)).1 (drop (2 ^ length S) a)
 
-  unfoldable pub powerIn : List (Step K) → ℕ → ℕ → List K
+  unfoldable pub power_in : List (Step K) → ℕ → ℕ → List K
   unfolding next_of
-  powerIn S n zero = F.one ∷ replicate (n * 2 ^ length S) F.zero
-  powerIn S n (suc j) = next_of S n F.zero (powerIn S n j)
+  power_in S n zero = F.one ∷ replicate (n * 2 ^ length S) F.zero
+  power_in S n (suc j) = next_of S n F.zero (power_in S n j)
 
   -- nothing may stand behind the blocks of a list that is raised
   abbrev pub ColumnsOf : List (Step K) → ℕ → List K → List (List K) → Type 0
@@ -48,7 +48,7 @@ module _ {K : Type 0} (F : Ops K) where
   mix (c ∷ f) [] = []
   mix (c ∷ f) (a ∷ columns) = add F (scaled F c a) (mix f columns)
 
-  unfoldable pub cosetOf : List (Step K) → ℕ → List K → K → List K
-  cosetOf S zero a c = get_or a 0 F.zero ∷ []
-  cosetOf S (suc n) a c =
-      add F (take (2 ^ length S) a) (scaled F (vanishing F S c) (cosetOf S n (drop (2 ^ length S) a) c))
+  unfoldable pub coset_of : List (Step K) → ℕ → List K → K → List K
+  coset_of S zero a c = get_or a 0 F.zero ∷ []
+  coset_of S (suc n) a c =
+      add F (take (2 ^ length S) a) (scaled F (vanishing F S c) (coset_of S n (drop (2 ^ length S) a) c))

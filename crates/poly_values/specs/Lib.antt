@@ -1,4 +1,4 @@
--- What is meant, from the bottom up. Nothing here has to be believed: the plain search's contract is `rootsAt`, by
+-- What is meant, from the bottom up. Nothing here has to be believed: the plain search's contract is `roots_at`, by
 -- evaluation.
 --   Transform   the transform over any field: levels, points of a coset, butterflies
 --   Basis       the basis of the transform

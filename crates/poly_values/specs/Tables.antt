@@ -16,10 +16,10 @@
 use Rattle.std.specs.Prelude.{◌≡◌, List, [], ◌∷◌, ◌++◌, map, ℕ, ◌+◌, ◌*◌, ◌^◌, ◌≤◌, ◌<◌, length, drop}
 use Rattle.algebra.specs.Polynomial.{eval, Below}
 use Rattle.field.specs.Field.{mul, numbers}
-use Rattle.poly_values.specs.Transform.{points, transform, mults, mapMults}
+use Rattle.poly_values.specs.Transform.{points, transform, mults, map_mults}
 use Rattle.poly_values.specs.Basis.{Step, vanishing, levels}
-use Rattle.poly_values.specs.Blocks.{powerIn, ColumnsOf, cosetOf}
-use Rattle.poly_values.specs.Planes.{lane, lanes, wordsAt, columnsOf, tree_of, fieldBy}
+use Rattle.poly_values.specs.Blocks.{power_in, ColumnsOf, coset_of}
+use Rattle.poly_values.specs.Planes.{lane, lanes, words_at, columns_of, tree_of, field_by}
 
 abbrev pub steps11 : List (Step ℕ)
 steps11 =
@@ -43,36 +43,36 @@ abbrev pub coefficients11 : ℕ
 coefficients11 = blocks11 * vectors11 + 1
 
 pub record TreeTable (q : List ℕ) (B : List (Step ℕ)) (g : List ℕ) : Type 0 where
-  pub multipliers : (l : ℕ) → l < 64 → mapMults (lane l) (tree_of q (length B) g)
-      ≡ mults (numbers (fieldBy q)) (levels (numbers (fieldBy q)) B) l
+  pub multipliers : (l : ℕ) → l < 64 → map_mults (lane l) (tree_of q (length B) g)
+      ≡ mults (numbers (field_by q)) (levels (numbers (field_by q)) B) l
 
 pub record TopTable (q : List ℕ) (B : List (Step ℕ)) (v : List ℕ) : Type 0 where
-  pub lanes : (l : ℕ) → l < 64 → lane l v ≡ vanishing (numbers (fieldBy q)) B l
+  pub lanes : (l : ℕ) → l < 64 → lane l v ≡ vanishing (numbers (field_by q)) B l
 
 pub record SquareTable (q : List ℕ) (B : List (Step ℕ)) (v : List ℕ) : Type 0 where
   pub lanes : (l : ℕ) → l < 64 → lane l v
-      ≡ mul (fieldBy q) (vanishing (numbers (fieldBy q)) B l) (vanishing (numbers (fieldBy q)) B l)
+      ≡ mul (field_by q) (vanishing (numbers (field_by q)) B l) (vanishing (numbers (field_by q)) B l)
 
 -- the powers of z from j + 1 on, c of them, in n blocks, and t behind the last
 pub record ColumnTable (q : List ℕ) (B : List (Step ℕ)) (n j c t : ℕ) (g : List ℕ) : Type 0 where
   pub long : length g ≡ c * length q
-  pub columns : ColumnsOf (numbers (fieldBy q)) B n (powerIn (numbers (fieldBy q)) B n j)
-      (columnsOf (length q) (n * 2 ^ length B) t c g)
+  pub columns : ColumnsOf (numbers (field_by q)) B n (power_in (numbers (field_by q)) B n j)
+      (columns_of (length q) (n * 2 ^ length B) t c g)
 
 pub record FirstColumns (q : List ℕ) (B : List (Step ℕ)) (n c : ℕ) (g : List ℕ) : Type 0 where
-  pub first : lanes 0 (n * 2 ^ length B) (wordsAt (length q) g 0) ++ 0 ∷ [] ≡ powerIn (numbers (fieldBy q)) B n 0
+  pub first : lanes 0 (n * 2 ^ length B) (words_at (length q) g 0) ++ 0 ∷ [] ≡ power_in (numbers (field_by q)) B n 0
   pub others : ColumnTable q B n 0 c 0 (drop (length q) g)
-  pub above : (j l : ℕ) → j < l → j ≤ c → l < n * 2 ^ length B → lane l (wordsAt (length q) g (j * length q)) ≡ 0
+  pub above : (j l : ℕ) → j < l → j ≤ c → l < n * 2 ^ length B → lane l (words_at (length q) g (j * length q)) ≡ 0
 
 -- a stands for f: brought together for a coset and transformed, it has the values of f there
 pub record InBlocks (q : List ℕ) (B : List (Step ℕ)) (n : ℕ) (f a : List ℕ) : Type 0 where
   pub long : length a ≡ n * 2 ^ length B + 1
   pub small : Below (2 ^ length q) a
   pub values : (c : ℕ) → c < 2 ^ length q
-      → transform (numbers (fieldBy q)) (mults (numbers (fieldBy q)) (levels (numbers (fieldBy q)) B) c)
-      (cosetOf (numbers (fieldBy q)) B n a c)
-      ≡ map (eval (numbers (fieldBy q)) f) (points (numbers (fieldBy q)) (levels (numbers (fieldBy q)) B) c)
+      → transform (numbers (field_by q)) (mults (numbers (field_by q)) (levels (numbers (field_by q)) B) c)
+      (coset_of (numbers (field_by q)) B n a c)
+      ≡ map (eval (numbers (field_by q)) f) (points (numbers (field_by q)) (levels (numbers (field_by q)) B) c)
 
 pub record Values (q f p : List ℕ) (n : ℕ) : Type 0 where
-  pub lanes : (w : ℕ) → w < n → (l : ℕ) → l < 64 → lane l (wordsAt (length q) p (w * length q))
-      ≡ eval (numbers (fieldBy q)) f (w * 64 + l)
+  pub lanes : (w : ℕ) → w < n → (l : ℕ) → l < 64 → lane l (words_at (length q) p (w * length q))
+      ≡ eval (numbers (field_by q)) f (w * 64 + l)

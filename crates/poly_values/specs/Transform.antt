@@ -74,6 +74,6 @@ module _ {K : Type 0} (F : Ops K) where
   mults (v ∷ L) c = node (v.part c) (mults L c) (mults L (F.add c v.step))
 
 -- each multiplier by its image
-unfoldable pub mapMults : {A B : Type 0} → (A → B) → Mults A → Mults B
-mapMults φ leaf = leaf
-mapMults φ (node e l r) = node (φ e) (mapMults φ l) (mapMults φ r)
+unfoldable pub map_mults : {A B : Type 0} → (A → B) → Mults A → Mults B
+map_mults φ leaf = leaf
+map_mults φ (node e l r) = node (φ e) (map_mults φ l) (map_mults φ r)

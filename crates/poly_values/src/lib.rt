@@ -17,11 +17,11 @@ ghost use Rattle.std.specs.Prelude.{◌≡◌, ◌+◌, ◌*◌, ◌^◌, ◌≤
 ghost use Rattle.std.proofs.Math.Seq.{paste};
 ghost use Rattle.std.specs.Int.Bits.{bit_and};
 ghost use Rattle.algebra.specs.Polynomial.{Below};
-ghost use Rattle.poly_values.specs.Planes.{sum, pairWords, FourMultiples, carryFreeWords, folded, sumWords};
-ghost use Rattle.poly_values.specs.Planes.{laneProduct, taps11, wordsAt};
-ghost use Rattle.poly_values.specs.Planes.{butterflyAt, butterfliesAt, transformAt, lane};
-ghost use Rattle.poly_values.specs.Planes.{lanes, occupied, doubledWords, spreadWords, Multiple, Mixed, First};
-ghost use Rattle.poly_values.specs.Planes.{Firsts, RowStartable, RowStarted, halvesAt, TwoBlocks};
+ghost use Rattle.poly_values.specs.Planes.{sum, pair_words, FourMultiples, carry_free_words, folded, sum_words};
+ghost use Rattle.poly_values.specs.Planes.{lane_product, taps11, words_at};
+ghost use Rattle.poly_values.specs.Planes.{butterfly_at, butterflies_at, transform_at, lane};
+ghost use Rattle.poly_values.specs.Planes.{lanes, occupied, doubled_words, spread_words, Multiple, Mixed, First};
+ghost use Rattle.poly_values.specs.Planes.{Firsts, RowStartable, RowStarted, halves_at, TwoBlocks};
 ghost use Rattle.poly_values.specs.Tables.{steps11, TreeTable, TopTable, SquareTable, ColumnTable, FirstColumns};
 ghost use Rattle.poly_values.specs.Tables.{InBlocks, Values, vectors11, planes11, blocks11, coefficients11};
 
@@ -45,7 +45,7 @@ pub const COEFFICIENTS: usize = BLOCKS + 1;
 
 // The sum in every lane.
 fn sum(a: [u64; 11], b: [u64; 11]) -> [u64; 11]
-    ensures { result ≡ sumWords 11 a b }
+    ensures { result ≡ sum_words 11 a b }
 {
     [
         a[0] ^ b[0],
@@ -77,7 +77,7 @@ fn add_masked(t: &mut [u64], w: u64, b: [u64; 11])
 // Adds two rows at once: v times b, and w times b one word further up. b stands between two words that are 0.
 fn add_pair(t: &mut [u64], v: u64, w: u64, b: [u64; 13])
     requires { 12 ≤ length t.old }
-    ensures { t.new ≡ sum (pairWords 12 v w b) t.old }
+    ensures { t.new ≡ sum (pair_words 12 v w b) t.old }
 {
     let mut j: usize = 0;
     while j < 12 {
@@ -88,7 +88,7 @@ fn add_pair(t: &mut [u64], v: u64, w: u64, b: [u64; 13])
 
 // b between two words that are 0.
 fn between_zeros(b: [u64; 11]) -> [u64; 13]
-    ensures { result ≡ 0 ∷ wordsAt 11 b 0 ++ 0 ∷ [] }
+    ensures { result ≡ 0 ∷ words_at 11 b 0 ++ 0 ∷ [] }
 {
     [
         0, b[0], b[1], b[2], b[3], b[4], b[5], b[6], b[7], b[8], b[9], b[10], 0,
@@ -99,7 +99,7 @@ fn between_zeros(b: [u64; 11]) -> [u64; 13]
 // digit, then two rows at a time, so that every store starts at an even place and the next turn's loads find it whole.
 fn add_rows(t: &mut [u64], e: &[u64], b: [u64; 11])
     requires { (t.old ≡ replicate 22 0) × (11 ≤ length e.now) }
-    ensures { t.new ≡ carryFreeWords (wordsAt 11 e.now 0) b }
+    ensures { t.new ≡ carry_free_words (words_at 11 e.now 0) b }
 {
     let c = between_zeros(b);
     let mut i: usize = 10;
@@ -128,7 +128,7 @@ fn fold(t: &mut [u64])
 // The product in every lane of the vector at the front of e and b.
 fn lane_product(e: &[u64], b: [u64; 11]) -> [u64; 11]
     requires { 11 ≤ length e.now }
-    ensures { result ≡ laneProduct taps11 (wordsAt 11 e.now 0) b }
+    ensures { result ≡ lane_product taps11 (words_at 11 e.now 0) b }
 {
     let mut t: [u64; 22] = [0; 22];
     add_rows(&mut t, e, b);
@@ -139,7 +139,7 @@ fn lane_product(e: &[u64], b: [u64; 11]) -> [u64; 11]
 // The vector at a place of p.
 fn vector(p: &[u64], at: usize) -> [u64; 11]
     requires { at + 11 ≤ length p.now }
-    ensures { result ≡ wordsAt 11 p.now at }
+    ensures { result ≡ words_at 11 p.now at }
 {
     [
         p[at + 0],
@@ -171,7 +171,7 @@ fn put_vector(p: &mut [u64], at: usize, v: [u64; 11])
 // The butterfly of the vectors at 0 and at up, e at the front of g: (a, b) becomes (a + e b, a + e b + b).
 fn butterfly(p: &mut [u64], g: &[u64], up: usize)
     requires { (11 ≤ up) × (up + 11 ≤ length p.old) × (11 ≤ length g.now) }
-    ensures { p.new ≡ butterflyAt taps11 (wordsAt 11 g.now 0) up p.old }
+    ensures { p.new ≡ butterfly_at taps11 (words_at 11 g.now 0) up p.old }
 {
     let b = vector(p, up);
     let c = lane_product(g, b);
@@ -185,7 +185,7 @@ fn butterfly(p: &mut [u64], g: &[u64], up: usize)
 // The first n butterflies of vectors that stand up words apart, with the multiplier at the front of g.
 fn butterflies(p: &mut [u64], g: &[u64], n: usize, up: usize)
     requires { (11 ≤ up) × (n * 11 + up ≤ length p.old) × (11 ≤ length g.now) }
-    ensures { p.new ≡ butterfliesAt taps11 (wordsAt 11 g.now 0) up n p.old }
+    ensures { p.new ≡ butterflies_at taps11 (words_at 11 g.now 0) up n p.old }
 {
     let mut w: usize = 0;
     while w < n {
@@ -198,7 +198,7 @@ fn butterflies(p: &mut [u64], g: &[u64], n: usize, up: usize)
 // The transform of n = 2^k vectors, in place.
 fn fourier(g: &[u64], p: &mut [u64], k: usize, n: usize)
     requires { (n ≡ 2 ^ k) × (n * 11 ≡ length p.old) × (n * 11 ≤ length g.now + 11) }
-    ensures { p.new ≡ transformAt taps11 k g.now p.old }
+    ensures { p.new ≡ transform_at taps11 k g.now p.old }
 {
     if k > 0 {
         let h = n / 2;
@@ -212,7 +212,7 @@ fn fourier(g: &[u64], p: &mut [u64], k: usize, n: usize)
 
 // Twice the element in every lane.
 fn doubled(r: [u64; 11]) -> [u64; 11]
-    ensures { result ≡ doubledWords taps11 r }
+    ensures { result ≡ doubled_words taps11 r }
 {
     [
         r[10],
@@ -286,7 +286,7 @@ fn multiple_by_table(c: u16, b: [u64; 11]) -> [u64; 11]
 
 // The element c in every lane.
 fn spread(c: u16) -> [u64; 11]
-    ensures { result ≡ spreadWords 11 c }
+    ensures { result ≡ spread_words 11 c }
 {
     let f: u64 = 18446744073709551615;
     let v = c as u64;
@@ -400,7 +400,7 @@ fn firsts(p: &mut [u64], e: [u64; 11], a: &[u16], h: usize)
 // The transforms of the two halves of a row.
 fn run_halves(g: &[u64], p: &mut [u64], k: usize, h: usize)
     requires { (h ≡ 2 ^ k) × ((h + h) * 11 ≡ length p.old) × ((h + h) * 11 ≤ length g.now + 11) }
-    ensures { p.new ≡ halvesAt taps11 k h g.now p.old }
+    ensures { p.new ≡ halves_at taps11 k h g.now p.old }
 {
     let mid = h * 11;
     let one: usize = 11;
@@ -562,7 +562,7 @@ pub fn values11(f: &[u16], p: &mut [u64])
 // The word whose digit l says whether the value in lane l of vector w is not 0.
 pub fn occupied11(p: &[u64], w: usize) -> u64
     requires { w * 11 + 11 ≤ length p.now }
-    ensures { result ≡ occupied (wordsAt 11 p.now (w * 11)) }
+    ensures { result ≡ occupied (words_at 11 p.now (w * 11)) }
 {
     let v = vector(p, w * 11);
     v[0] | (v[1]

@@ -1,7 +1,7 @@
 -- Each refusal has a number of its own.
 --   refusals                      all of them
 --   numbered                      the first of a list that has a number
---   refusalOf                     the refusal of a number
+--   refusal_of                     the refusal of a number
 --   by_number                     what stands for an outcome's number: 0 is accepted, any other a refusal
 --   refused-back, accepted-back   it takes the number back, so that two outcomes with one number are one
 -- Assumes nothing.
@@ -28,17 +28,17 @@ numbered [] k = Field
 numbered (r ∷ rs) k = cond (eqb (number_of r) k) r (numbered rs k)
 
 -- the refusal of a number; where there is none, any
-unfoldable pub refusalOf : ℕ → Refusal
+unfoldable pub refusal_of : ℕ → Refusal
 unfolding numbered
-refusalOf k = numbered refusals k
+refusal_of k = numbered refusals k
 
 -- an outcome that is accepted or refused, taken back from its number: 0 is accepted
 unfoldable pub by_number : {A : Type 0} → (Refusal → A) → A → ℕ → A
 by_number refuse accept zero = accept
-by_number refuse accept (suc k) = refuse (refusalOf (suc k))
+by_number refuse accept (suc k) = refuse (refusal_of (suc k))
 
 pub refused-back : {A : Type 0} (refuse : Refusal → A) (accept : A) (r : Refusal) → by_number refuse accept (number_of r) ≡ refuse r
-unfolding by_number refusalOf numbered
+unfolding by_number refusal_of numbered
 refused-back refuse accept Field = refl
 refused-back refuse accept Empty = refl
 refused-back refuse accept Long = refl

@@ -1,6 +1,6 @@
 -- What an entry's tests find.
 --   Admits     all tests pass, or the refusal is that of the first that holds
---   withTest   what is found with one test more, behind the others
+--   with_test   what is found with one test more, behind the others
 -- Assumes nothing.
 use Rattle.std.specs.Prelude.{Bool, cond, List, ℕ}
 use Rattle.refusals.specs.Order.{Given, Passed}
@@ -14,6 +14,6 @@ Admits tests In = Passed tests
 Admits tests (Out k) = Given (number_of k) tests
 
 -- a refusal stands; what was let in is turned away where the test holds
-abbrev pub withTest : Admission → Bool → Refusal → Admission
-withTest In holds k = cond holds (Out k) In
-withTest (Out j) holds k = Out j
+abbrev pub with_test : Admission → Bool → Refusal → Admission
+with_test In holds k = cond holds (Out k) In
+with_test (Out j) holds k = Out j

@@ -1,7 +1,7 @@
 // What is turned away, under which number (docs/RULES.md section 8).
 ghost use Rattle.std.specs.Prelude.{◌≡◌};
 ghost use Rattle.refusals.specs.Numbers.{number_of};
-ghost use Rattle.refusals.specs.Admitting.{withTest};
+ghost use Rattle.refusals.specs.Admitting.{with_test};
 
 // Each reason to turn an input away.
 #[derive(Drop)]
@@ -63,7 +63,7 @@ pub enum Admission {
 
 // One test more, behind those that `found` came from: where it holds, what was let in is turned away under k.
 pub fn also(found: Admission, holds: bool, k: Refusal) -> Admission
-    ensures { result ≡ withTest found holds k }
+    ensures { result ≡ with_test found holds k }
 {
     match found {
         Admission::Out(j) => Admission::Out(j),

@@ -1,9 +1,9 @@
 -- The tests of a list against a bound mean what they say.
---   allBelow-exactly  `all_below q l` passes exactly where all elements are below q
+--   all_below-exactly  `all_below q l` passes exactly where all elements are below q
 --   From              an element of l that is at least q
---   anyFrom-exactly   `any_from q l` passes exactly where there is one
---   allZero-exactly   `allZero l` passes exactly where l is a list of zeros
---   allBelow-append   of two lists, one behind the other, both pass
+--   any_from-exactly   `any_from q l` passes exactly where there is one
+--   all_zero-exactly   `all_zero l` passes exactly where l is a list of zeros
+--   all_below-append   of two lists, one behind the other, both pass
 -- Assumes nothing.
 use mathlib.Core.Path.{◌≡◌, refl, sym, ap, ap₂, ◌∙◌}
 use mathlib.Core.Logic.{◌↔◌}
@@ -16,7 +16,7 @@ use lib.Dec.{ltb}
 use lib.ListN.{length, replicate}
 use Rattle.algebra.specs.Polynomial.{Below}
 use Rattle.algebra.proofs.Trial.{all-at}
-use Rattle.slices.specs.Bounded.{all_below, any_from, allZero}
+use Rattle.slices.specs.Bounded.{all_below, any_from, all_zero}
 
 -- what a passed test says
 passed : (q : ℕ) (l : List ℕ) → all_below q l ≡ true → Below q l
@@ -31,8 +31,8 @@ passes q [] h = refl
 passes q (x ∷ l) h = rw (lt-ltb x q h.0) (passes q l h.1)
 
 -- the test passes exactly where all elements are below q
-pub allBelow-exactly : (q : ℕ) (l : List ℕ) → (all_below q l ≡ true) ↔ Below q l
-allBelow-exactly q l = (passed q l, passes q l)
+pub all_below-exactly : (q : ℕ) (l : List ℕ) → (all_below q l ≡ true) ↔ Below q l
+all_below-exactly q l = (passed q l, passes q l)
 
 -- an element of l that is at least q
 pub record From (q : ℕ) (l : List ℕ) : Type 0 where
@@ -51,16 +51,16 @@ found q (x ∷ l) e = go (ltb x q) refl e (found q l)
     go false t f i = record { element = x; among = Memᴰ.head refl; least = ltb-false x q t }
 
 -- exactly where some element is at least q
-pub anyFrom-exactly : (q : ℕ) (l : List ℕ) → (any_from q l ≡ true) ↔ From q l
-anyFrom-exactly q l = (λ e. found q l (not-true (all_below q l) e), λ r. go r (all_below q l) refl)
+pub any_from-exactly : (q : ℕ) (l : List ℕ) → (any_from q l ≡ true) ↔ From q l
+any_from-exactly q l = (λ e. found q l (not-true (all_below q l) e), λ r. go r (all_below q l) refl)
   where
     go : From q l → (b : Bool) → all_below q l ≡ b → not b ≡ true
     go r true e = absurd (omega (arith, r.least, all-at (λ x. x < q) l (passed q l e) r.among))
     go r false e = refl
 
 -- exactly where the list is one of zeros
-pub allZero-exactly : (l : List ℕ) → (allZero l ≡ true) ↔ (l ≡ replicate (length l) 0)
-allZero-exactly l = (λ e. zeros l (passed 1 l e), λ e. ap (all_below 1) e ∙ passes 1 (replicate (length l) 0) (below (length l)))
+pub all_zero-exactly : (l : List ℕ) → (all_zero l ≡ true) ↔ (l ≡ replicate (length l) 0)
+all_zero-exactly l = (λ e. zeros l (passed 1 l e), λ e. ap (all_below 1) e ∙ passes 1 (replicate (length l) 0) (below (length l)))
   where
     zeros : (s : List ℕ) → Below 1 s → s ≡ replicate (length s) 0
     zeros [] h = refl
@@ -71,7 +71,7 @@ allZero-exactly l = (λ e. zeros l (passed 1 l e), λ e. ap (all_below 1) e ∙ 
     below (suc n) = (omega arith, below n)
 
 -- both parts pass
-pub allBelow-append : (q : ℕ) (s l : List ℕ) → all_below q (s ++ l) ≡ (all_below q s && all_below q l)
+pub all_below-append : (q : ℕ) (s l : List ℕ) → all_below q (s ++ l) ≡ (all_below q s && all_below q l)
 unfolding all_below
-allBelow-append q [] l = refl
-allBelow-append q (x ∷ s) l = ap (λ b. ltb x q && b) (allBelow-append q s l) ∙ sym (and_assoc (ltb x q) (all_below q s) (all_below q l))
+all_below-append q [] l = refl
+all_below-append q (x ∷ s) l = ap (λ b. ltb x q && b) (all_below-append q s l) ∙ sym (and_assoc (ltb x q) (all_below q s) (all_below q l))

@@ -1,7 +1,7 @@
 -- Tests of a list against a bound. There is one notion, `all_below`; the others are names for uses of it.
 --   all_below  is every element below q?
 --   any_from   is some element at least q?
---   allZero   is every element 0?
+--   all_zero   is every element 0?
 -- Assumes nothing.
 use Rattle.std.specs.Prelude.{Bool, true, not, ◌&&◌, List, [], ◌∷◌, ℕ, ltb}
 
@@ -15,5 +15,5 @@ abbrev pub any_from : ℕ → List ℕ → Bool
 any_from q l = not (all_below q l)
 
 -- all of them are below 1
-abbrev pub allZero : List ℕ → Bool
-allZero l = all_below 1 l
+abbrev pub all_zero : List ℕ → Bool
+all_zero l = all_below 1 l

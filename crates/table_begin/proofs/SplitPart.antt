@@ -19,29 +19,29 @@ use lib.Bits.{bit_xor, xor_zero_r}
 use lib.ListN.{length, get_or, take, drop, set, replicate, length-append, length-replicate}
 use lib.Seq.{length-take-le, length_front, take-append-le, take_all, take_at}
 use Rattle.algebra.specs.Field.{Ops, Laws, OnNumbers}
-use Rattle.algebra.specs.Polynomial.{Below, coef, add, linear, frobenius, fieldPoly}
-use Rattle.algebra.specs.Routines.{monic, rem, gcd, norm, frobeniusMod, monicRoots}
+use Rattle.algebra.specs.Polynomial.{Below, coef, add, linear, frobenius, field_poly}
+use Rattle.algebra.specs.Routines.{monic, rem, gcd, norm, frobenius_mod, monic_roots}
 use Rattle.algebra.proofs.Series.{plus}
 use Rattle.algebra.proofs.Coefficients.{coef-top}
 use Rattle.algebra.proofs.Congruence.{Cong, cong-refl, cong-add}
 use Rattle.algebra.proofs.Division.{rem-cong}
 use Rattle.algebra.proofs.Euclid.{gcd-reduced}
 use Rattle.algebra.proofs.Modular.{frobenius-mod}
-use Rattle.algebra.proofs.Lengths.{length-rem, length-frobeniusMod, length-monicRoots}
-use Rattle.algebra.proofs.Crossing.{Elem, elems, laws, low, by-elements, low-add, low-gcd, low-rem, low-fieldPoly, low-frobeniusMod}
-use Rattle.algebra.proofs.StaysBelow.{append-below, replicate-below, take_below, below-from, add-below, rem_below, frobeniusMod-below, norm-below}
+use Rattle.algebra.proofs.Lengths.{length-rem, length-frobenius_mod, length-monic_roots}
+use Rattle.algebra.proofs.Crossing.{Elem, elems, laws, low, by-elements, low-add, low-gcd, low-rem, low-field_poly, low-frobenius_mod}
+use Rattle.algebra.proofs.StaysBelow.{append-below, replicate-below, take_below, below-from, add-below, rem_below, frobenius_mod-below, norm-below}
 use Rattle.algebra.proofs.NumberMonic.{norm-none}
 use Rattle.algebra.proofs.RootList.{split-part}
 use Rattle.algebra.specs.Polynomial.{Divides}
 use Rattle.slices.specs.Lists.{copied}
-use Rattle.slices.specs.Bounded.{allZero}
+use Rattle.slices.specs.Bounded.{all_zero}
 use Rattle.slices.proofs.Lists.{copied-front, length-copied, take-zeros, drop-zeros}
-use Rattle.slices.proofs.Bounded.{allBelow-exactly}
-use Rattle.field.specs.Field.{field_at, G, rootsAt}
+use Rattle.slices.proofs.Bounded.{all_below-exactly}
+use Rattle.field.specs.Field.{field_at, G, roots_at}
 use Rattle.field.proofs.Instance.{squared-size}
 use Rattle.poly.specs.Lent.{Lent}
-use Rattle.poly.specs.Monic.{monicLow, MadeMonic}
-use Rattle.poly_powers.specs.Powers.{Startable, powerRows}
+use Rattle.poly.specs.Monic.{monic_low, MadeMonic}
+use Rattle.poly_powers.specs.Powers.{Startable, power_rows}
 use Rattle.poly_gcd.specs.Euclid.{Turnable, GcdIs}
 use Rattle.poly.proofs.Logs.{field_of, numbers_of}
 use Rattle.input.specs.Limit.{limit}
@@ -52,14 +52,14 @@ use Rattle.table_begin.specs.SplitPart.{Residual, Residue, Powered, Beginnable}
 module _ {K : Type 0} {F : Ops K} (L : Laws F) where
   -- over an abstract field
   run-top : (m n : ℕ) (p : List K)
-      → gcd F p (fieldPoly F m) ≡ gcd F p (add F (frobeniusMod F p m (rem F p (linear F F.zero)) ++ replicate n F.zero) (linear F F.zero))
+      → gcd F p (field_poly F m) ≡ gcd F p (add F (frobenius_mod F p m (rem F p (linear F F.zero)) ++ replicate n F.zero) (linear F F.zero))
   run-top m n p =
       let z : List K = linear F F.zero in
-      let w : List K = frobeniusMod F p m (rem F p z) in
+      let w : List K = frobenius_mod F p m (rem F p z) in
       let power : Cong F (monic F p) (frobenius F m z) w = frobenius-mod L p m z (rem F p z) (rem-cong L p z) in
       let top : Cong F (monic F p) (frobenius F m z) (w ++ replicate n F.zero) =
       subst (λ f. Divides F (monic F p) (plus F (coef F (frobenius F m z)) f)) (sym (coef-top L w n)) power in
-      gcd-reduced L p (fieldPoly F m) (add F (w ++ replicate n F.zero) z)
+      gcd-reduced L p (field_poly F m) (add F (w ++ replicate n F.zero) z)
       (cong-add L (frobenius F m z) (w ++ replicate n F.zero) z z top (cong-refl L (monic F p) z))
 
 module _ {H : Ops ℕ} {q : ℕ} (N : OnNumbers H q) where
@@ -70,16 +70,16 @@ module _ {H : Ops ℕ} {q : ℕ} (N : OnNumbers H q) where
 
   -- and of numbers
   field-run-top : (m n : ℕ) (p : List ℕ) → Below q p
-      → gcd H p (fieldPoly H m) ≡ gcd H p (add H (frobeniusMod H p m (rem H p (linear H H.zero)) ++ replicate n H.zero) (linear H H.zero))
+      → gcd H p (field_poly H m) ≡ gcd H p (add H (frobenius_mod H p m (rem H p (linear H H.zero)) ++ replicate n H.zero) (linear H H.zero))
   field-run-top m n =
-      by-elements N (λ p. gcd H p (fieldPoly H m) ≡ gcd H p (add H (frobeniusMod H p m (rem H p (linear H H.zero)) ++ replicate n H.zero) (linear H H.zero))) λ u.
+      by-elements N (λ p. gcd H p (field_poly H m) ≡ gcd H p (add H (frobenius_mod H p m (rem H p (linear H H.zero)) ++ replicate n H.zero) (linear H H.zero))) λ u.
       let z : List (Elem q) = linear (elems N) (elems N).zero in
-      let w : List (Elem q) = frobeniusMod (elems N) u m (rem (elems N) u z) in
-      ap (gcd H (low N u)) (sym (low-fieldPoly N m))
-      ∙ sym (low-gcd N u (fieldPoly (elems N) m)) ∙ ap (low N) (run-top (laws N) m n u) ∙ low-gcd N u (add (elems N) (w ++ replicate n (elems N).zero) z)
+      let w : List (Elem q) = frobenius_mod (elems N) u m (rem (elems N) u z) in
+      ap (gcd H (low N u)) (sym (low-field_poly N m))
+      ∙ sym (low-gcd N u (field_poly (elems N) m)) ∙ ap (low N) (run-top (laws N) m n u) ∙ low-gcd N u (add (elems N) (w ++ replicate n (elems N).zero) z)
       ∙ ap (gcd H (low N u)) (low-add N (w ++ replicate n (elems N).zero) z
       ∙ ap (λ l. add H l (linear H H.zero)) (map-append (λ x. x.0) w (replicate n (elems N).zero)
-      ∙ ap₂ (λ a b. a ++ b) (low-frobeniusMod N u m (rem (elems N) u z) ∙ ap (frobeniusMod H (low N u) m) (low-rem N u z)) (low_zeros n)))
+      ∙ ap₂ (λ a b. a ++ b) (low-frobenius_mod N u m (rem (elems N) u z) ∙ ap (frobenius_mod H (low N u) m) (low-rem N u z)) (low_zeros n)))
 
 -- ---- `residue`
 
@@ -102,7 +102,7 @@ module _ {m : ℕ} {ls ts p b rows : List ℕ} (g : Residual m ls ts p b rows) w
   residue-asks = record { tables = g.tables; small = g.small; few = g.few; room = length-take-le (length p) b g.room }
 
   -- what is left
-  pub residue-is : {w : List ℕ} → w ≡ frobeniusMod (G m) p m (rem (G m) p (0 ∷ 1 ∷ []))
+  pub residue-is : {w : List ℕ} → w ≡ frobenius_mod (G m) p m (rem (G m) p (0 ∷ 1 ∷ []))
       → Residue m p (set (w ++ drop (length p) b) 1 (bit_xor (get_or (w ++ drop (length p) b) 1 0) 1))
   residue-is {w} d =
       let N : OnNumbers (G m) (2 ^ m) = numbers_of g.tables in
@@ -110,12 +110,12 @@ module _ {m : ℕ} {ls ts p b rows : List ℕ} (g : Residual m ls ts p b rows) w
       let n : ℕ = length b - length p in
       let zs : Below (2 ^ m) z = (N.zero-below, (N.one_below, tt)) in
       let rest : drop (length p) b ≡ replicate n 0 = ap (drop (length p)) g.zeros ∙ drop-zeros (length p) (length b) in
-      let long : length w ≡ length p = ap length d ∙ length-frobeniusMod (G m) p m (rem (G m) p z) (length-rem (G m) p z) in
+      let long : length w ≡ length p = ap length d ∙ length-frobenius_mod (G m) p m (rem (G m) p z) (length-rem (G m) p z) in
       let f : List ℕ = w ++ replicate n 0 in
       let two : 2 ≤ length f = omega (arith, length-append w (replicate n 0), length-replicate {A = ℕ} n 0, g.two, g.room) in
       let is : set (w ++ drop (length p) b) 1 (bit_xor (get_or (w ++ drop (length p) b) 1 0) 1) ≡ add (G m) f z =
       ap (λ u. set (w ++ u) 1 (bit_xor (get_or (w ++ u) 1 0) 1)) rest ∙ add-z m f two in
-      let below : Below (2 ^ m) w = subst (Below (2 ^ m)) (sym d) (frobeniusMod-below N p m (rem (G m) p z) g.small (rem_below N p z g.small zs)) in
+      let below : Below (2 ^ m) w = subst (Below (2 ^ m)) (sym d) (frobenius_mod-below N p m (rem (G m) p z) g.small (rem_below N p z g.small zs)) in
       record {
         small = subst (Below (2 ^ m)) (sym is) (add-below N f z (append-below (2 ^ m) w (replicate n 0) below (replicate-below (2 ^ m) n 0 N.zero-below)) zs);
         same = ap (gcd (G m) p) (is ∙ ap (λ u. add (G m) (u ++ replicate n 0) z) d) ∙ sym (field-run-top N m n p g.small);
@@ -125,9 +125,9 @@ module _ {m : ℕ} {ls ts p b rows : List ℕ} (g : Residual m ls ts p b rows) w
 
 -- k coefficients at the front of out are the product of (z + r) over all distinct roots, fewer than those given
 pub record SplitOff (m : ℕ) (cs : List ℕ) (k : ℕ) (out : List ℕ) : Type 0 where
-  pub count : k ≡ length (rootsAt m cs)
+  pub count : k ≡ length (roots_at m cs)
   pub fewer : k < length cs
-  pub low : take k out ≡ monicRoots (G m) (rootsAt m cs)
+  pub low : take k out ≡ monic_roots (G m) (roots_at m cs)
 
 module _ {m : ℕ} {cs ls ts table rows : List ℕ} (g : Beginnable m cs ls ts table rows) {out : List ℕ} (e : out ≡ copied cs (replicate (suc limit) 0)) where
   -- there is room for all coefficients
@@ -152,8 +152,8 @@ module _ {m : ℕ} {cs ls ts table rows : List ℕ} (g : Beginnable m cs ls ts t
 
   module _ {j : ℕ} {y : List ℕ} (d : MadeMonic m (take (length cs) out) j y) where
     -- they were made monic
-    normed : norm (G m) (length cs) cs ≡ monicLow j y
-    normed = subst (λ l. norm (G m) (length l) l ≡ monicLow j y) copy-front d.made
+    normed : norm (G m) (length cs) cs ≡ monic_low j y
+    normed = subst (λ l. norm (G m) (length l) l ≡ monic_low j y) copy-front d.made
 
     -- with no more coefficients than there were
     within : j ≤ length cs
@@ -165,15 +165,15 @@ module _ {m : ℕ} {cs ls ts table rows : List ℕ} (g : Beginnable m cs ls ts t
 
     -- a polynomial that is not 0 has a leading coefficient
     pub split-some : 0 < j
-    unfolding monicLow
+    unfolding monic_low
     split-some = go (dec_lt 0 j)
       where
         go : Dec (0 < j) → 0 < j
         go (yes p) = p
         go (no n) =
-            let none_left : norm (G m) (length cs) cs ≡ none = normed ∙ ap (λ i. monicLow i y) (let z : j ≡ 0 = omega arith in z) in
-            let zeros : allZero cs ≡ true =
-            (allBelow-exactly 1 cs).1 (below-from 1 cs (λ i l. let z : get_or cs i 0 ≡ 0 = norm-none (numbers_of g.tables) cs g.polynomial.small none_left i in omega arith)) in
+            let none_left : norm (G m) (length cs) cs ≡ none = normed ∙ ap (λ i. monic_low i y) (let z : j ≡ 0 = omega arith in z) in
+            let zeros : all_zero cs ≡ true =
+            (all_below-exactly 1 cs).1 (below-from 1 cs (λ i l. let z : get_or cs i 0 ≡ 0 = norm-none (numbers_of g.tables) cs g.polynomial.small none_left i in omega arith)) in
             absurd (let b : ◌≡◌ {A = Bool} true false = sym zeros ∙ g.polynomial.nonzero in let o : ◌≡◌ {A = ℕ} 0 1 = cc in let x : ⊥ = omega arith in x)
 
     -- the low coefficients of the monic polynomial, where they stand
@@ -182,10 +182,10 @@ module _ {m : ℕ} {cs ls ts table rows : List ℕ} (g : Beginnable m cs ls ts t
 
     -- which the theory makes of all coefficients
     lead : norm (G m) (length cs) cs ≡ some p
-    unfolding monicLow p
+    unfolding monic_low p
     lead =
         let back : suc (j - 1) ≡ j = omega (arith, split-some) in
-        normed ∙ ap (λ i. monicLow i y) (sym back) ∙ ap some (sym (take-append-le (j - 1) y (drop (length cs) out) (omega (arith, within, long-y))))
+        normed ∙ ap (λ i. monic_low i y) (sym back) ∙ ap some (sym (take-append-le (j - 1) y (drop (length cs) out) (omega (arith, within, long-y))))
 
     -- the slice is as long as it was
     pub long-out : length (y ++ drop (length cs) out) ≡ suc limit
@@ -257,19 +257,19 @@ module _ {m : ℕ} {cs ls ts table rows : List ℕ} (g : Beginnable m cs ls ts t
         unfolding p
         split-is {k} {a} l i =
             let N : OnNumbers (G m) (2 ^ m) = numbers_of g.tables in
-            let roots : List ℕ = rootsAt m cs in
+            let roots : List ℕ = roots_at m cs in
             let fewer : k < length cs = omega (arith, i.count, long-p, within, split-some) in
-            let low : take k a ≡ monicRoots (G m) roots =
+            let low : take k a ≡ monic_roots (G m) roots =
             i.low ∙ ap (gcd (G m) p) (take_all n (take n (b ++ z)) (omega (arith, front_long)) ∙ front) ∙ r.same
             ∙ split-part N m refl N.one_below (squared-size (field_at m) (field_of g.tables)) cs g.polynomial.small lead in
             record {
-              count = sym (length-take-le k a (omega (arith, room, long-out))) ∙ ap length low ∙ length-monicRoots (G m) roots;
+              count = sym (length-take-le k a (omega (arith, room, long-out))) ∙ ap length low ∙ length-monic_roots (G m) roots;
               fewer = fewer;
               low = low;
             }
 
     -- the powers are those modulo the polynomial made monic
     pub split-powered : (rows₁ : List ℕ) → take (m * length (take (j - 1) (y ++ drop (length cs) out))) rows₁
-        ≡ powerRows m (take (j - 1) (y ++ drop (length cs) out)) m (rem (G m) (take (j - 1) (y ++ drop (length cs) out)) (0 ∷ 1 ∷ [])) → Powered m cs (j - 1) (take (m * (j - 1)) rows₁)
+        ≡ power_rows m (take (j - 1) (y ++ drop (length cs) out)) m (rem (G m) (take (j - 1) (y ++ drop (length cs) out)) (0 ∷ 1 ∷ [])) → Powered m cs (j - 1) (take (m * (j - 1)) rows₁)
     unfolding p
     split-powered rows₁ e = record { low = p; made = lead; long = long-p; rows_are = ap (λ k. take (m * k) rows₁) (sym long-p) ∙ e }

@@ -6,11 +6,11 @@
 -- Assumes nothing.
 use Rattle.std.specs.Prelude.{◌≡◌, List, [], ◌∷◌, ℕ, ◌*◌, ◌^◌, ◌≤◌, length, replicate}
 use Rattle.std.proofs.Math.Option.{some}
-use Rattle.algebra.specs.Polynomial.{Below, fieldPoly}
+use Rattle.algebra.specs.Polynomial.{Below, field_poly}
 use Rattle.algebra.specs.Routines.{rem, norm, gcd}
 use Rattle.field.specs.Field.{G}
 use Rattle.poly.specs.Lent.{Lent}
-use Rattle.poly_powers.specs.Powers.{powerRows}
+use Rattle.poly_powers.specs.Powers.{power_rows}
 use Rattle.input.specs.Limit.{limit}
 use Rattle.input.specs.Polynomials.{PolynomialIn}
 use Rattle.table_rules.specs.Sizes.{slots}
@@ -28,14 +28,14 @@ pub record Residual (m : ℕ) (ls ts p b rows : List ℕ) : Type 0 where
 -- as far as a common divisor with p tells
 pub record Residue (m : ℕ) (p b : List ℕ) : Type 0 where
   pub small : Below (2 ^ m) b
-  pub same : gcd (G m) p b ≡ gcd (G m) p (fieldPoly (G m) m)
+  pub same : gcd (G m) p b ≡ gcd (G m) p (field_poly (G m) m)
 
 -- the polynomial made monic has the low coefficients `low`
 pub record Powered (m : ℕ) (cs : List ℕ) (d : ℕ) (rows : List ℕ) : Type 0 where
   pub low : List ℕ
   pub made : norm (G m) (length cs) cs ≡ some low
   pub long : length low ≡ d
-  pub rows_are : rows ≡ powerRows m low m (rem (G m) low (0 ∷ 1 ∷ []))
+  pub rows_are : rows ≡ power_rows m low m (rem (G m) low (0 ∷ 1 ∷ []))
 
 -- a polynomial that was let in, and a table of all slots
 pub record Beginnable (m : ℕ) (cs ls ts table rows : List ℕ) : Type 0 where

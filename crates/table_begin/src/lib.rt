@@ -4,11 +4,11 @@
 ghost use Rattle.std.specs.Prelude.{◌≡◌, [], ◌∷◌, ◌*◌, ◌≤◌, length, take};
 ghost use Rattle.algebra.specs.Routines.{rem};
 ghost use Rattle.field.specs.Field.{G};
-ghost use Rattle.poly_powers.specs.Powers.{powerRows};
+ghost use Rattle.poly_powers.specs.Powers.{power_rows};
 ghost use Rattle.input.specs.Limit.{limit};
 ghost use Rattle.input.specs.Polynomials.{PolynomialIn};
-ghost use Rattle.table_rules.specs.Layout.{byFactor};
-ghost use Rattle.table_rules.specs.Splitting.{slotsBegun};
+ghost use Rattle.table_rules.specs.Layout.{by_factor};
+ghost use Rattle.table_rules.specs.Splitting.{slots_begun};
 ghost use Rattle.table_rules.specs.Sizes.{slots};
 ghost use Rattle.table_begin.specs.Calls.{Begins};
 ghost use Rattle.table_begin.specs.SplitPart.{Residual, Residue, Powered, Beginnable};
@@ -42,7 +42,7 @@ fn residue(m: u16, logs: &[u16], antilogs: &[u16], p: &[u16], b: &mut [u16], row
     requires { Residual m logs.now antilogs.now p.now b.old rows.old }
     ensures { Residue m p.now b.new
         × (take (m * length p.now) rows.new
-        ≡ powerRows m p.now m (rem (G m) p.now (0 ∷ 1 ∷ []))) }
+        ≡ power_rows m p.now m (rem (G m) p.now (0 ∷ 1 ∷ []))) }
 {
     let n = p.len();
     z_powers(m, logs, antilogs, p, m, &mut b[..n], rows);
@@ -62,7 +62,7 @@ pub fn begin_lent(
     rows: &mut [u16],
 ) -> usize
     requires { Beginnable m coeffs.now logs.now antilogs.now table.old rows.old }
-    ensures { (table.new ≡ slotsBegun byFactor slots m c coeffs.now)
+    ensures { (table.new ≡ slots_begun by_factor slots m c coeffs.now)
         × Powered m coeffs.now result (take (m * result) rows.new) }
 {
     let mut part = [0u16; COEFFICIENTS];
@@ -80,7 +80,7 @@ pub fn begin_lent(
 // The table of an accepted polynomial, with room for the powers. The field's tables are lent here.
 fn begin_with(m: u16, c: u16, coeffs: &[u16], table: &mut [u16], rows: &mut [u16])
     requires { PolynomialIn m coeffs.now × (length table.old ≡ slots) × (m * limit ≤ length rows.old) }
-    ensures { table.new ≡ slotsBegun byFactor slots m c coeffs.now }
+    ensures { table.new ≡ slots_begun by_factor slots m c coeffs.now }
 {
     match m {
         4 => begin_lent(m, c, coeffs, &logs4(m), &antilogs4(m), table, rows),
@@ -92,7 +92,7 @@ fn begin_with(m: u16, c: u16, coeffs: &[u16], table: &mut [u16], rows: &mut [u16
 // Writes the table of an accepted polynomial.
 fn begin_in(m: u16, c: u16, coeffs: &[u16], table: &mut [u16])
     requires { PolynomialIn m coeffs.now × (length table.old ≡ slots) }
-    ensures { table.new ≡ slotsBegun byFactor slots m c coeffs.now }
+    ensures { table.new ≡ slots_begun by_factor slots m c coeffs.now }
 {
     let mut rows = [0u16; POWER_ROWS];
     begin_with(m, c, coeffs, table, &mut rows);

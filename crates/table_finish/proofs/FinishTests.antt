@@ -18,12 +18,12 @@ use Rattle.refusals.specs.declared.Admission.TheVariants.{In, Out}
 use Rattle.refusals.proofs.Order.{holds, fails, passes, failed, others}
 use Rattle.refusals.proofs.Order as order
 use Rattle.input.specs.Limit.{limit}
-use Rattle.table_rules.specs.Layout.{byFactor}
-use Rattle.table_rules.specs.Splitting.{slotsDone}
-use Rattle.table_rules.specs.Sizes.{isTableSize, isSound}
+use Rattle.table_rules.specs.Layout.{by_factor}
+use Rattle.table_rules.specs.Splitting.{slots_done}
+use Rattle.table_rules.specs.Sizes.{is_table_size, is_sound}
 use Rattle.table_rules.proofs.Sizes.{size-exactly, sound-size}
-use Rattle.table_slots.specs.Slots.{cutoffOf, Heads}
-use Rattle.table_slots.specs.Walk.{soughtIn}
+use Rattle.table_slots.specs.Slots.{cutoff_of, Heads}
+use Rattle.table_slots.specs.Walk.{sought_in}
 use Rattle.table_slots.specs.declared.Head.{Head}
 use Rattle.table_slots.specs.declared.Spot.{Spot}
 use Rattle.table_slots.specs.declared.Spot.TheVariants.{At, Nowhere}
@@ -31,7 +31,7 @@ use Rattle.table_slots.proofs.Finding.{seek-done, seek-at}
 use Rattle.table_slots.specs.Verdicts.{Fit, Checks}
 use Rattle.table_slots.specs.Verdicts.Checks.{short, unsound}
 use Rattle.table_slots.specs.declared.check.Checked.TheVariants.{Unfit}
-use Rattle.table_finish.specs.Calls.{finishTests, finishOutcome, finishMemory, toldFinished}
+use Rattle.table_finish.specs.Calls.{finish_tests, finish_outcome, finish_memory, told_finished}
 use Rattle.table_finish.specs.Finishing.{Lendable, ListedIn}
 use Rattle.table_finish.specs.declared.Finished.TheVariants.{Listed}
 
@@ -39,8 +39,8 @@ use Rattle.table_finish.specs.declared.Finished.TheVariants.{Listed}
 
 module _ (l list : List ℕ) where
   -- refusal 7, for the list
-  pub admit-room : length list < limit → Admits (finishTests l list) (Out Room)
-  admit-room h = holds (go (not (isTableSize (length l))) (lt-ltb (length list) limit h))
+  pub admit-room : length list < limit → Admits (finish_tests l list) (Out Room)
+  admit-room h = holds (go (not (is_table_size (length l))) (lt-ltb (length list) limit h))
     where
       go : (a : Bool) {b : Bool} → b ≡ true → (a || b) ≡ true
       go true e = refl
@@ -52,7 +52,7 @@ module _ (l list : List ℕ) where
     roomy = le-ltb (length list) limit enough
 
     -- test 7 is then that of the table
-    first : {a : Bool} → not (isTableSize (length l)) ≡ a → (not (isTableSize (length l)) || ltb (length list) limit) ≡ a
+    first : {a : Bool} → not (is_table_size (length l)) ≡ a → (not (is_table_size (length l)) || ltb (length list) limit) ≡ a
     first {a} e = ap₂ (λ x y. x || y) e roomy ∙ go a
       where
         go : (a : Bool) → (a || false) ≡ a
@@ -60,42 +60,42 @@ module _ (l list : List ℕ) where
         go false = refl
 
     -- the refusal that the check found
-    pub admit-unfit : {k : Refusal} → Checks l (Unfit k) → Admits (finishTests l list) (Out k)
+    pub admit-unfit : {k : Refusal} → Checks l (Unfit k) → Admits (finish_tests l list) (Out k)
     admit-unfit (short n) = holds (first (ap not n))
     admit-unfit (unsound e u) = fails (first (ap not e)) (holds (ap not u))
 
     module _ {s : ℕ} (g : Fit l s) where
       -- test 7 fails
-      long-enough : not (isTableSize (length l)) ≡ false
+      long-enough : not (is_table_size (length l)) ≡ false
       long-enough = ap not ((size-exactly (length l)).1 (sound-size l g.sound))
 
-      module _ {h : Head} (k : Heads l h) {f : Spot} (e : f ≡ soughtIn h.cutoff l) where
+      module _ {h : Head} (k : Heads l h) {f : Spot} (e : f ≡ sought_in h.cutoff l) where
         -- at the cutoff of the slots
-        sought : f ≡ soughtIn (cutoffOf l) l
-        sought = e ∙ ap (λ c. soughtIn c l) k.cutoff
+        sought : f ≡ sought_in (cutoff_of l) l
+        sought = e ∙ ap (λ c. sought_in c l) k.cutoff
 
         -- refusal 10: there is a factor above the cutoff
-        pub admit-more : {o : ℕ} → f ≡ At o → Admits (finishTests l list) (Out NotDone)
+        pub admit-more : {o : ℕ} → f ≡ At o → Admits (finish_tests l list) (Out NotDone)
         admit-more a =
             fails (first long-enough) (fails (ap not g.sound) (holds (ap not (seek-at l g.sound sought a).more)))
 
         -- no refusal
-        pub admit-done : f ≡ Nowhere → Admits (finishTests l list) In
+        pub admit-done : f ≡ Nowhere → Admits (finish_tests l list) In
         admit-done n = passes (first long-enough) (passes (ap not g.sound) (passes (ap not (seek-done l g.sound sought n)) none))
 
 -- ---- from there to what finish promises
 
 module _ (l list : List ℕ) where
   -- a refusal writes nothing
-  pub refused-is : {k : ℕ} → Given k (finishTests l list) → ((k, []) ≡ finishOutcome l list) × (list ≡ finishMemory l list)
+  pub refused-is : {k : ℕ} → Given k (finish_tests l list) → ((k, []) ≡ finish_outcome l list) × (list ≡ finish_memory l list)
   refused-is g = (sym (order.refused _ g), sym (order.unwritten _ _ g))
 
   -- what the tests tell of the table and the list
-  pub done-asks : Passed (finishTests l list) → Lendable l list
+  pub done-asks : Passed (finish_tests l list) → Lendable l list
   done-asks p = record {
-    sound = unflip (isSound l) (failed (others p));
-    done = unflip (slotsDone byFactor l) (failed (others (others p)));
-    room = ltb-false (length list) limit (right (not (isTableSize (length l))) (failed p));
+    sound = unflip (is_sound l) (failed (others p));
+    done = unflip (slots_done by_factor l) (failed (others (others p)));
+    room = ltb-false (length list) limit (right (not (is_table_size (length l))) (failed p));
   }
     where
       unflip : (b : Bool) → not b ≡ false → b ≡ true
@@ -107,6 +107,6 @@ module _ (l list : List ℕ) where
       right false e = e
 
   -- the list is made
-  pub listed-is : {k : ℕ} {list' : List ℕ} → Passed (finishTests l list) → ListedIn l list k list'
-      → (toldFinished (Listed k) ≡ finishOutcome l list) × (list' ≡ finishMemory l list)
+  pub listed-is : {k : ℕ} {list' : List ℕ} → Passed (finish_tests l list) → ListedIn l list k list'
+      → (told_finished (Listed k) ≡ finish_outcome l list) × (list' ≡ finish_memory l list)
   listed-is p h = (ap (λ n. (0, n ∷ [])) h.count ∙ sym (order.accepted _ p), h.slots ∙ sym (order.written _ _ p))

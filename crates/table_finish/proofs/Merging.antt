@@ -21,28 +21,28 @@ use lib.Dec.{T}
 use lib.ListN.{length, get_or, take, drop, replicate, length-append}
 use lib.Seq.{length-take-le, get_or-append-add, take-append_seam, drop-append-add}
 use Rattle.algebra.specs.Trial.{All}
-use Rattle.algebra.specs.Polynomial.{isRoot}
+use Rattle.algebra.specs.Polynomial.{is_root}
 use Rattle.algebra.specs.Routines.{monic}
-use Rattle.algebra.proofs.RootList.{rootsOf-member}
+use Rattle.algebra.proofs.RootList.{roots_of-member}
 use Rattle.field.specs.Rows.{known}
 use Rattle.slices.specs.Ordered.{Merged}
 use Rattle.slices.proofs.Ordered.{merged-none, merged-append, merged-count, merged-kept}
 use Rattle.poly.specs.Lent.{Lent}
 use Rattle.poly_small.specs.Roots.{RootsOut}
-use Rattle.input.specs.Cutoff.{highestCutoff}
+use Rattle.input.specs.Cutoff.{highest_cutoff}
 use Rattle.input.specs.Limit.{limit}
 use Rattle.table_rules.specs.Entries.{above, done}
-use Rattle.table_rules.specs.Layout.{factorSlots, Factor, degreeSum, blocks, byFactor}
-use Rattle.table_rules.specs.Table.{Table, headSlots, slotsFor, encode, decode}
-use Rattle.table_rules.specs.Splitting.{someZero, slotsDone, slotsRoots}
+use Rattle.table_rules.specs.Layout.{factor_slots, Factor, degree_sum, blocks, by_factor}
+use Rattle.table_rules.specs.Table.{Table, head_slots, slots_for, encode, decode}
+use Rattle.table_rules.specs.Splitting.{some_zero, slots_done, slots_roots}
 use Rattle.table_rules.proofs.Sizes.{limit-most}
-use Rattle.table_rules.proofs.Layouts.{byFactor-lawful}
+use Rattle.table_rules.proofs.Layouts.{by_factor-lawful}
 use Rattle.table_rules.specs.Places.{spare}
 use Rattle.table_rules.proofs.Soundness.{Fair, Valid, sound-valid, sound-encoded, sound-rules}
-use Rattle.field.specs.Field.{field_at, G, rootsAt}
+use Rattle.field.specs.Field.{field_at, G, roots_at}
 use Rattle.field.specs.Tables.{Halves}
-use Rattle.table_rules.specs.Sizes.{limitBy}
-use Rattle.table_slots.specs.Slots.{width_of, cutoffOf, count_of, degreeAt, factorAt, next_at, StandsWhole, Heads}
+use Rattle.table_rules.specs.Sizes.{limit_by}
+use Rattle.table_slots.specs.Slots.{width_of, cutoff_of, count_of, degree_at, factor_at, next_at, StandsWhole, Heads}
 use Rattle.table_slots.specs.declared.Head.{Head}
 use Rattle.table_finish.specs.Finishing.{Mergeable, RootsIn, Lendable, LendableAt, Listable, ListedIn}
 
@@ -67,11 +67,11 @@ module _ {m : ℕ} {ls ts hs p roots : List ℕ} {n : ℕ} (g : Mergeable m ls t
 -- slots behind `pre`: those of a factor, then the rest
 module _ (e : Factor) (fs : List Factor) (pre z : List ℕ) where
   -- all of them
-  abbrev slotsAhead : List ℕ
-  slotsAhead = pre ++ (blocks (e ∷ fs) ++ z)
+  abbrev slots_ahead : List ℕ
+  slots_ahead = pre ++ (blocks (e ∷ fs) ++ z)
 
   -- the factor is there, whole
-  ahead-long : length pre + 2 + length e.1 ≤ length slotsAhead
+  ahead-long : length pre + 2 + length e.1 ≤ length slots_ahead
   unfolding blocks
   ahead-long = omega (
     arith,
@@ -81,18 +81,18 @@ module _ (e : Factor) (fs : List Factor) (pre z : List ℕ) where
   )
 
   -- its degree
-  ahead-degree : get_or slotsAhead (length pre + 1) 0 ≡ length e.1
+  ahead-degree : get_or slots_ahead (length pre + 1) 0 ≡ length e.1
   unfolding blocks
   ahead-degree = get_or-append-add pre (blocks (e ∷ fs) ++ z) 1 0
 
   -- its coefficients
-  ahead-coefficients : take (length e.1) (drop (length pre + 2) slotsAhead) ≡ e.1
+  ahead-coefficients : take (length e.1) (drop (length pre + 2) slots_ahead) ≡ e.1
   unfolding blocks
   ahead-coefficients =
       ap (take (length e.1)) (drop-append-add pre (blocks (e ∷ fs) ++ z) 2 ∙ append_assoc e.1 (blocks fs) z) ∙ take-append_seam e.1 (blocks fs ++ z)
 
   -- it goes over to what is before
-  ahead-again : slotsAhead ≡ (pre ++ (e.0 ∷ length e.1 ∷ e.1)) ++ (blocks fs ++ z)
+  ahead-again : slots_ahead ≡ (pre ++ (e.0 ∷ length e.1 ∷ e.1)) ++ (blocks fs ++ z)
   unfolding blocks
   ahead-again = simp append_assoc
 
@@ -109,7 +109,7 @@ either false b = (λ t. inr t, λ o. ⊎_elim (λ t. absurd t) (λ t. t) o)
 
 -- a factor is 0 at x
 abbrev pub Zero : ℕ → List Factor → ℕ → Type 0
-Zero m fs x = (x < 2 ^ m) × T (someZero (G m) fs x)
+Zero m fs x = (x < 2 ^ m) × T (some_zero (G m) fs x)
 
 -- the numbers of `seen` have been merged, and what lies ahead has the others
 pub record Finishing (m c : ℕ) (fs : List Factor) (l list₀ list : List ℕ) (left at k : ℕ) : Type 0 where
@@ -123,38 +123,38 @@ pub record Finishing (m c : ℕ) (fs : List Factor) (l list₀ list : List ℕ) 
   pub long : length list ≡ length list₀
   pub room : limit ≤ length list₀
   pub merged : Merged 0 seen list₀ k list
-  pub few : length seen + degreeSum ahead ≤ limit
+  pub few : length seen + degree_sum ahead ≤ limit
   pub fair : All (Fair m) ahead
   pub low : done c ahead ≡ true
   pub exact : (x : ℕ) → Zero m fs x ↔ (Memᴰ x seen ⊎ Zero m ahead x)
 
 -- where the factor in front is 0, and where the others are
-zero-split : (m : ℕ) (e : Factor) (fs : List Factor) (x : ℕ) → Zero m (e ∷ fs) x ↔ (Memᴰ x (rootsAt m (monic (G m) e.1)) ⊎ Zero m fs x)
-unfolding someZero
+zero-split : (m : ℕ) (e : Factor) (fs : List Factor) (x : ℕ) → Zero m (e ∷ fs) x ↔ (Memᴰ x (roots_at m (monic (G m) e.1)) ⊎ Zero m fs x)
+unfolding some_zero
 zero-split m e fs x =
-    let two = either (isRoot (G m) (monic (G m) e.1) x) (someZero (G m) fs x) in
-    let r = rootsOf-member (G m) (2 ^ m) (monic (G m) e.1) x in (
+    let two = either (is_root (G m) (monic (G m) e.1) x) (some_zero (G m) fs x) in
+    let r = roots_of-member (G m) (2 ^ m) (monic (G m) e.1) x in (
       λ z. ⊎_elim (λ u. inl (r.1 (z.0, u))) (λ u. inr (z.0, u)) (two.0 z.1),
       λ o. ⊎_elim (λ u. let v = r.0 u in (v.0, two.1 (inl v.1))) (λ u. (u.0, two.1 (inr u.1))) o,
     )
 
 -- none is ahead
 zero-none : (m x : ℕ) → Zero m [] x → ⊥
-unfolding someZero
+unfolding some_zero
 zero-none m x z = z.1
 
 -- a sound table has its slots, and its field is known
 module _ {l list : List ℕ} (g : Lendable l list) where
   -- its slots
-  table-long : length l ≡ slotsFor (limitBy l)
-  table-long = ((sound-rules byFactor known (limitBy l) l).0 g.sound).size
+  table-long : length l ≡ slots_for (limit_by l)
+  table-long = ((sound-rules by_factor known (limit_by l) l).0 g.sound).size
 
   -- its field
   pub table-known : known (width_of l) ≡ true
-  table-known = ((sound-rules byFactor known (limitBy l) l).0 g.sound).field
+  table-known = ((sound-rules by_factor known (limit_by l) l).0 g.sound).field
 
   -- it has a head
-  pub head-there : headSlots ≤ length l
+  pub head-there : head_slots ≤ length l
   head-there = omega (arith, table-long)
 
   -- the head names it
@@ -172,19 +172,19 @@ listable {ls = ls} {ts} {hs} a = record {
 module _ {ls ts hs l list : List ℕ} (g : Listable ls ts hs l list) where
   -- the table that the slots hold
   abbrev t : Table
-  t = decode byFactor l
+  t = decode by_factor l
 
   -- the table keeps the rules
-  valid : Valid known (limitBy l) t
-  valid = sound-valid byFactor-lawful known (limitBy l) l g.given.sound
+  valid : Valid known (limit_by l) t
+  valid = sound-valid by_factor-lawful known (limit_by l) l g.given.sound
 
   -- the slots of the head, those of the factors, and zeros
-  apart : l ≡ (t.width ∷ t.cutoff ∷ length t.factors ∷ t.taken ∷ []) ++ (blocks t.factors ++ replicate (spare (slotsFor (limitBy l)) t) 0)
+  apart : l ≡ (t.width ∷ t.cutoff ∷ length t.factors ∷ t.taken ∷ []) ++ (blocks t.factors ++ replicate (spare (slots_for (limit_by l)) t) 0)
   unfolding encode
-  apart = sym (sound-encoded byFactor-lawful known (limitBy l) l g.given.sound)
+  apart = sym (sound-encoded by_factor-lawful known (limit_by l) l g.given.sound)
 
   -- the cutoff is at most the highest
-  cutoff-small : cutoffOf l ≤ highestCutoff
+  cutoff-small : cutoff_of l ≤ highest_cutoff
   unfolding decode
   cutoff-small = valid.cutoff-most
 
@@ -194,16 +194,16 @@ module _ {ls ts hs l list : List ℕ} (g : Listable ls ts hs l list) where
   all_fair = valid.factors
 
   -- none is above the cutoff
-  all-low : done (cutoffOf l) t.factors ≡ true
-  unfolding decode slotsDone
+  all-low : done (cutoff_of l) t.factors ≡ true
+  unfolding decode slots_done
   all-low = g.given.done
 
   -- at the start all lies ahead
-  pub finish-from : {n : ℕ} → n ≡ count_of l → Finishing (width_of l) (cutoffOf l) t.factors l list list n headSlots 0
+  pub finish-from : {n : ℕ} → n ≡ count_of l → Finishing (width_of l) (cutoff_of l) t.factors l list list n head_slots 0
   finish-from e = record {
     ahead = t.factors;
     pre = t.width ∷ t.cutoff ∷ length t.factors ∷ t.taken ∷ [];
-    after = replicate (spare (slotsFor (limitBy l)) t) 0;
+    after = replicate (spare (slots_for (limit_by l)) t) 0;
     seen = [];
     count = e ∙ ap count_of apart;
     slots = apart;
@@ -219,7 +219,7 @@ module _ {ls ts hs l list : List ℕ} (g : Listable ls ts hs l list) where
 
   -- ---- a turn
 
-  module _ {list' : List ℕ} {left at k : ℕ} (f : Finishing (width_of l) (cutoffOf l) t.factors l list list' left at k) where
+  module _ {list' : List ℕ} {left at k : ℕ} (f : Finishing (width_of l) (cutoff_of l) t.factors l list list' left at k) where
     -- no more are listed than were merged
     k-few : k ≤ length f.seen
     k-few = omega (arith, merged-count f.merged (omega arith))
@@ -244,7 +244,7 @@ module _ {ls ts hs l list : List ℕ} (g : Listable ls ts hs l list) where
       p = factor-here.first.1
 
       -- where it stands
-      spread : l ≡ slotsAhead factor-here.first factor-here.others f.pre f.after
+      spread : l ≡ slots_ahead factor-here.first factor-here.others f.pre f.after
       spread = f.slots ∙ ap (λ u. f.pre ++ (blocks u ++ f.after)) factor-here.split
 
       -- those ahead keep the rules
@@ -252,15 +252,15 @@ module _ {ls ts hs l list : List ℕ} (g : Listable ls ts hs l list) where
       all-ahead = subst (All (Fair (width_of l))) factor-here.split f.fair
 
       -- it is there, whole
-      factor-within : at + factorSlots + length p ≤ length l
+      factor-within : at + factor_slots + length p ≤ length l
       factor-within = omega (arith, f.place, ap length spread, ahead-long factor-here.first factor-here.others f.pre f.after)
 
       -- its degree stands before it
-      front-degree : degreeAt l at ≡ length p
+      front-degree : degree_at l at ≡ length p
       front-degree = ap₂ (λ u j. get_or u (j + 1) 0) spread f.place ∙ ahead-degree factor-here.first factor-here.others f.pre f.after
 
       -- its coefficients stand there
-      front-is : factorAt l at ≡ p
+      front-is : factor_at l at ≡ p
       front-is =
           ap (λ n. take n (drop (at + 2) l)) front-degree ∙ ap₂ (λ u j. take (length p) (drop (j + 2) u)) spread f.place
           ∙ ahead-coefficients factor-here.first factor-here.others f.pre f.after
@@ -270,25 +270,25 @@ module _ {ls ts hs l list : List ℕ} (g : Listable ls ts hs l list) where
       front-stands = omega (arith, factor-within, front-degree)
 
       -- it is not above the cutoff, nor are the others
-      both : (not (above (cutoffOf l) factor-here.first) ≡ true) × (done (cutoffOf l) factor-here.others ≡ true)
+      both : (not (above (cutoff_of l) factor-here.first) ≡ true) × (done (cutoff_of l) factor-here.others ≡ true)
       unfolding done
-      both = (and-eq-true_iff _ _).0 (subst (λ u. done (cutoffOf l) u ≡ true) factor-here.split f.low)
+      both = (and-eq-true_iff _ _).0 (subst (λ u. done (cutoff_of l) u ≡ true) factor-here.split f.low)
 
       -- so its degree is at most that
-      degree-low : length p ≤ highestCutoff
-      degree-low = omega (arith, ltb-false (cutoffOf l) (length factor-here.first.1) (unflip (above (cutoffOf l) factor-here.first) both.0), cutoff-small)
+      degree-low : length p ≤ highest_cutoff
+      degree-low = omega (arith, ltb-false (cutoff_of l) (length factor-here.first.1) (unflip (above (cutoff_of l) factor-here.first) both.0), cutoff-small)
         where
           unflip : (b : Bool) → not b ≡ true → b ≡ false
           unflip true e = sym e
           unflip false e = refl
 
       -- the sum of degrees, without it
-      sum-split : degreeSum f.ahead ≡ length p + degreeSum factor-here.others
-      unfolding degreeSum
-      sum-split = ap degreeSum factor-here.split
+      sum-split : degree_sum f.ahead ≡ length p + degree_sum factor-here.others
+      unfolding degree_sum
+      sum-split = ap degree_sum factor-here.split
 
       -- what a turn asks
-      pub turn-asks : {m : ℕ} {q : List ℕ} → m ≡ width_of l → q ≡ factorAt l at → Mergeable m ls ts hs q list' k
+      pub turn-asks : {m : ℕ} {q : List ℕ} → m ≡ width_of l → q ≡ factor_at l at → Mergeable m ls ts hs q list' k
       turn-asks i o =
           let d = degree-low in
           let s = sum-split in
@@ -302,8 +302,8 @@ module _ {ls ts hs l list : List ℕ} (g : Listable ls ts hs l list) where
           }
 
       -- a turn: its roots are merged
-      pub finish-on : {i : ℕ} {q : List ℕ} {j next : ℕ} {list'' : List ℕ} → i ≡ width_of l → q ≡ factorAt l at → RootsIn i q k list' j list''
-          → length list'' ≡ length list' → next ≡ next_at l at → Finishing (width_of l) (cutoffOf l) t.factors l list list'' (left - 1) next j
+      pub finish-on : {i : ℕ} {q : List ℕ} {j next : ℕ} {list'' : List ℕ} → i ≡ width_of l → q ≡ factor_at l at → RootsIn i q k list' j list''
+          → length list'' ≡ length list' → next ≡ next_at l at → Finishing (width_of l) (cutoff_of l) t.factors l list list'' (left - 1) next j
       finish-on {i} {q} {j} {next} {list''} w o r₀ h n =
           let m : ℕ = width_of l in
           let e = o ∙ front-is in
@@ -326,7 +326,7 @@ module _ {ls ts hs l list : List ℕ} (g : Listable ls ts hs l list) where
             low = both.1;
             exact = λ x.
                 let step = zero-split m factor-here.first factor-here.others x in
-                let mem : Memᴰ x r.roots ↔ Memᴰ x (rootsAt m (monic (G m) p)) = subst (λ u. Memᴰ x r.roots ↔ Memᴰ x (rootsAt m (monic (G m) u))) e (r.members x) in
+                let mem : Memᴰ x r.roots ↔ Memᴰ x (roots_at m (monic (G m) p)) = subst (λ u. Memᴰ x r.roots ↔ Memᴰ x (roots_at m (monic (G m) u))) e (r.members x) in
                 let ahead : Zero m f.ahead x ↔ Zero m (factor-here.first ∷ factor-here.others) x = subst (λ u. Zero m f.ahead x ↔ Zero m u x) factor-here.split (λ z. z, λ z. z) in (
                   λ z. ⊎_elim (λ u. inl (Memᴰ.append_left r.roots u))
                       (λ u. ⊎_elim (λ v. inl (Memᴰ.append_right f.seen (mem.1 v))) (λ v. inr v) (step.0 (ahead.0 u))) ((old x).0 z),
@@ -337,11 +337,11 @@ module _ {ls ts hs l list : List ℕ} (g : Listable ls ts hs l list) where
 
     -- at the end nothing lies ahead
     pub finish-end : left ≤ 0 → ListedIn l list k list'
-    unfolding decode slotsRoots
+    unfolding decode slots_roots
     finish-end h =
         let m : ℕ = width_of l in
         let none : f.ahead ≡ [] = empty f.ahead (omega (arith, f.count)) in
-        let e = merged-kept (someZero (G m) t.factors) (2 ^ m) f.merged (λ x. (
+        let e = merged-kept (some_zero (G m) t.factors) (2 ^ m) f.merged (λ x. (
           λ u. (f.exact x).1 (inl u),
           λ z. ⊎_elim (λ u. u) (λ u. absurd (zero-none m x (subst (λ v. Zero m v x) none u))) ((f.exact x).0 z),
         )) in

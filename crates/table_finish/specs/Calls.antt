@@ -1,8 +1,8 @@
 -- What finish answers, and what it leaves in the lent list, for every input (docs/RULES.md section 4.4).
---   finishTests     its tests in their order, each behind its number
---   finishOutcome   its outcome: the number of roots
---   finishMemory    the list afterwards: the roots fill its front
---   toldFinished    the number and the value of its answer
+--   finish_tests     its tests in their order, each behind its number
+--   finish_outcome   its outcome: the number of roots
+--   finish_memory    the list afterwards: the roots fill its front
+--   told_finished    the number and the value of its answer
 --   Finishes        THE CONTRACT: the answers and lists that finish admits
 -- Assumes nothing.
 use Rattle.std.specs.Prelude.{Bool, not, ◌||◌, List, [], ◌∷◌, ℕ, ltb, length}
@@ -10,29 +10,29 @@ use Rattle.refusals.specs.Order.{outcome, memory, Answers}
 use Rattle.refusals.specs.Numbers.{number_of}
 use Rattle.slices.specs.Lists.{copied}
 use Rattle.input.specs.Limit.{limit}
-use Rattle.table_rules.specs.Layout.{byFactor}
-use Rattle.table_rules.specs.Sizes.{isTableSize, isSound}
-use Rattle.table_rules.specs.Splitting.{slotsDone, slotsRoots}
+use Rattle.table_rules.specs.Layout.{by_factor}
+use Rattle.table_rules.specs.Sizes.{is_table_size, is_sound}
+use Rattle.table_rules.specs.Splitting.{slots_done, slots_roots}
 use Rattle.table_finish.specs.declared.Finished.{Finished}
 use Rattle.table_finish.specs.declared.Finished.TheVariants.{Listed, NotFinished}
 
-abbrev pub finishTests : List ℕ → List ℕ → List (ℕ × Bool)
-finishTests table list =
-    (7, not (isTableSize (length table)) || ltb (length list) limit) ∷ (8, not (isSound table))
-    ∷ (10, not (slotsDone byFactor table)) ∷ []
+abbrev pub finish_tests : List ℕ → List ℕ → List (ℕ × Bool)
+finish_tests table list =
+    (7, not (is_table_size (length table)) || ltb (length list) limit) ∷ (8, not (is_sound table))
+    ∷ (10, not (slots_done by_factor table)) ∷ []
 
-abbrev pub finishOutcome : List ℕ → List ℕ → ℕ × List ℕ
-finishOutcome table list = outcome (finishTests table list) (length (slotsRoots byFactor table) ∷ [])
+abbrev pub finish_outcome : List ℕ → List ℕ → ℕ × List ℕ
+finish_outcome table list = outcome (finish_tests table list) (length (slots_roots by_factor table) ∷ [])
 
-abbrev pub finishMemory : List ℕ → List ℕ → List ℕ
-finishMemory table list = memory (finishTests table list) (copied (slotsRoots byFactor table) list) list
+abbrev pub finish_memory : List ℕ → List ℕ → List ℕ
+finish_memory table list = memory (finish_tests table list) (copied (slots_roots by_factor table) list) list
 
-abbrev pub toldFinished : Finished → ℕ × List ℕ
-toldFinished (Listed s) = (0, s ∷ [])
-toldFinished (NotFinished k) = (number_of k, [])
+abbrev pub told_finished : Finished → ℕ × List ℕ
+told_finished (Listed s) = (0, s ∷ [])
+told_finished (NotFinished k) = (number_of k, [])
 
 -- the contract: an answer, and the lent list afterwards
 abbrev pub Finishes : List ℕ → List ℕ → Finished → List ℕ → Type 0
 Finishes table list r after =
-    Answers (finishTests table list) (length (slotsRoots byFactor table) ∷ [])
-    (copied (slotsRoots byFactor table) list) list (toldFinished r) after
+    Answers (finish_tests table list) (length (slots_roots by_factor table) ∷ [])
+    (copied (slots_roots by_factor table) list) list (told_finished r) after

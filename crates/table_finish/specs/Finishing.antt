@@ -13,14 +13,14 @@ use Rattle.algebra.specs.Routines.{monic}
 use Rattle.slices.specs.Lists.{copied}
 use Rattle.slices.specs.Ordered.{Merged}
 use Rattle.field.specs.Rows.{known}
-use Rattle.field.specs.Field.{field_at, G, rootsAt}
+use Rattle.field.specs.Field.{field_at, G, roots_at}
 use Rattle.field.specs.Tables.{Halves}
 use Rattle.poly.specs.Lent.{Lent}
-use Rattle.input.specs.Cutoff.{highestCutoff}
+use Rattle.input.specs.Cutoff.{highest_cutoff}
 use Rattle.input.specs.Limit.{limit}
-use Rattle.table_rules.specs.Layout.{byFactor}
-use Rattle.table_rules.specs.Splitting.{slotsDone, slotsRoots}
-use Rattle.table_rules.specs.Sizes.{isSound}
+use Rattle.table_rules.specs.Layout.{by_factor}
+use Rattle.table_rules.specs.Splitting.{slots_done, slots_roots}
+use Rattle.table_rules.specs.Sizes.{is_sound}
 use Rattle.table_slots.specs.Slots.{width_of}
 
 -- room for as many roots as its degree
@@ -28,20 +28,20 @@ pub record Mergeable (m : ℕ) (ls ts hs p roots : List ℕ) (n : ℕ) : Type 0 
   pub tables : Lent m ls ts
   pub halves : Halves (field_at m) hs
   pub small : Below (2 ^ m) p
-  pub low : length p ≤ highestCutoff
+  pub low : length p ≤ highest_cutoff
   pub room : n + length p ≤ length roots
 
 -- in whatever order they came
 pub record RootsIn (m : ℕ) (p : List ℕ) (n : ℕ) (s : List ℕ) (k : ℕ) (s' : List ℕ) : Type 0 where
   pub roots : List ℕ
   pub few : length roots ≤ length p
-  pub members : (x : ℕ) → Memᴰ x roots ↔ Memᴰ x (rootsAt m (monic (G m) p))
+  pub members : (x : ℕ) → Memᴰ x roots ↔ Memᴰ x (roots_at m (monic (G m) p))
   pub merged : Merged n roots s k s'
 
 -- as the tests found it
 pub record Lendable (table roots : List ℕ) : Type 0 where
-  pub sound : isSound table ≡ true
-  pub done : slotsDone byFactor table ≡ true
+  pub sound : is_sound table ≡ true
+  pub done : slots_done by_factor table ≡ true
   pub room : limit ≤ length roots
 
 -- its field is that of degree m
@@ -59,5 +59,5 @@ pub record Listable (ls ts hs table roots : List ℕ) : Type 0 where
 -- the count, and every slot of the list
 pub record ListedIn (table roots : List ℕ) (k : ℕ) (roots' : List ℕ) : Type 0 where
   pub few : k ≤ limit
-  pub count : k ≡ length (slotsRoots byFactor table)
-  pub slots : roots' ≡ copied (slotsRoots byFactor table) roots
+  pub count : k ≡ length (slots_roots by_factor table)
+  pub slots : roots' ≡ copied (slots_roots by_factor table) roots

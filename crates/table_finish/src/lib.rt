@@ -4,7 +4,7 @@ ghost use Rattle.refusals.specs.Admitting.{Admits};
 ghost use Rattle.field.specs.Field.{field_at};
 ghost use Rattle.field.specs.Tables.{Halves};
 ghost use Rattle.poly.specs.Lent.{Lent};
-ghost use Rattle.table_finish.specs.Calls.{finishTests, Finishes};
+ghost use Rattle.table_finish.specs.Calls.{finish_tests, Finishes};
 ghost use Rattle.table_finish.specs.Finishing.{Mergeable, RootsIn, Listable, ListedIn, Lendable, LendableAt};
 
 use field_tables::constants::{
@@ -25,7 +25,7 @@ pub enum Finished {
 
 // Refusals 7, 8 and 10, or none of them.
 fn admit(table: &[u16], roots: &[u16]) -> Admission
-    ensures { Admits (finishTests table.now roots.now) result }
+    ensures { Admits (finish_tests table.now roots.now) result }
 {
     if roots.len() < LIMIT {
         return Admission::Out(Refusal::Room);

@@ -13,17 +13,17 @@ use native.Mathlib.Omega.{arith}
 use lib.Dec.{ltb}
 use lib.ListN.{length}
 use Rattle.algebra.specs.Trial.{All}
-use Rattle.table_rules.specs.Entries.{Entry, Halving, unlessEmpty, parts, splitAt, firstAbove, done, step, steps, carry}
+use Rattle.table_rules.specs.Entries.{Entry, Halving, unless_empty, parts, split_entries, first_above, done, step, steps, carry}
 use Rattle.table_rules.proofs.Cut.{Cut}
 use Rattle.table_rules.proofs.Steps.{step_cut}
 
-unless-some : {A : Type 0} (i : ℕ) (s : List A) → 0 < length s → unlessEmpty i s ≡ (i, s) ∷ []
-unfolding unlessEmpty
+unless-some : {A : Type 0} (i : ℕ) (s : List A) → 0 < length s → unless_empty i s ≡ (i, s) ∷ []
+unfolding unless_empty
 unless-some i [] h = absurd (omega arith)
 unless-some i (x ∷ s) h = refl
 
-unless-none : {A : Type 0} (i : ℕ) (s : List A) → length s ≡ 0 → unlessEmpty i s ≡ []
-unfolding unlessEmpty
+unless-none : {A : Type 0} (i : ℕ) (s : List A) → length s ≡ 0 → unless_empty i s ≡ []
+unfolding unless_empty
 unless-none i [] h = refl
 unless-none i (x ∷ s) h = absurd (omega arith)
 
@@ -39,13 +39,13 @@ pub record Commutes {A B : Type 0} (H : Halving A) (J : Halving B) (f : List A �
   pub high : J.high e.0 (f e.1) ≡ f (H.high e.0 e.1)
 
 module _ {A B : Type 0} (f : List A → List B) (keeps : (s : List A) → length (f s) ≡ length s) where
-  pub carry-entry : (i : ℕ) (s : List A) → unlessEmpty i (f s) ≡ map (carry f) (unlessEmpty i s)
-  unfolding unlessEmpty
+  pub carry-entry : (i : ℕ) (s : List A) → unless_empty i (f s) ≡ map (carry f) (unless_empty i s)
+  unfolding unless_empty
   carry-entry i [] = unless-none i (f []) (keeps [])
   carry-entry i (x ∷ s) = unless-some i (f (x ∷ s)) (omega (arith, keeps (x ∷ s)))
 
-  pub carry-first : (c : ℕ) (l : List (Entry A)) → firstAbove c (map (carry f) l) ≡ firstAbove c l
-  unfolding firstAbove
+  pub carry-first : (c : ℕ) (l : List (Entry A)) → first_above c (map (carry f) l) ≡ first_above c l
+  unfolding first_above
   carry-first c [] = refl
   carry-first c (e ∷ l) = ap₂ (λ (n k : ℕ). cond (ltb c n) 0 (suc k)) (keeps e.1) (carry-first c l)
 
@@ -58,19 +58,19 @@ module _ {A B : Type 0} (f : List A → List B) (keeps : (s : List A) → length
     carry-parts : (e : Entry A) → Commutes H J f e → parts J (carry f e) ≡ map (carry f) (parts H e)
     unfolding parts
     carry-parts e h =
-        ap₂ ◌++◌ (ap (unlessEmpty (suc e.0)) h.low ∙ carry-entry (suc e.0) (H.low e.0 e.1))
-        (ap (unlessEmpty (suc e.0)) h.high ∙ carry-entry (suc e.0) (H.high e.0 e.1))
-        ∙ sym (map-append (carry f) (unlessEmpty (suc e.0) (H.low e.0 e.1)) (unlessEmpty (suc e.0) (H.high e.0 e.1)))
+        ap₂ ◌++◌ (ap (unless_empty (suc e.0)) h.low ∙ carry-entry (suc e.0) (H.low e.0 e.1))
+        (ap (unless_empty (suc e.0)) h.high ∙ carry-entry (suc e.0) (H.high e.0 e.1))
+        ∙ sym (map-append (carry f) (unless_empty (suc e.0) (H.low e.0 e.1)) (unless_empty (suc e.0) (H.high e.0 e.1)))
 
-    pub carry-split : (k : ℕ) (l : List (Entry A)) → All (Commutes H J f) l → splitAt J k (map (carry f) l) ≡ map (carry f) (splitAt H k l)
-    unfolding splitAt
+    pub carry-split : (k : ℕ) (l : List (Entry A)) → All (Commutes H J f) l → split_entries J k (map (carry f) l) ≡ map (carry f) (split_entries H k l)
+    unfolding split_entries
     carry-split k [] h = refl
     carry-split zero (e ∷ l) h = ap (λ u. u ++ map (carry f) l) (carry-parts e h.0) ∙ sym (map-append (carry f) (parts H e) l)
     carry-split (suc k) (e ∷ l) h = ap (λ u. carry f e ∷ u) (carry-split k l h.1)
 
     carry-step : (c : ℕ) (l : List (Entry A)) → All (Commutes H J f) l → step J c (map (carry f) l) ≡ map (carry f) (step H c l)
     unfolding step
-    carry-step c l h = ap (λ k. splitAt J k (map (carry f) l)) (carry-first c l) ∙ carry-split (firstAbove c l) l h
+    carry-step c l h = ap (λ k. split_entries J k (map (carry f) l)) (carry-first c l) ∙ carry-split (first_above c l) l h
 
     -- along all cuts
     pub carry-steps : (c n : ℕ) {i : ℕ} {s : List A} (l : List (Entry A)) → ((k : List (Entry A)) → Cut H c i s k → All (Commutes H J f) k) → Cut H c i s l

@@ -18,26 +18,26 @@ use native.Mathlib.Omega.{arith}
 use lib.Dec.{ltb}
 use lib.ListN.{length, length-append}
 use Rattle.algebra.specs.Trial.{keep}
-use Rattle.table_rules.specs.Groups.{bitWords, sumBelow, largerThan, agrees, groupsAt, groupCount}
+use Rattle.table_rules.specs.Groups.{bit_words, sum_below, larger_than, agrees, groups_at, group_count}
 use Rattle.algebra.proofs.Trial.{length-keep}
 use Rattle.table_rules.proofs.Lists.{Test, less, least, test, keep_all, keep_append, keep-keep, keep-both}
 
 -- ---- sums
 
-sumBelow-add : (n : ℕ) (f g : ℕ → ℕ) → sumBelow n (λ i. f i + g i) ≡ sumBelow n f + sumBelow n g
-unfolding sumBelow
-sumBelow-add zero f g = refl
-sumBelow-add (suc n) f g = omega (arith, sumBelow-add n (λ i. f (suc i)) (λ i. g (suc i)))
+sum_below-add : (n : ℕ) (f g : ℕ → ℕ) → sum_below n (λ i. f i + g i) ≡ sum_below n f + sum_below n g
+unfolding sum_below
+sum_below-add zero f g = refl
+sum_below-add (suc n) f g = omega (arith, sum_below-add n (λ i. f (suc i)) (λ i. g (suc i)))
 
-sumBelow-le : (n : ℕ) (f g : ℕ → ℕ) → ((i : ℕ) → f i ≤ g i) → sumBelow n f ≤ sumBelow n g
-unfolding sumBelow
-sumBelow-le zero f g h = omega arith
-sumBelow-le (suc n) f g h = omega (arith, h 0, sumBelow-le n (λ i. f (suc i)) (λ i. g (suc i)) (λ i. h (suc i)))
+sum_below-le : (n : ℕ) (f g : ℕ → ℕ) → ((i : ℕ) → f i ≤ g i) → sum_below n f ≤ sum_below n g
+unfolding sum_below
+sum_below-le zero f g h = omega arith
+sum_below-le (suc n) f g h = omega (arith, h 0, sum_below-le n (λ i. f (suc i)) (λ i. g (suc i)) (λ i. h (suc i)))
 
-sumBelow-bound : (n : ℕ) (f : ℕ → ℕ) (b : ℕ) → ((i : ℕ) → f i ≤ b) → sumBelow n f ≤ n * b
-unfolding sumBelow
-sumBelow-bound zero f b h = omega (arith, zero-mul b)
-sumBelow-bound (suc n) f b h = rw suc-mul (omega (arith, h 0, sumBelow-bound n (λ i. f (suc i)) b (λ i. h (suc i))))
+sum_below-bound : (n : ℕ) (f : ℕ → ℕ) (b : ℕ) → ((i : ℕ) → f i ≤ b) → sum_below n f ≤ n * b
+unfolding sum_below
+sum_below-bound zero f b h = omega (arith, zero-mul b)
+sum_below-bound (suc n) f b h = rw suc-mul (omega (arith, h 0, sum_below-bound n (λ i. f (suc i)) b (λ i. h (suc i))))
 
 -- 1 where there are more than c, else 0
 abbrev pub large : {A : Type 0} → ℕ → List A → ℕ
@@ -77,22 +77,22 @@ module _ {A : Type 0} (bit : ℕ → A → Bool) where
       → members i s (map (λ w. b ∷ w) ws) ≡ members (suc i) (keep (λ r. cond b (bit i r) (not (bit i r))) s) ws
   members-first i b s ws = map-map (λ w. keep (agrees bit i w) s) (λ w. b ∷ w) ws ∙ ap (λ f. map f ws) (fun_ext λ w. agrees_first i b w s)
 
-  sharing-words : (c n i : ℕ) (s : List A) → length (largerThan c (members i s (bitWords n))) ≡ sharing c n i s
-  unfolding bitWords sharing
-  sharing-words c zero i s = ap (λ l. length (largerThan c (l ∷ []))) (agrees-none i s) ∙ go (ltb c (length s))
+  sharing-words : (c n i : ℕ) (s : List A) → length (larger_than c (members i s (bit_words n))) ≡ sharing c n i s
+  unfolding bit_words sharing
+  sharing-words c zero i s = ap (λ l. length (larger_than c (l ∷ []))) (agrees-none i s) ∙ go (ltb c (length s))
     where
       go : (b : Bool) → length (cond b (s ∷ []) []) ≡ cond b 1 0
       go true = refl
       go false = refl
   sharing-words c (suc n) i s =
-      ap (λ l. length (largerThan c l)) (map-append _ (map (λ w. false ∷ w) (bitWords n)) (map (λ w. true ∷ w) (bitWords n))
-      ∙ ap₂ ◌++◌ (members-first i false s (bitWords n)) (members-first i true s (bitWords n)))
-      ∙ ap length (keep_append _ (members (suc i) (zeros i s) (bitWords n)) (members (suc i) (ones i s) (bitWords n)))
-      ∙ length-append (largerThan c (members (suc i) (zeros i s) (bitWords n))) (largerThan c (members (suc i) (ones i s) (bitWords n)))
+      ap (λ l. length (larger_than c l)) (map-append _ (map (λ w. false ∷ w) (bit_words n)) (map (λ w. true ∷ w) (bit_words n))
+      ∙ ap₂ ◌++◌ (members-first i false s (bit_words n)) (members-first i true s (bit_words n)))
+      ∙ ap length (keep_append _ (members (suc i) (zeros i s) (bit_words n)) (members (suc i) (ones i s) (bit_words n)))
+      ∙ length-append (larger_than c (members (suc i) (zeros i s) (bit_words n))) (larger_than c (members (suc i) (ones i s) (bit_words n)))
       ∙ ap₂ ◌+◌ (sharing-words c n (suc i) (zeros i s)) (sharing-words c n (suc i) (ones i s))
 
   -- more than c is more than 0
-  nonempty-larger : (c : ℕ) (l : List (List A)) → largerThan c (largerThan 0 l) ≡ largerThan c l
+  nonempty-larger : (c : ℕ) (l : List (List A)) → larger_than c (larger_than 0 l) ≡ larger_than c l
   nonempty-larger c l = keep-keep _ _ l ∙ ap (λ t. keep t l) (fun_ext λ s. go (length s) (ltb c (length s)) (ltb 0 (length s)) (test c (length s)) (test 0 (length s)))
     where
       go : (n : ℕ) (b z : Bool) → Test c n b → Test 0 n z → (z && b) ≡ b
@@ -101,23 +101,23 @@ module _ {A : Type 0} (bit : ℕ → A → Bool) where
       go n false true h k = refl
       go n false false h k = refl
 
-  groups-counted : (c i : ℕ) (roots : List A) → length (largerThan c (groupsAt bit i roots)) ≡ sharing c i 0 roots
-  unfolding groupsAt
-  groups-counted c i roots = ap length (nonempty-larger c (members 0 roots (bitWords i))) ∙ sharing-words c i 0 roots
+  groups-counted : (c i : ℕ) (roots : List A) → length (larger_than c (groups_at bit i roots)) ≡ sharing c i 0 roots
+  unfolding groups_at
+  groups-counted c i roots = ap length (nonempty-larger c (members 0 roots (bit_words i))) ∙ sharing-words c i 0 roots
 
   -- ---- all levels
 
-  left-sum : (c n i : ℕ) (s : List A) → sumBelow n (λ k. sharing c k i s) ≡ left c n i s
-  unfolding sumBelow sharing left
+  left-sum : (c n i : ℕ) (s : List A) → sum_below n (λ k. sharing c k i s) ≡ left c n i s
+  unfolding sum_below sharing left
   left-sum c zero i s = refl
   left-sum c (suc n) i s =
-      ap (λ k. large c s + k) (sumBelow-add n (λ k. sharing c k (suc i) (zeros i s)) (λ k. sharing c k (suc i) (ones i s))
+      ap (λ k. large c s + k) (sum_below-add n (λ k. sharing c k (suc i) (zeros i s)) (λ k. sharing c k (suc i) (ones i s))
       ∙ ap₂ ◌+◌ (left-sum c n (suc i) (zeros i s)) (left-sum c n (suc i) (ones i s)))
 
   -- THE COUNT: the groups above c below level m are what the walk down the tree finds
-  pub count_left : (c m : ℕ) (roots : List A) → groupCount bit c m roots ≡ left c m 0 roots
-  unfolding groupCount
-  count_left c m roots = ap (sumBelow m) (fun_ext λ i. groups-counted c i roots) ∙ left-sum c m 0 roots
+  pub count_left : (c m : ℕ) (roots : List A) → group_count bit c m roots ≡ left c m 0 roots
+  unfolding group_count
+  count_left c m roots = ap (sum_below m) (fun_ext λ i. groups-counted c i roots) ∙ left-sum c m 0 roots
 
   -- ---- the bound: the groups of one level are disjoint, and each has at least c + 1 members
 
@@ -132,10 +132,10 @@ module _ {A : Type 0} (bit : ℕ → A → Bool) where
       rw add-mul (omega (arith, sharing-bound c n (suc i) (zeros i s), sharing-bound c n (suc i) (ones i s), keep-both (bit i) s))
 
   -- THE BOUND: at most m times the whole part of s/(c+1)
-  pub count-bound : (c m : ℕ) (roots : List A) → groupCount bit c m roots ≤ m * (length roots / suc c)
-  unfolding groupCount
+  pub count-bound : (c m : ℕ) (roots : List A) → group_count bit c m roots ≤ m * (length roots / suc c)
+  unfolding group_count
   count-bound c m roots =
-      sumBelow-bound m _ _ λ i. rw (groups-counted c i roots) ((le-div_iff_mul-le {k = suc c} (omega arith)).1 (sharing-bound c i 0 roots))
+      sum_below-bound m _ _ λ i. rw (groups-counted c i roots) ((le-div_iff_mul-le {k = suc c} (omega arith)).1 (sharing-bound c i 0 roots))
 
   -- ---- a higher cutoff counts fewer
 
@@ -151,9 +151,9 @@ module _ {A : Type 0} (bit : ℕ → A → Bool) where
   sharing-falls c d (suc n) i s h = omega (arith, sharing-falls c d n (suc i) (zeros i s) h, sharing-falls c d n (suc i) (ones i s) h)
 
   -- step numbers fall or stay equal where the cutoff rises
-  pub count-falls : (c d m : ℕ) (roots : List A) → c ≤ d → groupCount bit d m roots ≤ groupCount bit c m roots
-  unfolding groupCount
-  count-falls c d m roots h = sumBelow-le m _ _ λ i. rw (groups-counted c i roots, groups-counted d i roots) (sharing-falls c d i 0 roots h)
+  pub count-falls : (c d m : ℕ) (roots : List A) → c ≤ d → group_count bit d m roots ≤ group_count bit c m roots
+  unfolding group_count
+  count-falls c d m roots h = sum_below-le m _ _ λ i. rw (groups-counted c i roots, groups-counted d i roots) (sharing-falls c d i 0 roots h)
 
   -- ---- where there are at most c, no part has more
 

@@ -13,16 +13,16 @@ use native.Mathlib.Omega.{arith}
 use lib.ListN.{length}
 use Rattle.algebra.specs.Trial.{Distinct}
 use Rattle.algebra.specs.Polynomial.{Below}
-use Rattle.algebra.proofs.StaysBelow.{rootsOf-below}
-use Rattle.algebra.proofs.RootList.{rootsOf-ascending, rootsOf-distinct}
+use Rattle.algebra.proofs.StaysBelow.{roots_of-below}
+use Rattle.algebra.proofs.RootList.{roots_of-ascending, roots_of-distinct}
 use Rattle.field.specs.Rows.{known}
-use Rattle.field.specs.Field.{rootsAt, G}
-use Rattle.input.specs.Cutoff.{highestCutoff}
+use Rattle.field.specs.Field.{roots_at, G}
+use Rattle.input.specs.Cutoff.{highest_cutoff}
 use Rattle.input.proofs.Fields.{BinaryField, known-field}
 use Rattle.table_rules.specs.Layout.{Layout, Lawful}
-use Rattle.table_rules.specs.Table.{Table, slotsFor, encode}
-use Rattle.table_rules.specs.Splitting.{isDone, stepTable, traceBitAt, halvingAt, slotsStepped, slotsAfter, slotsBegun}
-use Rattle.table_rules.specs.Demand.{groupsAfter, stepCount, Demand3}
+use Rattle.table_rules.specs.Table.{Table, slots_for, encode}
+use Rattle.table_rules.specs.Splitting.{is_done, step_table, trace_bit_at, halving_at, slots_stepped, slots_after, slots_begun}
+use Rattle.table_rules.specs.Demand.{groups_after, step_count, Demand3}
 use Rattle.table_rules.proofs.Counting.{count-bound}
 use Rattle.table_rules.proofs.Soundness.{Valid, encode-sound, decode-encode, length-encode}
 use Rattle.table_rules.proofs.Begun as T
@@ -30,41 +30,41 @@ use Rattle.table_rules.proofs.Finish.{finish-is}
 
 module _ {Y : Layout} (L : Lawful Y) where
   -- one step more on slots
-  pub slots-more : (n : ℕ) (l : List ℕ) → slotsAfter Y (suc n) l ≡ slotsStepped Y (slotsAfter Y n l)
-  unfolding slotsAfter
+  pub slots-more : (n : ℕ) (l : List ℕ) → slots_after Y (suc n) l ≡ slots_stepped Y (slots_after Y n l)
+  unfolding slots_after
   slots-more zero l = refl
-  slots-more (suc n) l = slots-more n (slotsStepped Y l)
+  slots-more (suc n) l = slots-more n (slots_stepped Y l)
 
   -- a step on the slots of a valid table
   stepped-encode : {fields : ℕ → Bool} {limit : ℕ} {t : Table} → Valid fields limit t
-      → slotsStepped Y (encode Y (slotsFor limit) t) ≡ encode Y (slotsFor limit) (stepTable (halvingAt t.width) t)
-  unfolding slotsStepped
+      → slots_stepped Y (encode Y (slots_for limit) t) ≡ encode Y (slots_for limit) (step_table (halving_at t.width) t)
+  unfolding slots_stepped
   stepped-encode {limit = limit} {t = t} v =
-      ap₂ (λ (n : ℕ) (u : Table). encode Y n (stepTable (halvingAt u.width) u)) (length-encode L v) (decode-encode L (slotsFor limit) t)
+      ap₂ (λ (n : ℕ) (u : Table). encode Y n (step_table (halving_at u.width) u)) (length-encode L v) (decode-encode L (slots_for limit) t)
 
 module _ (m : ℕ) (field : known m ≡ true) (c : ℕ) (positive : 1 ≤ c) (f : List ℕ) where
   abbrev B : BinaryField (G m) m 2
   B = known-field m field
 
   abbrev roots : List ℕ
-  roots = rootsAt m f
+  roots = roots_at m f
 
   below : Below (2 ^ m) roots
-  below = rootsOf-below (G m) (2 ^ m) f
+  below = roots_of-below (G m) (2 ^ m) f
 
   distinct : Distinct roots
-  distinct = rootsOf-distinct (G m) (2 ^ m) f
+  distinct = roots_of-distinct (G m) (2 ^ m) f
 
-  valid : (limit : ℕ) → c ≤ highestCutoff → length roots ≤ limit → (n : ℕ) → n ≤ stepCount m c roots → Valid known limit (groupsAfter m c roots n)
+  valid : (limit : ℕ) → c ≤ highest_cutoff → length roots ≤ limit → (n : ℕ) → n ≤ step_count m c roots → Valid known limit (groups_after m c roots n)
   valid limit = T.begun-valid B c positive roots below distinct known limit field
 
-  slots-after : {Y : Layout} → Lawful Y → (limit : ℕ) → c ≤ highestCutoff → length roots ≤ limit → (n : ℕ) → n ≤ stepCount m c roots
-      → slotsAfter Y n (encode Y (slotsFor limit) (groupsAfter m c roots 0)) ≡ encode Y (slotsFor limit) (groupsAfter m c roots n)
-  unfolding slotsAfter
+  slots-after : {Y : Layout} → Lawful Y → (limit : ℕ) → c ≤ highest_cutoff → length roots ≤ limit → (n : ℕ) → n ≤ step_count m c roots
+      → slots_after Y n (encode Y (slots_for limit) (groups_after m c roots 0)) ≡ encode Y (slots_for limit) (groups_after m c roots n)
+  unfolding slots_after
   slots-after L limit most few zero h = refl
   slots-after {Y} L limit most few (suc n) h =
-      slots-more L n (encode Y (slotsFor limit) (groupsAfter m c roots 0)) ∙ ap (slotsStepped Y) (slots-after L limit most few n (omega arith))
-      ∙ stepped-encode L (valid limit most few n (omega arith)) ∙ ap (encode Y (slotsFor limit)) (T.step-next B c positive roots below distinct n)
+      slots-more L n (encode Y (slots_for limit) (groups_after m c roots 0)) ∙ ap (slots_stepped Y) (slots-after L limit most few n (omega arith))
+      ∙ stepped-encode L (valid limit most few n (omega arith)) ∙ ap (encode Y (slots_for limit)) (T.step-next B c positive roots below distinct n)
 
   -- DEMAND 3, in each known field, at each cutoff from 1, for the distinct roots of any polynomial f: demand 2's root
   -- set
@@ -75,17 +75,17 @@ module _ (m : ℕ) (field : known m ≡ true) (c : ℕ) (positive : 1 ≤ c) (f 
     level = T.factor-levels B c positive roots below distinct;
     before = λ n l. (T.not-done-before B c positive roots below distinct n l, T.never_stuck B c positive roots below distinct n l);
     end = T.done_at B c positive roots below distinct;
-    bound = count-bound (traceBitAt m) c m roots;
-    finish = λ n. finish-is m 2 B.numbers c n roots below (rootsOf-ascending (G m) (2 ^ m) f);
-    sounds = λ L limit most few n h. encode-sound L known limit (groupsAfter m c roots n) (valid limit most few n h);
+    bound = count-bound (trace_bit_at m) c m roots;
+    finish = λ n. finish-is m 2 B.numbers c n roots below (roots_of-ascending (G m) (2 ^ m) f);
+    sounds = λ L limit most few n h. encode-sound L known limit (groups_after m c roots n) (valid limit most few n h);
     slots = slots-after;
   }
 
   -- begin writes the groups after no step
-  pub begin-slots : (Y : Layout) (slots : ℕ) → slotsBegun Y slots m c f ≡ encode Y slots (groupsAfter m c roots 0)
-  unfolding slotsBegun
+  pub begin-slots : (Y : Layout) (slots : ℕ) → slots_begun Y slots m c f ≡ encode Y slots (groups_after m c roots 0)
+  unfolding slots_begun
   begin-slots Y slots = ap (encode Y slots) (T.begin-is B c positive roots below distinct)
 
   -- a loop that stops where the table is done has taken that many steps
-  pub steps-to-done : (n : ℕ) → n ≤ stepCount m c roots → isDone (groupsAfter m c roots n) ≡ true → n ≡ stepCount m c roots
+  pub steps-to-done : (n : ℕ) → n ≤ step_count m c roots → is_done (groups_after m c roots n) ≡ true → n ≡ step_count m c roots
   steps-to-done = T.done-only B c positive roots below distinct

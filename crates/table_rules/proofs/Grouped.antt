@@ -1,9 +1,9 @@
 -- A cut by trace bits is a list of groups: which groups, in which order, and that no root is lost or doubled.
---   bitWords-ascend, bitWords-complete   the words of n bits ascend, and they are all of them
+--   bit_words-ascend, bit_words-complete   the words of n bits ascend, and they are all of them
 --   nonempty       no entry of a cut is empty
 --   Grouped i s l  l holds, for ascending words, the members of s whose bits from level i on are the word
 --   CUT-GROUPED    every cut by trace bits is such a list
---   allMembers     all members, entry by entry
+--   all_members     all members, entry by entry
 --   cut-length     it has as many members as there are roots;  cut-member  and they are the roots
 --   Told m         m bits tell the roots apart: a group of level m or more has at most one member
 --   groups-told           where m bits tell elements apart, a group of level m or more has at most one member
@@ -21,8 +21,8 @@ use lib.ListN.{length, length-append}
 use Rattle.algebra.specs.Trial.{keep}
 use Rattle.algebra.specs.Trial.{All, Distinct}
 use Rattle.algebra.proofs.Trial.{all_keep, distinct-keep, keep-passed, kept-member}
-use Rattle.table_rules.specs.Entries.{Entry, Halving, unlessEmpty}
-use Rattle.table_rules.specs.Groups.{bitWords, precedes, InOrder, agrees, group, byBit}
+use Rattle.table_rules.specs.Entries.{Entry, Halving, unless_empty}
+use Rattle.table_rules.specs.Groups.{bit_words, precedes, InOrder, agrees, group, by_bit}
 use Rattle.table_rules.proofs.Lists.{keep-both, all_append, all-mapped, all-to-map}
 use Rattle.table_rules.proofs.Counting.{agrees_first, agrees-none}
 use Rattle.table_rules.proofs.Cut.{Cut, whole, parted}
@@ -53,35 +53,35 @@ ascending-join (v ∷ vs) ws h k = (
   ascending-join vs ws h.1 k,
 )
 
--- all words of n bits, as `groupsAt` takes them, ascend
-bitWords-ascend : (n : ℕ) → InOrder (bitWords n)
-unfolding bitWords
-bitWords-ascend zero = (tt, tt)
-bitWords-ascend (suc n) = ascending-join (bitWords n) (bitWords n) (bitWords-ascend n) (bitWords-ascend n)
+-- all words of n bits, as `groups_at` takes them, ascend
+bit_words-ascend : (n : ℕ) → InOrder (bit_words n)
+unfolding bit_words
+bit_words-ascend zero = (tt, tt)
+bit_words-ascend (suc n) = ascending-join (bit_words n) (bit_words n) (bit_words-ascend n) (bit_words-ascend n)
 
 -- and they are all of them
-bitWords-complete : (w : List Bool) → Memᴰ w (bitWords (length w))
-unfolding bitWords
-bitWords-complete [] = Memᴰ.head refl
-bitWords-complete (false ∷ w) = Memᴰ.append_left (under true (bitWords (length w))) (Memᴰ.map (λ v. false ∷ v) (bitWords-complete w))
-bitWords-complete (true ∷ w) = Memᴰ.append_right (under false (bitWords (length w))) (Memᴰ.map (λ v. true ∷ v) (bitWords-complete w))
+bit_words-complete : (w : List Bool) → Memᴰ w (bit_words (length w))
+unfolding bit_words
+bit_words-complete [] = Memᴰ.head refl
+bit_words-complete (false ∷ w) = Memᴰ.append_left (under true (bit_words (length w))) (Memᴰ.map (λ v. false ∷ v) (bit_words-complete w))
+bit_words-complete (true ∷ w) = Memᴰ.append_right (under false (bit_words (length w))) (Memᴰ.map (λ v. true ∷ v) (bit_words-complete w))
 
 -- ---- no entry of a cut is empty
 
 -- parts that are empty were omitted
 pub nonempty : {A : Type 0} {H : Halving A} {c i : ℕ} {s : List A} {l : List (Entry A)} → Cut H c i s l → All (λ e. 0 < length e.1) l
-unfolding unlessEmpty
+unfolding unless_empty
 nonempty {A} (whole {i} {s}) = go s
   where
-    go : (s : List A) → All (λ e. 0 < length e.1) (unlessEmpty i s)
+    go : (s : List A) → All (λ e. 0 < length e.1) (unless_empty i s)
     go [] = tt
     go (x ∷ s) = (omega arith, tt)
 nonempty (parted {l = l} {r} a p q) = all_append (λ e. 0 < length e.1) l r (nonempty p) (nonempty q)
 
 -- one entry behind the other
-unfoldable pub allMembers : {A : Type 0} → List (Entry A) → List A
-allMembers [] = []
-allMembers (e ∷ l) = e.1 ++ allMembers l
+unfoldable pub all_members : {A : Type 0} → List (Entry A) → List A
+all_members [] = []
+all_members (e ∷ l) = e.1 ++ all_members l
 
 module _ {A : Type 0} (bit : ℕ → A → Bool) where
   -- no two roots share their first m bits
@@ -90,70 +90,70 @@ module _ {A : Type 0} (bit : ℕ → A → Bool) where
 
   -- ---- each entry is a group, and the groups ascend
 
-  abbrev atWord : ℕ → List A → List Bool → Entry A
-  atWord i s w = (i + length w, keep (agrees bit i w) s)
+  abbrev at_word : ℕ → List A → List Bool → Entry A
+  at_word i s w = (i + length w, keep (agrees bit i w) s)
 
   -- words, ascending, and at each its group
   pub record Grouped (i : ℕ) (s : List A) (l : List (Entry A)) : Type 0 where
     pub at : List (List Bool)
     pub ascending : InOrder at
-    pub are : l ≡ map (atWord i s) at
+    pub are : l ≡ map (at_word i s) at
 
-  atWord-under : (i : ℕ) (s : List A) (b : Bool) (ws : List (List Bool))
-      → map (atWord (suc i) (keep (λ r. cond b (bit i r) (not (bit i r))) s)) ws ≡ map (atWord i s) (under b ws)
-  atWord-under i s b ws =
-      sym (map-map (atWord i s) (λ w. b ∷ w) ws
+  at_word-under : (i : ℕ) (s : List A) (b : Bool) (ws : List (List Bool))
+      → map (at_word (suc i) (keep (λ r. cond b (bit i r) (not (bit i r))) s)) ws ≡ map (at_word i s) (under b ws)
+  at_word-under i s b ws =
+      sym (map-map (at_word i s) (λ w. b ∷ w) ws
       ∙ ap (λ f. map f ws) (fun_ext λ w. ap₂ (λ (n : ℕ) (k : List A). (n, k)) (omega arith) (agrees_first bit i b w s)))
 
   -- EACH STATE: every cut is a list of groups in ascending order of trace bits
-  pub cut-grouped : {c i : ℕ} {s : List A} {l : List (Entry A)} → Cut (byBit bit) c i s l → Grouped i s l
-  unfolding unlessEmpty
+  pub cut-grouped : {c i : ℕ} {s : List A} {l : List (Entry A)} → Cut (by_bit bit) c i s l → Grouped i s l
+  unfolding unless_empty
   cut-grouped (whole {i} {s}) = go s (agrees-none bit i s)
     where
-      go : (s : List A) → keep (agrees bit i []) s ≡ s → Grouped i s (unlessEmpty i s)
+      go : (s : List A) → keep (agrees bit i []) s ≡ s → Grouped i s (unless_empty i s)
       go [] e = record { at = []; ascending = tt; are = refl }
       go (x ∷ s) e = record { at = [] ∷ []; ascending = (tt, tt); are = ap₂ (λ (n : ℕ) (k : List A). (n, k) ∷ []) (omega arith) (sym e) }
   cut-grouped (parted {i} {s} {l} {r} a p q) = go (cut-grouped p) (cut-grouped q)
     where
-      go : Grouped (suc i) ((byBit bit).low i s) l → Grouped (suc i) ((byBit bit).high i s) r → Grouped i s (l ++ r)
+      go : Grouped (suc i) ((by_bit bit).low i s) l → Grouped (suc i) ((by_bit bit).high i s) r → Grouped i s (l ++ r)
       go g h = record {
         at = under false g.at ++ under true h.at;
         ascending = ascending-join g.at h.at g.ascending h.ascending;
-        are = ap₂ ◌++◌ (g.are ∙ atWord-under i s false g.at) (h.are ∙ atWord-under i s true h.at) ∙ sym (map-append (atWord i s) (under false g.at) (under true h.at));
+        are = ap₂ ◌++◌ (g.are ∙ at_word-under i s false g.at) (h.are ∙ at_word-under i s true h.at) ∙ sym (map-append (at_word i s) (under false g.at) (under true h.at));
       }
 
   -- ---- no root is lost, and none is doubled
 
-  members-append : (l r : List (Entry A)) → allMembers (l ++ r) ≡ allMembers l ++ allMembers r
-  unfolding allMembers
+  members-append : (l r : List (Entry A)) → all_members (l ++ r) ≡ all_members l ++ all_members r
+  unfolding all_members
   members-append [] r = refl
-  members-append (e ∷ l) r = ap (λ u. e.1 ++ u) (members-append l r) ∙ sym (append_assoc e.1 (allMembers l) (allMembers r))
+  members-append (e ∷ l) r = ap (λ u. e.1 ++ u) (members-append l r) ∙ sym (append_assoc e.1 (all_members l) (all_members r))
 
-  members-entry : (i : ℕ) (s : List A) → allMembers (unlessEmpty i s) ≡ s
-  unfolding unlessEmpty allMembers
+  members-entry : (i : ℕ) (s : List A) → all_members (unless_empty i s) ≡ s
+  unfolding unless_empty all_members
   members-entry i [] = refl
   members-entry i (x ∷ s) = append-nil (x ∷ s)
 
   -- a cut has as many members as there are roots
-  pub cut-length : {c i : ℕ} {s : List A} {l : List (Entry A)} → Cut (byBit bit) c i s l → length (allMembers l) ≡ length s
+  pub cut-length : {c i : ℕ} {s : List A} {l : List (Entry A)} → Cut (by_bit bit) c i s l → length (all_members l) ≡ length s
   cut-length (whole {i} {s}) = ap length (members-entry i s)
   cut-length (parted {i} {s} {l} {r} a p q) =
-      ap length (members-append l r) ∙ length-append (allMembers l) (allMembers r) ∙ ap₂ ◌+◌ (cut-length p) (cut-length q) ∙ keep-both (bit i) s
+      ap length (members-append l r) ∙ length-append (all_members l) (all_members r) ∙ ap₂ ◌+◌ (cut-length p) (cut-length q) ∙ keep-both (bit i) s
 
   -- and they are the roots
-  pub cut-member : {c i : ℕ} {s : List A} {l : List (Entry A)} → Cut (byBit bit) c i s l → (x : A) → Memᴰ x (allMembers l) ↔ Memᴰ x s
+  pub cut-member : {c i : ℕ} {s : List A} {l : List (Entry A)} → Cut (by_bit bit) c i s l → (x : A) → Memᴰ x (all_members l) ↔ Memᴰ x s
   cut-member (whole {i} {s}) x = (subst (Memᴰ x) (members-entry i s), subst (Memᴰ x) (sym (members-entry i s)))
   cut-member (parted {i} {s} {l} {r} a p q) x = (
     λ m. ⊎_elim (λ k. ((kept-member _ s).0 ((cut-member p x).0 k)).0) (λ k. ((kept-member _ s).0 ((cut-member q x).0 k)).0)
-        (Memᴰ.append_cases (allMembers l) (subst (Memᴰ x) (members-append l r) m)),
+        (Memᴰ.append_cases (all_members l) (subst (Memᴰ x) (members-append l r) m)),
     λ m. subst (Memᴰ x) (sym (members-append l r)) (place (bit i x)
         (λ e. (cut-member p x).1 ((kept-member _ s).1 (m, subst (λ b. T (not b)) (sym e) tt))) (λ e. (cut-member q x).1 ((kept-member _ s).1 (m, subst T (sym e) tt))) refl),
   )
     where
-      place : (b : Bool) → (bit i x ≡ false → Memᴰ x (allMembers l)) → (bit i x ≡ true → Memᴰ x (allMembers r)) → bit i x ≡ b
-          → Memᴰ x (allMembers l ++ allMembers r)
-      place true f g e = Memᴰ.append_right (allMembers l) (g e)
-      place false f g e = Memᴰ.append_left (allMembers r) (f e)
+      place : (b : Bool) → (bit i x ≡ false → Memᴰ x (all_members l)) → (bit i x ≡ true → Memᴰ x (all_members r)) → bit i x ≡ b
+          → Memᴰ x (all_members l ++ all_members r)
+      place true f g e = Memᴰ.append_right (all_members l) (g e)
+      place false f g e = Memᴰ.append_left (all_members r) (f e)
 
   -- ---- where m bits tell elements apart, a group of level m or more has at most one member
 

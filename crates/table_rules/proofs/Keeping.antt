@@ -23,42 +23,42 @@ use lib.Dec.{eqb, leb}
 use lib.ListN.{length}
 use Rattle.algebra.specs.Field.{Ops, power}
 use Rattle.algebra.specs.Trial.{All}
-use Rattle.algebra.specs.Polynomial.{Below, traceOf}
+use Rattle.algebra.specs.Polynomial.{Below, trace_of}
 use Rattle.algebra.specs.Routines.{gcd}
-use Rattle.algebra.proofs.StaysBelow.{gcd-below, cofactor-below, traceOf-below}
+use Rattle.algebra.proofs.StaysBelow.{gcd-below, cofactor-below, trace_of-below}
 use Rattle.algebra.proofs.Lengths.{length-parts}
 use Rattle.field.specs.Rows.{known}
 use Rattle.input.proofs.Fields.{BinaryField, known-field, level-below}
-use Rattle.table_rules.specs.Entries.{Halving, unlessEmpty, parts, splitAt, entry_at, firstAbove, step}
-use Rattle.table_rules.specs.Layout.{Factor, Layout, degreeSum, Lawful}
-use Rattle.table_rules.specs.Table.{Table, limitOf, slotsFor, encode, decode, sound}
-use Rattle.table_rules.specs.Splitting.{traceHalving, isDone, firstFactor, stuck, stepTable, halvingAt, slotsDone, slotsStuck, slotsStepped}
+use Rattle.table_rules.specs.Entries.{Halving, unless_empty, parts, split_entries, entry_at, first_above, step}
+use Rattle.table_rules.specs.Layout.{Factor, Layout, degree_sum, Lawful}
+use Rattle.table_rules.specs.Table.{Table, limit_of, slots_for, encode, decode, sound}
+use Rattle.table_rules.specs.Splitting.{trace_halving, is_done, first_factor, stuck, step_table, halving_at, slots_done, slots_stuck, slots_stepped}
 use Rattle.table_rules.proofs.Lists.{all_append}
 use Rattle.table_rules.proofs.Soundness.{Fair, Valid, sound-valid, sound-encoded, encode-sound, length-encode}
 
 -- ---- refusal 9
 
 -- given exactly when
-pub stuck-exactly : (t : Table) → (stuck t ≡ true) ↔ ((isDone t ≡ false) × (((firstFactor t).0 ≡ t.width) ⊎ (t.taken ≡ limitOf t)))
+pub stuck-exactly : (t : Table) → (stuck t ≡ true) ↔ ((is_done t ≡ false) × (((first_factor t).0 ≡ t.width) ⊎ (t.taken ≡ limit_of t)))
 stuck-exactly t = (
-  λ h. told (isDone t) (eqb (firstFactor t).0 t.width) (eqb t.taken (limitOf t)) refl refl refl h,
+  λ h. told (is_done t) (eqb (first_factor t).0 t.width) (eqb t.taken (limit_of t)) refl refl refl h,
   λ k. holds k.0 k.1,
 )
   where
-    told : (d a b : Bool) → isDone t ≡ d → eqb (firstFactor t).0 t.width ≡ a → eqb t.taken (limitOf t) ≡ b → (not d && (a || b)) ≡ true
-        → (isDone t ≡ false) × (((firstFactor t).0 ≡ t.width) ⊎ (t.taken ≡ limitOf t))
+    told : (d a b : Bool) → is_done t ≡ d → eqb (first_factor t).0 t.width ≡ a → eqb t.taken (limit_of t) ≡ b → (not d && (a || b)) ≡ true
+        → (is_done t ≡ false) × (((first_factor t).0 ≡ t.width) ⊎ (t.taken ≡ limit_of t))
     told true a b p q r h = absurd (false≢true h)
-    told false true b p q r h = (p, inl (eqb-true (firstFactor t).0 t.width q))
-    told false false true p q r h = (p, inr (eqb-true t.taken (limitOf t) r))
+    told false true b p q r h = (p, inl (eqb-true (first_factor t).0 t.width q))
+    told false false true p q r h = (p, inr (eqb-true t.taken (limit_of t) r))
     told false false false p q r h = absurd (false≢true h)
 
     right : (a : Bool) → (a || true) ≡ true
     right true = refl
     right false = refl
 
-    holds : isDone t ≡ false → ((firstFactor t).0 ≡ t.width) ⊎ (t.taken ≡ limitOf t) → stuck t ≡ true
-    holds d (inl e) = rw (d, eq-eqb (firstFactor t).0 t.width e)
-    holds d (inr e) = rw (d, eq-eqb t.taken (limitOf t) e) (right (eqb (firstFactor t).0 t.width))
+    holds : is_done t ≡ false → ((first_factor t).0 ≡ t.width) ⊎ (t.taken ≡ limit_of t) → stuck t ≡ true
+    holds d (inl e) = rw (d, eq-eqb (first_factor t).0 t.width e)
+    holds d (inr e) = rw (d, eq-eqb t.taken (limit_of t) e) (right (eqb (first_factor t).0 t.width))
 
 -- every entry, and none past the end, has a level of at most m
 level-most : (m : ℕ) (l : List Factor) → All (Fair m) l → (k : ℕ) → (entry_at l k).0 ≤ m
@@ -68,11 +68,11 @@ level-most m (e ∷ l) h (suc k) = level-most m l h.1 k
 
 -- as code compares
 pub stuck-order : {fields : ℕ → Bool} {limit : ℕ} {t : Table} → Valid fields limit t
-    → stuck t ≡ (not (isDone t) && (leb t.width (firstFactor t).0 || leb (limitOf t) t.taken))
+    → stuck t ≡ (not (is_done t) && (leb t.width (first_factor t).0 || leb (limit_of t) t.taken))
 stuck-order {t = t} v =
-    ap₂ (λ (a b : Bool). not (isDone t) && (a || b))
-    (turn (firstFactor t).0 t.width (level-most t.width t.factors v.factors (firstAbove t.cutoff t.factors)))
-    (turn t.taken (limitOf t) v.steps)
+    ap₂ (λ (a b : Bool). not (is_done t) && (a || b))
+    (turn (first_factor t).0 t.width (level-most t.width t.factors v.factors (first_above t.cutoff t.factors)))
+    (turn t.taken (limit_of t) v.steps)
   where
     turn : (x y : ℕ) → x ≤ y → eqb x y ≡ leb y x
     turn x y h = go (leb y x) refl
@@ -83,15 +83,15 @@ stuck-order {t = t} v =
 
 -- a step may be taken
 pub record Free (t : Table) : Type 0 where
-  pub level : (firstFactor t).0 < t.width
-  pub steps : t.taken < limitOf t
+  pub level : (first_factor t).0 < t.width
+  pub steps : t.taken < limit_of t
 
 -- it may where neither "done" nor 9 is answered
-pub free : {fields : ℕ → Bool} {limit : ℕ} (t : Table) → Valid fields limit t → isDone t ≡ false → stuck t ≡ false → Free t
+pub free : {fields : ℕ → Bool} {limit : ℕ} (t : Table) → Valid fields limit t → is_done t ≡ false → stuck t ≡ false → Free t
 free t v d s =
-    let no : ((firstFactor t).0 ≡ t.width) ⊎ (t.taken ≡ limitOf t) → ⊥ = λ o. true≢false (sym ((stuck-exactly t).1 (d, o)) ∙ s) in
+    let no : ((first_factor t).0 ≡ t.width) ⊎ (t.taken ≡ limit_of t) → ⊥ = λ o. true≢false (sym ((stuck-exactly t).1 (d, o)) ∙ s) in
     record {
-      level = lt_of_le-ne (level-most t.width t.factors v.factors (firstAbove t.cutoff t.factors)) (λ e. no (inl e));
+      level = lt_of_le-ne (level-most t.width t.factors v.factors (first_above t.cutoff t.factors)) (λ e. no (inl e));
       steps = lt_of_le-ne v.steps (λ e. no (inr e));
     }
 
@@ -104,38 +104,38 @@ pub record LosslessHalving (H : Halving ℕ) (m i : ℕ) (p : List ℕ) : Type 0
   pub high : Below (2 ^ m) (H.high i p)
 
 -- gcd and cofactor share out the degree
-pub trace-halves : {G : Ops ℕ} {m a : ℕ} → BinaryField G m a → (i : ℕ) (p : List ℕ) → Below (2 ^ m) p → LosslessHalving (traceHalving G m a) m i p
+pub trace-halves : {G : Ops ℕ} {m a : ℕ} → BinaryField G m a → (i : ℕ) (p : List ℕ) → Below (2 ^ m) p → LosslessHalving (trace_halving G m a) m i p
 trace-halves {G} {m} {a} B i p h =
-    let t : List ℕ = traceOf G m (power G a i) in
-    let small : Below (2 ^ m) t = traceOf-below B.numbers m (power G a i) (level-below B i) in
+    let t : List ℕ = trace_of G m (power G a i) in
+    let small : Below (2 ^ m) t = trace_of-below B.numbers m (power G a i) (level-below B i) in
     let g : Below (2 ^ m) (gcd G p t) = gcd-below B.numbers p t h small in
     record { sum = length-parts G p t; low = g; high = cofactor-below B.numbers p (gcd G p t) h g }
 
 -- of two lists, one behind the other
-degreeSum-append : (l r : List Factor) → degreeSum (l ++ r) ≡ degreeSum l + degreeSum r
-unfolding degreeSum
-degreeSum-append [] r = omega arith
-degreeSum-append (e ∷ l) r = omega (arith, degreeSum-append l r)
+degree_sum-append : (l r : List Factor) → degree_sum (l ++ r) ≡ degree_sum l + degree_sum r
+unfolding degree_sum
+degree_sum-append [] r = omega arith
+degree_sum-append (e ∷ l) r = omega (arith, degree_sum-append l r)
 
 -- of one entry, or none
-degreeSum-entry : (i : ℕ) (s : List ℕ) → degreeSum (unlessEmpty i s) ≡ length s
-unfolding degreeSum unlessEmpty
-degreeSum-entry i [] = refl
-degreeSum-entry i (x ∷ s) = omega arith
+degree_sum-entry : (i : ℕ) (s : List ℕ) → degree_sum (unless_empty i s) ≡ length s
+unfolding degree_sum unless_empty
+degree_sum-entry i [] = refl
+degree_sum-entry i (x ∷ s) = omega arith
 
 -- an entry within the rules
-pub entry-fair : (m i : ℕ) (s : List ℕ) → i ≤ m → Below (2 ^ m) s → All (Fair m) (unlessEmpty i s)
-unfolding unlessEmpty
+pub entry-fair : (m i : ℕ) (s : List ℕ) → i ≤ m → Below (2 ^ m) s → All (Fair m) (unless_empty i s)
+unfolding unless_empty
 entry-fair m i [] h k = tt
 entry-fair m i (x ∷ s) h k = (record { level = h; degree = omega arith; coefficients = k }, tt)
 
 module _ (H : Halving ℕ) (m : ℕ) (halves : (i : ℕ) (p : List ℕ) → Below (2 ^ m) p → LosslessHalving H m i p) where
   -- the parts of a factor have its degree
-  pub parts-sum : (e : Factor) → Fair m e → degreeSum (parts H e) ≡ length e.1
+  pub parts-sum : (e : Factor) → Fair m e → degree_sum (parts H e) ≡ length e.1
   unfolding parts
   parts-sum e h =
-      degreeSum-append (unlessEmpty (suc e.0) (H.low e.0 e.1)) (unlessEmpty (suc e.0) (H.high e.0 e.1))
-      ∙ ap₂ ◌+◌ (degreeSum-entry (suc e.0) (H.low e.0 e.1)) (degreeSum-entry (suc e.0) (H.high e.0 e.1))
+      degree_sum-append (unless_empty (suc e.0) (H.low e.0 e.1)) (unless_empty (suc e.0) (H.high e.0 e.1))
+      ∙ ap₂ ◌+◌ (degree_sum-entry (suc e.0) (H.low e.0 e.1)) (degree_sum-entry (suc e.0) (H.high e.0 e.1))
       ∙ (halves e.0 e.1 h.coefficients).sum
 
   -- and are within the rules, one level further
@@ -143,17 +143,17 @@ module _ (H : Halving ℕ) (m : ℕ) (halves : (i : ℕ) (p : List ℕ) → Belo
   unfolding parts
   parts-fair e h g =
       let t = halves e.0 e.1 h.coefficients in
-      all_append (Fair m) (unlessEmpty (suc e.0) (H.low e.0 e.1)) (unlessEmpty (suc e.0) (H.high e.0 e.1))
+      all_append (Fair m) (unless_empty (suc e.0) (H.low e.0 e.1)) (unless_empty (suc e.0) (H.high e.0 e.1))
       (entry-fair m (suc e.0) (H.low e.0 e.1) g t.low) (entry-fair m (suc e.0) (H.high e.0 e.1) g t.high)
 
-  split-sum : (k : ℕ) (l : List Factor) → All (Fair m) l → degreeSum (splitAt H k l) ≡ degreeSum l
-  unfolding splitAt degreeSum
+  split-sum : (k : ℕ) (l : List Factor) → All (Fair m) l → degree_sum (split_entries H k l) ≡ degree_sum l
+  unfolding split_entries degree_sum
   split-sum k [] h = refl
-  split-sum zero (e ∷ l) h = degreeSum-append (parts H e) l ∙ ap (λ n. n + degreeSum l) (parts-sum e h.0)
+  split-sum zero (e ∷ l) h = degree_sum-append (parts H e) l ∙ ap (λ n. n + degree_sum l) (parts-sum e h.0)
   split-sum (suc k) (e ∷ l) h = ap (λ n. length e.1 + n) (split-sum k l h.1)
 
-  split-fair : (k : ℕ) (l : List Factor) → All (Fair m) l → (entry_at l k).0 < m → All (Fair m) (splitAt H k l)
-  unfolding splitAt
+  split-fair : (k : ℕ) (l : List Factor) → All (Fair m) l → (entry_at l k).0 < m → All (Fair m) (split_entries H k l)
+  unfolding split_entries
   split-fair k [] h g = tt
   split-fair zero (e ∷ l) h g = all_append (Fair m) (parts H e) l (parts-fair e h.0 g) h.1
   split-fair (suc k) (e ∷ l) h g = (h.0, split-fair k l h.1 g)
@@ -162,12 +162,12 @@ module _ (H : Halving ℕ) (m : ℕ) (halves : (i : ℕ) (p : List ℕ) → Belo
 
 module _ (H : Halving ℕ) {fields : ℕ → Bool} {limit : ℕ} (t : Table) (halves : (i : ℕ) (p : List ℕ) → Below (2 ^ t.width) p → LosslessHalving H t.width i p) where
   -- A STEP keeps a table valid
-  pub step-valid : Valid fields limit t → isDone t ≡ false → stuck t ≡ false → Valid fields limit (stepTable H t)
+  pub step-valid : Valid fields limit t → is_done t ≡ false → stuck t ≡ false → Valid fields limit (step_table H t)
   unfolding step
   step-valid v n s =
-      let k : ℕ = firstAbove t.cutoff t.factors in
+      let k : ℕ = first_above t.cutoff t.factors in
       let f : Free t = free t v n s in
-      let same : degreeSum (splitAt H k t.factors) ≡ degreeSum t.factors = split-sum H t.width halves k t.factors v.factors in
+      let same : degree_sum (split_entries H k t.factors) ≡ degree_sum t.factors = split-sum H t.width halves k t.factors v.factors in
       record {
         field = v.field;
         cutoff-least = v.cutoff-least;
@@ -179,19 +179,19 @@ module _ (H : Halving ℕ) {fields : ℕ → Bool} {limit : ℕ} (t : Table) (ha
 
 module _ {Y : Layout} (L : Lawful Y) (limit : ℕ) (l : List ℕ) (h : sound Y known limit l ≡ true) where
   -- sound slots are as many as they should be
-  pub sound-length : length l ≡ slotsFor limit
+  pub sound-length : length l ≡ slots_for limit
   sound-length = ap length (sym (sound-encoded L known limit l h)) ∙ length-encode L (sound-valid L known limit l h)
 
   -- and is written in as many slots
-  pub step-slots : slotsStepped Y l ≡ encode Y (slotsFor limit) (stepTable (halvingAt (decode Y l).width) (decode Y l))
-  unfolding slotsStepped
-  step-slots = ap (λ n. encode Y n (stepTable (halvingAt (decode Y l).width) (decode Y l))) sound-length
+  pub step-slots : slots_stepped Y l ≡ encode Y (slots_for limit) (step_table (halving_at (decode Y l).width) (decode Y l))
+  unfolding slots_stepped
+  step-slots = ap (λ n. encode Y n (step_table (halving_at (decode Y l).width) (decode Y l))) sound-length
 
   -- A STEP KEEPS SOUNDNESS, in any layout and each known field: of slots that are not done and not refused
-  pub step-sound : slotsDone Y l ≡ false → slotsStuck Y l ≡ false → sound Y known limit (slotsStepped Y l) ≡ true
-  unfolding slotsDone slotsStuck
+  pub step-sound : slots_done Y l ≡ false → slots_stuck Y l ≡ false → sound Y known limit (slots_stepped Y l) ≡ true
+  unfolding slots_done slots_stuck
   step-sound d s =
       let t : Table = decode Y l in
       let v : Valid known limit t = sound-valid L known limit l h in
-      rw step-slots (encode-sound L known limit (stepTable (halvingAt t.width) t)
-      (step-valid (halvingAt t.width) t (trace-halves (known-field t.width v.field)) v d s))
+      rw step-slots (encode-sound L known limit (step_table (halving_at t.width) t)
+      (step-valid (halving_at t.width) t (trace-halves (known-field t.width v.field)) v d s))

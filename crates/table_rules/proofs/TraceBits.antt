@@ -10,12 +10,12 @@ use Prim.Native.Nat.{ℕ, ◌^◌, ◌<◌}
 use Rattle.algebra.specs.Field.{Ops, power, trace}
 use Rattle.algebra.specs.Trial.{Distinct, keep}
 use Rattle.algebra.specs.Polynomial.{Below}
-use Rattle.algebra.specs.Routines.{monicRoots}
+use Rattle.algebra.specs.Routines.{monic_roots}
 use Rattle.algebra.proofs.NumberSteps.{step-gcd, step-cofactor}
 use Rattle.algebra.proofs.NumberTrace.{tests-apart}
 use Rattle.input.proofs.Fields.{BinaryField, level-below}
-use Rattle.table_rules.specs.Groups.{byBit}
-use Rattle.table_rules.specs.Splitting.{traceBit, traceHalving}
+use Rattle.table_rules.specs.Groups.{by_bit}
+use Rattle.table_rules.specs.Splitting.{trace_bit, trace_halving}
 use Rattle.table_rules.proofs.Carry.{Commutes}
 
 not-not : (b : Bool) → not (not b) ≡ b
@@ -24,7 +24,7 @@ not-not false = refl
 
 module _ {G : Ops ℕ} {m a : ℕ} (B : BinaryField G m a) where
   -- trace bits tell elements apart
-  pub bits-apart : (x y : ℕ) → x < 2 ^ m → y < 2 ^ m → ((i : ℕ) → i < m → traceBit G m a i x ≡ traceBit G m a i y) → x ≡ y
+  pub bits-apart : (x y : ℕ) → x < 2 ^ m → y < 2 ^ m → ((i : ℕ) → i < m → trace_bit G m a i x ≡ trace_bit G m a i y) → x ≡ y
   bits-apart x y hx hy h =
       tests-apart B.numbers m refl B.zero_is B.add_is B.positive B.fermat x y hx hy λ i l.
       ap (λ b. G.is_zero (trace G m (G.mul b x))) (sym (B.power-is i l))
@@ -32,8 +32,8 @@ module _ {G : Ops ℕ} {m a : ℕ} (B : BinaryField G m a) where
       ∙ ap (λ b. G.is_zero (trace G m (G.mul b y))) (B.power-is i l)
 
   -- gcd keeps the members with trace bit 0, and the cofactor the others
-  pub group-commutes : (i : ℕ) (s : List ℕ) → Below (2 ^ m) s → Distinct s → Commutes (byBit (traceBit G m a)) (traceHalving G m a) (monicRoots G) (i, s)
+  pub group-commutes : (i : ℕ) (s : List ℕ) → Below (2 ^ m) s → Distinct s → Commutes (by_bit (trace_bit G m a)) (trace_halving G m a) (monic_roots G) (i, s)
   group-commutes i s b d = record {
-    low = step-gcd B.numbers m (power G a i) (level-below B i) s b d ∙ ap (λ t. monicRoots G (keep t s)) (fun_ext λ r. sym (not-not _));
+    low = step-gcd B.numbers m (power G a i) (level-below B i) s b d ∙ ap (λ t. monic_roots G (keep t s)) (fun_ext λ r. sym (not-not _));
     high = step-cofactor B.numbers m (power G a i) (level-below B i) s b d;
   }

@@ -4,17 +4,17 @@
 --   slots_of         a factor's own slots;  spare  the zeros behind the last factor
 -- Assumes nothing.
 use Rattle.std.specs.Prelude.{List, ◌∷◌, ℕ, suc, ◌-◌, length, take, drop}
-use Rattle.table_rules.specs.Entries.{firstAbove}
+use Rattle.table_rules.specs.Entries.{first_above}
 use Rattle.table_rules.specs.Layout.{Factor, blocks}
 use Rattle.table_rules.specs.Table.{Table}
 
 -- those before it
 abbrev pub ahead : Table → List Factor
-ahead t = take (firstAbove t.cutoff t.factors) t.factors
+ahead t = take (first_above t.cutoff t.factors) t.factors
 
 -- those behind it
 abbrev pub beyond : Table → List Factor
-beyond t = drop (suc (firstAbove t.cutoff t.factors)) t.factors
+beyond t = drop (suc (first_above t.cutoff t.factors)) t.factors
 
 -- the slots in front of it
 abbrev pub leading : Table → List ℕ

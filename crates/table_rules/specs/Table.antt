@@ -1,17 +1,17 @@
 -- The work table (docs/RULES.md sections 4.1 and 4.5): what its slots hold, and when they are sound.
 --   Table      field degree, cutoff in force, steps taken, factors
---   stepLimit  what slot 3 may be: m times the whole part of s/(c+1);  limitOf  of a table
---   headSlots  the slots in front of the factors: m, the cutoff in force, the number of factors, the steps taken
---   slotsFor   how many slots a table has whose degrees may sum up to the limit: 100 for 32, 196 for 64
+--   step_limit  what slot 3 may be: m times the whole part of s/(c+1);  limit_of  of a table
+--   head_slots  the slots in front of the factors: m, the cutoff in force, the number of factors, the steps taken
+--   slots_for   how many slots a table has whose degrees may sum up to the limit: 100 for 32, 196 for 64
 --   padded     n slots: zeros behind a list
 --   encode     the slots of a table;  decode  the table that slots hold
 --   every      does a test hold of each element?
 --   sound      the rules of RULES 4.5, over the layout, the known fields and the limit
 -- Assumes nothing.
 use Rattle.std.specs.Prelude.{Bool, true, ◌&&◌, List, [], ◌∷◌, ◌++◌, map, ℕ, suc, ◌+◌, ◌-◌, ◌*◌, ◌/◌, ◌^◌, leb, eqb, length, get_or, drop, replicate}
-use Rattle.slices.specs.Bounded.{all_below, allZero}
-use Rattle.input.specs.Cutoff.{highestCutoff}
-use Rattle.table_rules.specs.Layout.{factorSlots, Factor, StatedFactor, factorOf, degreeSum, statedSum, Layout}
+use Rattle.slices.specs.Bounded.{all_below, all_zero}
+use Rattle.input.specs.Cutoff.{highest_cutoff}
+use Rattle.table_rules.specs.Layout.{factor_slots, Factor, StatedFactor, factor_of, degree_sum, stated_sum, Layout}
 
 pub record Table : Type 0 where
   pub width : ℕ
@@ -19,18 +19,18 @@ pub record Table : Type 0 where
   pub taken : ℕ
   pub factors : List Factor
 
-abbrev pub stepLimit : ℕ → ℕ → ℕ → ℕ
-stepLimit m c s = m * (s / suc c)
+abbrev pub step_limit : ℕ → ℕ → ℕ → ℕ
+step_limit m c s = m * (s / suc c)
 
-abbrev pub limitOf : Table → ℕ
-limitOf t = stepLimit t.width t.cutoff (degreeSum t.factors)
+abbrev pub limit_of : Table → ℕ
+limit_of t = step_limit t.width t.cutoff (degree_sum t.factors)
 
-abbrev pub headSlots : ℕ
-headSlots = 4
+abbrev pub head_slots : ℕ
+head_slots = 4
 
 -- a factor of degree 1 takes three
-abbrev pub slotsFor : ℕ → ℕ
-slotsFor limit = headSlots + suc factorSlots * limit
+abbrev pub slots_for : ℕ → ℕ
+slots_for limit = head_slots + suc factor_slots * limit
 
 abbrev pub padded : ℕ → List ℕ → List ℕ
 padded n l = l ++ replicate (n - length l) 0
@@ -49,7 +49,7 @@ module _ (Y : Layout) where
     width = get_or l 0 0;
     cutoff = Y.unmark (get_or l 1 0);
     taken = get_or l 3 0;
-    factors = map factorOf (Y.read (get_or l 2 0) (drop headSlots l));
+    factors = map factor_of (Y.read (get_or l 2 0) (drop head_slots l));
   }
 
   -- A TABLE IS SOUND if slot 0 is a known degree; slot 1 is 1 to 3; slot 2 is at most the limit; levels are at most m;
@@ -60,14 +60,14 @@ module _ (Y : Layout) where
       let m : ℕ = get_or l 0 0 in
       let c : ℕ = Y.unmark (get_or l 1 0) in
       let n : ℕ = get_or l 2 0 in
-      let fs : List StatedFactor = Y.read n (drop headSlots l) in
-      let s : ℕ = statedSum fs in
-      eqb (length l) (slotsFor limit)
+      let fs : List StatedFactor = Y.read n (drop head_slots l) in
+      let s : ℕ = stated_sum fs in
+      eqb (length l) (slots_for limit)
       && known m
-      && (leb 1 c && leb c highestCutoff)
+      && (leb 1 c && leb c highest_cutoff)
       && leb n limit
       && every (λ f. leb f.level m) fs
       && (every (λ f. leb 1 f.degree) fs && leb s limit)
       && every (λ f. all_below (2 ^ m) f.coefficients) fs
-      && leb (get_or l 3 0) (stepLimit m c s)
-      && allZero (Y.rest n (drop headSlots l))
+      && leb (get_or l 3 0) (step_limit m c s)
+      && all_zero (Y.rest n (drop head_slots l))

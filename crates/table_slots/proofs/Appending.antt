@@ -12,13 +12,13 @@ use native.Mathlib.Numerals.{add-one, add-two}
 use native.Mathlib.Omega.{arith}
 use lib.ListN.{length, take, drop, set, length-append, take-append-drop}
 use Rattle.slices.specs.Lists.{pasted}
-use Rattle.table_rules.specs.Entries.{unlessEmpty}
+use Rattle.table_rules.specs.Entries.{unless_empty}
 use Rattle.table_rules.specs.Layout.{blocks}
 use Rattle.table_slots.specs.Slots.{Appended}
 
 -- a constant part leaves everything as it was
 pub append-none : (at level : ℕ) (low w : List ℕ) → length low ≡ 0 → Appended at level low w at w
-unfolding unlessEmpty blocks pasted
+unfolding unless_empty blocks pasted
 append-none at level [] w h = record { slots = sym (ap (λ n. take at w ++ drop n w) (add-zero at) ∙ take-append-drop at w); place = omega arith }
 append-none at level (x ∷ low) w h = absurd (omega arith)
 
@@ -30,8 +30,8 @@ stamp zero (x ∷ y ∷ w) r a b h = refl
 stamp (suc at) (x ∷ w) r a b h = ap (λ l. x ∷ l) (stamp at w r a b (le_of_suc-le-suc h))
 
 -- the slots of a factor that is not constant
-solid-slots : (level : ℕ) (low : List ℕ) → length low ≢ 0 → blocks (unlessEmpty level low) ≡ level ∷ length low ∷ low
-unfolding unlessEmpty blocks
+solid-slots : (level : ℕ) (low : List ℕ) → length low ≢ 0 → blocks (unless_empty level low) ≡ level ∷ length low ∷ low
+unfolding unless_empty blocks
 solid-slots level [] n = absurd (n refl)
 solid-slots level (x ∷ low) n = ap (λ l. level ∷ suc (length low) ∷ x ∷ l) (append-nil low)
 
@@ -51,7 +51,7 @@ append-some at level low w {w₁} n h e =
     }
 
 -- two slots more than coefficients, or none
-pub some-slots : (i : ℕ) (low : List ℕ) → length (blocks (unlessEmpty i low)) ≤ length low + 2
-unfolding unlessEmpty blocks
+pub some-slots : (i : ℕ) (low : List ℕ) → length (blocks (unless_empty i low)) ≤ length low + 2
+unfolding unless_empty blocks
 some-slots i [] = omega arith
 some-slots i (x ∷ low) = omega (arith, length-append low [])

@@ -13,17 +13,17 @@ use lib.Dec.{ltb}
 use lib.ListN.{length, get_or, take, replicate, length-append}
 use lib.Seq.{get_or-append-add}
 use Rattle.field.specs.Rows.{known}
-use Rattle.table_rules.specs.Entries.{above, firstAbove, done}
-use Rattle.table_rules.specs.Layout.{factorSlots, Factor, blocks, byFactor}
-use Rattle.table_rules.specs.Table.{Table, slotsFor, encode, decode}
-use Rattle.table_rules.specs.Splitting.{isDone, firstFactor, slotsDone}
+use Rattle.table_rules.specs.Entries.{above, first_above, done}
+use Rattle.table_rules.specs.Layout.{factor_slots, Factor, blocks, by_factor}
+use Rattle.table_rules.specs.Table.{Table, slots_for, encode, decode}
+use Rattle.table_rules.specs.Splitting.{is_done, first_factor, slots_done}
 use Rattle.table_rules.specs.Places.{beyond, leading, place, slots_of, spare}
-use Rattle.table_rules.specs.Sizes.{limitBy, isSound}
-use Rattle.table_rules.proofs.Layouts.{byFactor-lawful}
+use Rattle.table_rules.specs.Sizes.{limit_by, is_sound}
+use Rattle.table_rules.proofs.Layouts.{by_factor-lawful}
 use Rattle.table_rules.proofs.Soundness.{Valid, sound-valid, sound-encoded}
 use Rattle.table_rules.proofs.Places.{level-at, encode-around}
-use Rattle.table_slots.specs.Slots.{cutoffOf, levelAt}
-use Rattle.table_slots.specs.Walk.{seek, soughtIn}
+use Rattle.table_slots.specs.Slots.{cutoff_of, level_at}
+use Rattle.table_slots.specs.Walk.{seek, sought_in}
 use Rattle.table_slots.specs.declared.Spot.{Spot}
 use Rattle.table_slots.specs.declared.Spot.TheVariants.{At, Nowhere}
 
@@ -37,7 +37,7 @@ module _ (c : ℕ) (s : List ℕ) (n at : ℕ) (h : at + 1 < length s) {d : ℕ}
   seek-here t = rw (lt-leb (length s) (at + 1) h, e, t)
 
   -- the place is further on
-  seek-past : ltb c d ≡ false → seek c s (suc n) at ≡ seek c s n (at + (d + factorSlots))
+  seek-past : ltb c d ≡ false → seek c s (suc n) at ≡ seek c s n (at + (d + factor_slots))
   unfolding seek
   seek-past t = rw (lt-leb (length s) (at + 1) h, e, t)
 
@@ -60,8 +60,8 @@ module _ (e : Factor) (fs : List Factor) (pre z : List ℕ) where
 
 -- the place is behind the slots of the factors before
 seek-of : (c : ℕ) (fs : List Factor) (pre z : List ℕ)
-    → seek c (pre ++ (blocks fs ++ z)) (length fs) (length pre) ≡ cond (done c fs) Nowhere (At (length pre + length (blocks (take (firstAbove c fs) fs))))
-unfolding seek done firstAbove blocks
+    → seek c (pre ++ (blocks fs ++ z)) (length fs) (length pre) ≡ cond (done c fs) Nowhere (At (length pre + length (blocks (take (first_above c fs) fs))))
+unfolding seek done first_above blocks
 seek-of c [] pre z = refl
 seek-of c (e ∷ fs) pre z = go (above c e) refl (seek-of c fs (pre ++ slots_of e) z)
   where
@@ -72,12 +72,12 @@ seek-of c (e ∷ fs) pre z = go (above c e) refl (seek-of c fs (pre ++ slots_of 
     at = length pre + (length e.1 + 2)
 
     before : List Factor
-    before = take (firstAbove c fs) fs
+    before = take (first_above c fs) fs
 
     go : (b : Bool) → above c e ≡ b
         → seek c ((pre ++ slots_of e) ++ (blocks fs ++ z)) (length fs) (length (pre ++ slots_of e))
         ≡ cond (done c fs) Nowhere (At (length (pre ++ slots_of e) + length (blocks before)))
-        → seek c s (suc (length fs)) (length pre) ≡ cond (not b && done c fs) Nowhere (At (length pre + length (blocks (take (cond b 0 (suc (firstAbove c fs))) (e ∷ fs)))))
+        → seek c s (suc (length fs)) (length pre) ≡ cond (not b && done c fs) Nowhere (At (length pre + length (blocks (take (cond b 0 (suc (first_above c fs))) (e ∷ fs)))))
     go true t ih = seek-here c s (length fs) (length pre) (long e fs pre z) (degree e fs pre z) t ∙ ap At (omega arith)
     go false t ih =
         let l : length (pre ++ slots_of e) ≡ at = length-append pre (slots_of e) ∙ omega arith in
@@ -87,33 +87,33 @@ seek-of c (e ∷ fs) pre z = go (above c e) refl (seek-of c fs (pre ++ slots_of 
 
 -- ---- a sound table
 
-module _ (l : List ℕ) (s : isSound l ≡ true) where
+module _ (l : List ℕ) (s : is_sound l ≡ true) where
   -- the table that the slots hold
   abbrev t : Table
-  t = decode byFactor l
+  t = decode by_factor l
 
   -- it is valid
-  valid : Valid known (limitBy l) t
-  valid = sound-valid byFactor-lawful known (limitBy l) l s
+  valid : Valid known (limit_by l) t
+  valid = sound-valid by_factor-lawful known (limit_by l) l s
 
   -- and the slots are its encoding
-  encoded : encode byFactor (slotsFor (limitBy l)) t ≡ l
-  encoded = sound-encoded byFactor-lawful known (limitBy l) l s
+  encoded : encode by_factor (slots_for (limit_by l)) t ≡ l
+  encoded = sound-encoded by_factor-lawful known (limit_by l) l s
 
-  module _ {f : Spot} (e : f ≡ soughtIn (cutoffOf l) l) where
+  module _ {f : Spot} (e : f ≡ sought_in (cutoff_of l) l) where
     -- what is answered
-    sought : f ≡ cond (isDone t) Nowhere (At (place t))
+    sought : f ≡ cond (is_done t) Nowhere (At (place t))
     unfolding encode
     sought =
-        let j : length (t.width ∷ t.cutoff ∷ length t.factors ∷ t.taken ∷ []) + length (blocks (take (firstAbove t.cutoff t.factors) t.factors)) ≡ place t = omega arith in
-        e ∙ ap (λ u. soughtIn (cutoffOf u) u) (sym encoded)
-        ∙ seek-of t.cutoff t.factors (t.width ∷ t.cutoff ∷ length t.factors ∷ t.taken ∷ []) (replicate (spare (slotsFor (limitBy l)) t) 0)
-        ∙ ap (λ k. cond (isDone t) Nowhere (At k)) j
+        let j : length (t.width ∷ t.cutoff ∷ length t.factors ∷ t.taken ∷ []) + length (blocks (take (first_above t.cutoff t.factors) t.factors)) ≡ place t = omega arith in
+        e ∙ ap (λ u. sought_in (cutoff_of u) u) (sym encoded)
+        ∙ seek-of t.cutoff t.factors (t.width ∷ t.cutoff ∷ length t.factors ∷ t.taken ∷ []) (replicate (spare (slots_for (limit_by l)) t) 0)
+        ∙ ap (λ k. cond (is_done t) Nowhere (At k)) j
 
     -- nothing is found where it is done
-    pub seek-done : f ≡ Nowhere → slotsDone byFactor l ≡ true
-    unfolding slotsDone
-    seek-done n = go (isDone t) (sym n ∙ sought)
+    pub seek-done : f ≡ Nowhere → slots_done by_factor l ≡ true
+    unfolding slots_done
+    seek-done n = go (is_done t) (sym n ∙ sought)
       where
         go : (b : Bool) → Nowhere ≡ cond b Nowhere (At (place t)) → b ≡ true
         go true q = refl
@@ -121,24 +121,24 @@ module _ (l : List ℕ) (s : isSound l ≡ true) where
 
     -- the first factor above the cutoff stands there
     pub record Standing (at : ℕ) : Type 0 where
-      pub more : slotsDone byFactor l ≡ false
+      pub more : slots_done by_factor l ≡ false
       pub here : at ≡ place t
-      pub level : levelAt l at ≡ (firstFactor t).0
+      pub level : level_at l at ≡ (first_factor t).0
       pub within : at < length l
 
     -- what is found is its place
     pub seek-at : {at : ℕ} → f ≡ At at → Standing at
-    unfolding slotsDone
-    seek-at {at} a = go (isDone t) refl (sym a ∙ sought)
+    unfolding slots_done
+    seek-at {at} a = go (is_done t) refl (sym a ∙ sought)
       where
-        go : (b : Bool) → isDone t ≡ b → At at ≡ cond b Nowhere (At (place t)) → Standing at
+        go : (b : Bool) → is_done t ≡ b → At at ≡ cond b Nowhere (At (place t)) → Standing at
         go true d q = let x : ◌≡◌ {A = ℕ} 0 1 = cc in absurd (omega arith)
         go false d q =
             let same : at ≡ place t = cc in
-            let around = encode-around t valid d (slotsFor (limitBy l)) in
+            let around = encode-around t valid d (slots_for (limit_by l)) in
             record {
               more = d;
               here = same;
-              level = ap₂ (λ u k. levelAt u k) (sym encoded) same ∙ level-at t valid d (slotsFor (limitBy l));
-              within = omega (arith, ap length (sym encoded ∙ around), length-append (leading t) (slots_of (firstFactor t) ++ (blocks (beyond t) ++ replicate (spare (slotsFor (limitBy l)) t) 0)));
+              level = ap₂ (λ u k. level_at u k) (sym encoded) same ∙ level-at t valid d (slots_for (limit_by l));
+              within = omega (arith, ap length (sym encoded ∙ around), length-append (leading t) (slots_of (first_factor t) ++ (blocks (beyond t) ++ replicate (spare (slots_for (limit_by l)) t) 0)));
             }

@@ -17,17 +17,17 @@ use Rattle.field.specs.Rows.{known}
 use Rattle.refusals.specs.declared.Refusal.TheVariants.{Stuck}
 use Rattle.refusals.specs.declared.Refusal.TheVariants as refusals
 use Rattle.input.specs.Limit.{limit}
-use Rattle.table_rules.specs.Layout.{degreeSum, byFactor}
-use Rattle.table_rules.specs.Table.{Table, headSlots, limitOf, decode}
-use Rattle.table_rules.specs.Splitting.{isDone, firstFactor, slotsDone, slotsStuck}
+use Rattle.table_rules.specs.Layout.{degree_sum, by_factor}
+use Rattle.table_rules.specs.Table.{Table, head_slots, limit_of, decode}
+use Rattle.table_rules.specs.Splitting.{is_done, first_factor, slots_done, slots_stuck}
 use Rattle.table_rules.specs.Splitting as splitting
-use Rattle.table_rules.specs.Sizes.{isTableSize, limitBy, isSound}
+use Rattle.table_rules.specs.Sizes.{is_table_size, limit_by, is_sound}
 use Rattle.table_rules.proofs.Sizes.{limit-most, sound-size}
-use Rattle.table_rules.proofs.Layouts.{byFactor-lawful}
+use Rattle.table_rules.proofs.Layouts.{by_factor-lawful}
 use Rattle.table_rules.proofs.Soundness.{Valid, sound-valid}
 use Rattle.table_rules.proofs.Keeping.{stuck-order}
-use Rattle.table_slots.specs.Slots.{cutoffOf, levelAt, Heads}
-use Rattle.table_slots.specs.Walk.{soughtIn, summed}
+use Rattle.table_slots.specs.Slots.{cutoff_of, level_at, Heads}
+use Rattle.table_slots.specs.Walk.{sought_in, summed}
 use Rattle.table_slots.specs.declared.Head.{Head}
 use Rattle.table_slots.specs.declared.Sum.{Sum}
 use Rattle.table_slots.specs.declared.Sum.TheVariants as sums
@@ -43,43 +43,43 @@ use Rattle.table_slots.specs.declared.check.Verdict.TheVariants.{Refused, Over, 
 module _ (l : List ℕ) where
   -- the table that the slots hold
   abbrev t : Table
-  t = decode byFactor l
+  t = decode by_factor l
 
   -- a sum is answered for sound tables
   pub check_sound : {r : Sum} {s : ℕ} → r ≡ summed l → r ≡ sums.Of s → Checks l (Sound s)
   unfolding summed
-  check_sound {r} {s} e o = go (isSound l) refl (sym o ∙ e)
+  check_sound {r} {s} e o = go (is_sound l) refl (sym o ∙ e)
     where
-      go : (b : Bool) → isSound l ≡ b → sums.Of s ≡ cond b (sums.Of (degreeSum t.factors)) sums.Unsound → Checks l (Sound s)
+      go : (b : Bool) → is_sound l ≡ b → sums.Of s ≡ cond b (sums.Of (degree_sum t.factors)) sums.Unsound → Checks l (Sound s)
       go true k q = fits {s = s} (record { sound = k; sum = cc })
       go false k q = let x : ◌≡◌ {A = ℕ} 0 1 = cc in absurd (omega arith)
 
   -- and none for others
-  pub check-unsound : {r : Sum} → isTableSize (length l) ≡ true → r ≡ summed l → r ≡ sums.Unsound → Checks l (Unfit refusals.Unsound)
+  pub check-unsound : {r : Sum} → is_table_size (length l) ≡ true → r ≡ summed l → r ≡ sums.Unsound → Checks l (Unfit refusals.Unsound)
   unfolding summed
-  check-unsound h e u = unsound h (go (isSound l) (sym u ∙ e))
+  check-unsound h e u = unsound h (go (is_sound l) (sym u ∙ e))
     where
-      go : (b : Bool) → sums.Unsound ≡ cond b (sums.Of (degreeSum t.factors)) sums.Unsound → b ≡ false
+      go : (b : Bool) → sums.Unsound ≡ cond b (sums.Of (degree_sum t.factors)) sums.Unsound → b ≡ false
       go true q = let x : ◌≡◌ {A = ℕ} 0 1 = cc in absurd (omega arith)
       go false q = refl
 
   module _ {sum : ℕ} (g : Fit l sum) where
     -- what the slots hold is valid
-    valid : Valid known (limitBy l) t
-    valid = sound-valid byFactor-lawful known (limitBy l) l g.sound
+    valid : Valid known (limit_by l) t
+    valid = sound-valid by_factor-lawful known (limit_by l) l g.sound
 
     -- it has its slots, and so a head
-    pub head-there : headSlots ≤ length l
+    pub head-there : head_slots ≤ length l
     head-there = omega (arith, sound-size l g.sound)
 
     -- the sum is at most the limit
     pub sum-small : sum ≤ limit
     sum-small = omega (arith, limit-most (length l), g.sum, valid.sum)
 
-    module _ {h : Head} (k : Heads l h) {f : Spot} (e : f ≡ soughtIn h.cutoff l) where
+    module _ {h : Head} (k : Heads l h) {f : Spot} (e : f ≡ sought_in h.cutoff l) where
       -- at the cutoff of the slots
-      sought : f ≡ soughtIn (cutoffOf l) l
-      sought = e ∙ ap (λ c. soughtIn c l) k.cutoff
+      sought : f ≡ sought_in (cutoff_of l) l
+      sought = e ∙ ap (λ c. sought_in c l) k.cutoff
 
       -- nothing to split
       pub judge-over : f ≡ Nowhere → Judged l Over
@@ -95,44 +95,44 @@ module _ (l : List ℕ) where
         place-within = spot.within
 
         -- the table is not done
-        open-still : isDone t ≡ false
-        unfolding slotsDone
+        open-still : is_done t ≡ false
+        unfolding slots_done
         open-still = spot.more
 
         -- refusal 9, by the test that the code makes
-        nine : (b : Bool) → splitting.stuck t ≡ b → slotsStuck byFactor l ≡ b
-        unfolding slotsStuck
+        nine : (b : Bool) → splitting.stuck t ≡ b → slots_stuck by_factor l ≡ b
+        unfolding slots_stuck
         nine b q = q
 
         -- the limit of the steps
-        limit_is : h.m * (sum / suc h.cutoff) ≡ limitOf t
+        limit_is : h.m * (sum / suc h.cutoff) ≡ limit_of t
         unfolding decode
         limit_is = rw (k.width, k.cutoff, g.sum) refl
 
         -- its level is m
-        pub judge-level : {i : ℕ} → i ≡ levelAt l at → h.m ≤ i → Judged l (Refused Stuck)
+        pub judge-level : {i : ℕ} → i ≡ level_at l at → h.m ≤ i → Judged l (Refused Stuck)
         unfolding decode
         judge-level i m =
-            let j : t.width ≤ (firstFactor t).0 = omega (arith, spot.level, i, k.width) in
-            stuck g.sound (nine true (stuck-order valid ∙ rw (open-still, le-leb t.width (firstFactor t).0 j)))
+            let j : t.width ≤ (first_factor t).0 = omega (arith, spot.level, i, k.width) in
+            stuck g.sound (nine true (stuck-order valid ∙ rw (open-still, le-leb t.width (first_factor t).0 j)))
 
         -- the steps are at their limit
-        pub judge-steps : {i : ℕ} → i ≡ levelAt l at → i < h.m → h.m * (sum / suc h.cutoff) ≤ h.steps → Judged l (Refused Stuck)
+        pub judge-steps : {i : ℕ} → i ≡ level_at l at → i < h.m → h.m * (sum / suc h.cutoff) ≤ h.steps → Judged l (Refused Stuck)
         unfolding decode
         judge-steps i m n =
-            let x : (firstFactor t).0 < t.width = omega (arith, spot.level, i, k.width) in
-            let j : limitOf t ≤ t.taken = omega (arith, limit_is, k.taken) in
-            stuck g.sound (nine true (stuck-order valid ∙ rw (open-still, lt-leb t.width (firstFactor t).0 x, le-leb (limitOf t) t.taken j)))
+            let x : (first_factor t).0 < t.width = omega (arith, spot.level, i, k.width) in
+            let j : limit_of t ≤ t.taken = omega (arith, limit_is, k.taken) in
+            stuck g.sound (nine true (stuck-order valid ∙ rw (open-still, lt-leb t.width (first_factor t).0 x, le-leb (limit_of t) t.taken j)))
 
         -- neither: it is split
-        pub judge-split : {i : ℕ} → i ≡ levelAt l at → i < h.m → h.steps < h.m * (sum / suc h.cutoff) → Judged l (Split at)
+        pub judge-split : {i : ℕ} → i ≡ level_at l at → i < h.m → h.steps < h.m * (sum / suc h.cutoff) → Judged l (Split at)
         unfolding decode
         judge-split i m n =
-            let x : (firstFactor t).0 < t.width = omega (arith, spot.level, i, k.width) in
-            let j : t.taken < limitOf t = omega (arith, limit_is, k.taken) in
+            let x : (first_factor t).0 < t.width = omega (arith, spot.level, i, k.width) in
+            let j : t.taken < limit_of t = omega (arith, limit_is, k.taken) in
             split (record {
               sound = g.sound;
-              free = nine false (stuck-order valid ∙ rw (open-still, lt-leb t.width (firstFactor t).0 x, lt-leb (limitOf t) t.taken j));
+              free = nine false (stuck-order valid ∙ rw (open-still, lt-leb t.width (first_factor t).0 x, lt-leb (limit_of t) t.taken j));
               more = spot.more;
               at = spot.here;
             })

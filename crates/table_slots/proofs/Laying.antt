@@ -11,30 +11,30 @@ use lib.Seq.{drop-append-add}
 use Rattle.slices.specs.Lists.{pasted}
 use Rattle.slices.proofs.Lists.{drop-zeros}
 use Rattle.input.specs.Limit.{limit}
-use Rattle.table_rules.specs.Entries.{unlessEmpty}
-use Rattle.table_rules.specs.Layout.{factorSlots, byFactor, blocks}
-use Rattle.table_rules.specs.Table.{headSlots, encode, padded}
-use Rattle.table_rules.specs.Splitting.{begunTable}
+use Rattle.table_rules.specs.Entries.{unless_empty}
+use Rattle.table_rules.specs.Layout.{factor_slots, by_factor, blocks}
+use Rattle.table_rules.specs.Table.{head_slots, encode, padded}
+use Rattle.table_rules.specs.Splitting.{begun_table}
 use Rattle.table_rules.specs.Sizes.{slots}
 use Rattle.table_slots.specs.Slots.{Appended}
 
 -- it is one
-one-factor : (low : List ℕ) → length low ≢ 0 → length (unlessEmpty 0 low) ≡ 1
-unfolding unlessEmpty
+one-factor : (low : List ℕ) → length low ≢ 0 → length (unless_empty 0 low) ≡ 1
+unfolding unless_empty
 one-factor [] n = absurd (n refl)
 one-factor (x ∷ low) n = refl
 
 -- the slots behind the head
 abbrev tail : ℕ
-tail = suc factorSlots * limit
+tail = suc factor_slots * limit
 
 module _ (m c : ℕ) (low : List ℕ) {t : List ℕ} (clear : t ≡ replicate slots 0) where
   -- no factor
-  pub laid_none : length low ≡ 0 → set (set t 0 m) 1 c ≡ encode byFactor slots (begunTable m c low)
-  unfolding encode unlessEmpty blocks
+  pub laid_none : length low ≡ 0 → set (set t 0 m) 1 c ≡ encode by_factor slots (begun_table m c low)
+  unfolding encode unless_empty blocks
   laid_none e = ap (λ u. set (set u 0 m) 1 c) clear ∙ go low e
     where
-      go : (l : List ℕ) → length l ≡ 0 → set (set (replicate slots 0) 0 m) 1 c ≡ encode byFactor slots (begunTable m c l)
+      go : (l : List ℕ) → length l ≡ 0 → set (set (replicate slots 0) 0 m) 1 c ≡ encode by_factor slots (begun_table m c l)
       go [] e = refl
       go (x ∷ l) e = absurd (omega arith)
 
@@ -43,14 +43,14 @@ module _ (m c : ℕ) (low : List ℕ) {t : List ℕ} (clear : t ≡ replicate sl
   top = m ∷ c ∷ 1 ∷ 0 ∷ []
 
   -- one factor
-  pub laid-some : {t' : List ℕ} {r : ℕ} → length low ≢ 0 → Appended headSlots 0 low (set (set (set t 0 m) 1 c) 2 1) r t'
-      → t' ≡ encode byFactor slots (begunTable m c low)
+  pub laid-some : {t' : List ℕ} {r : ℕ} → length low ≢ 0 → Appended head_slots 0 low (set (set (set t 0 m) 1 c) 2 1) r t'
+      → t' ≡ encode by_factor slots (begun_table m c low)
   unfolding encode pasted top
   laid-some n a =
-      let new : List ℕ = blocks (unlessEmpty 0 low) in
+      let new : List ℕ = blocks (unless_empty 0 low) in
       let left : tail - length new ≡ slots - length (m ∷ c ∷ 1 ∷ 0 ∷ new) = omega arith in
-      let after : drop (headSlots + length new) (top ++ replicate tail 0) ≡ replicate (slots - length (m ∷ c ∷ 1 ∷ 0 ∷ new)) 0 =
+      let after : drop (head_slots + length new) (top ++ replicate tail 0) ≡ replicate (slots - length (m ∷ c ∷ 1 ∷ 0 ∷ new)) 0 =
       drop-append-add top (replicate tail 0) (length new) ∙ drop-zeros (length new) tail ∙ ap (λ k. replicate k 0) left in
-      a.slots ∙ ap (λ u. pasted headSlots new (set (set (set u 0 m) 1 c) 2 1)) clear
+      a.slots ∙ ap (λ u. pasted head_slots new (set (set (set u 0 m) 1 c) 2 1)) clear
       ∙ ap (λ u. top ++ (new ++ u)) after
       ∙ sym (ap (λ k. padded slots (m ∷ c ∷ k ∷ 0 ∷ new)) (one-factor low n))

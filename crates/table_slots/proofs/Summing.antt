@@ -15,17 +15,17 @@ use Rattle.field.specs.declared.rows.Row.{Row}
 use Rattle.field.specs.declared.rows.FoundRow.{FoundRow}
 use Rattle.field.specs.declared.rows.FoundRow.TheVariants.{At, Unknown}
 use Rattle.field.proofs.Known.{row-known, row-unknown}
-use Rattle.input.specs.Cutoff.{highestCutoff}
+use Rattle.input.specs.Cutoff.{highest_cutoff}
 use Rattle.input.specs.Limit.{limit}
-use Rattle.table_rules.specs.Layout.{factorSlots, degreeSum, statedSum, readBlocks, byFactor, fairBlocks}
-use Rattle.table_rules.specs.Table.{Table, headSlots, slotsFor, stepLimit, encode, decode}
+use Rattle.table_rules.specs.Layout.{factor_slots, degree_sum, stated_sum, read_blocks, by_factor, fair_blocks}
+use Rattle.table_rules.specs.Table.{Table, head_slots, slots_for, step_limit, encode, decode}
 use Rattle.table_rules.proofs.Sizes.{limit-most}
-use Rattle.table_rules.proofs.Layouts.{byFactor-lawful}
+use Rattle.table_rules.proofs.Layouts.{by_factor-lawful}
 use Rattle.table_rules.proofs.Soundness.{stated-sum, sound-encoded}
 use Rattle.table_rules.proofs.Scanning.{ScanPassed, scan-exactly, sound-by-pass}
 use Rattle.table_rules.specs.Places.{spare}
-use Rattle.table_rules.specs.Sizes.{limitBy, isSound}
-use Rattle.table_slots.specs.Slots.{width_of, cutoffOf, count_of, taken_of}
+use Rattle.table_rules.specs.Sizes.{limit_by, is_sound}
+use Rattle.table_slots.specs.Slots.{width_of, cutoff_of, count_of, taken_of}
 use Rattle.table_slots.specs.Walk.{tally, summed}
 use Rattle.table_slots.specs.declared.Sum.{Sum}
 use Rattle.table_slots.specs.declared.Sum.TheVariants.{Of, Unsound}
@@ -34,38 +34,38 @@ use Rattle.table_slots.proofs.Passes.{rest}
 module _ (l : List ℕ) where
   -- the table that the slots hold
   abbrev t : Table
-  t = decode byFactor l
+  t = decode by_factor l
 
   -- what its slots state of its degrees
   abbrev stated-degrees : ℕ
-  stated-degrees = statedSum (readBlocks (count_of l) (drop headSlots l))
+  stated-degrees = stated_sum (read_blocks (count_of l) (drop head_slots l))
 
   -- a table that is not sound
-  deny : (ScanPassed known (limitBy l) l → ⊥) → Unsound ≡ summed l
+  deny : (ScanPassed known (limit_by l) l → ⊥) → Unsound ≡ summed l
   unfolding summed
-  deny n = go (isSound l) refl
+  deny n = go (is_sound l) refl
     where
-      go : (b : Bool) → isSound l ≡ b → Unsound ≡ cond b (Of (degreeSum t.factors)) Unsound
-      go true e = absurd (n ((sound-by-pass known (limitBy l) l).0 e))
+      go : (b : Bool) → is_sound l ≡ b → Unsound ≡ cond b (Of (degree_sum t.factors)) Unsound
+      go true e = absurd (n ((sound-by-pass known (limit_by l) l).0 e))
       go false e = refl
 
   -- of a sound table they are its degrees
-  degrees-stated : isSound l ≡ true → stated-degrees ≡ degreeSum t.factors
+  degrees-stated : is_sound l ≡ true → stated-degrees ≡ degree_sum t.factors
   unfolding encode
   degrees-stated s =
-      ap (λ u. statedSum (readBlocks (count_of u) (drop headSlots u))) (sym (sound-encoded byFactor-lawful known (limitBy l) l s))
-      ∙ ap statedSum (byFactor-lawful.read-write t.factors (replicate (spare (slotsFor (limitBy l)) t) 0)) ∙ stated-sum t.factors
+      ap (λ u. stated_sum (read_blocks (count_of u) (drop head_slots u))) (sym (sound-encoded by_factor-lawful known (limit_by l) l s))
+      ∙ ap stated_sum (by_factor-lawful.read-write t.factors (replicate (spare (slots_for (limit_by l)) t) 0)) ∙ stated-sum t.factors
 
   -- the field is not known
   pub deny-field : {r : FoundRow} → r ≡ row_at (width_of l) → r ≡ Unknown → Unsound ≡ summed l
   deny-field e u = deny (λ s. true≢false (sym s.field ∙ row-unknown (width_of l) (sym e ∙ u)))
 
   -- the cutoff is 0
-  pub deny-low : cutoffOf l < 1 → Unsound ≡ summed l
+  pub deny-low : cutoff_of l < 1 → Unsound ≡ summed l
   deny-low h = deny (λ s. omega (arith, s.cutoff-least))
 
   -- the cutoff is above the highest
-  pub deny-high : highestCutoff < cutoffOf l → Unsound ≡ summed l
+  pub deny-high : highest_cutoff < cutoff_of l → Unsound ≡ summed l
   deny-high h = deny (λ s. omega (arith, s.cutoff-most))
 
   module _ {f : FoundRow} (e : f ≡ row_at (width_of l)) {row : Row} (at : f ≡ At row) where
@@ -74,17 +74,17 @@ module _ (l : List ℕ) where
     is_row = row-known (width_of l) (sym e ∙ at)
 
     -- what `walk` may take for granted
-    pub walk-asks : {lim : ℕ} → lim ≡ limitBy l → length l ≡ slotsFor (limitBy l)
-        → (row.size ≡ 2 ^ width_of l) × (suc factorSlots * lim ≤ length (take (length l - headSlots) (drop headSlots l)))
-    walk-asks k h = (is_row.size, omega (arith, ap length (rest l headSlots), length-drop headSlots l))
+    pub walk-asks : {lim : ℕ} → lim ≡ limit_by l → length l ≡ slots_for (limit_by l)
+        → (row.size ≡ 2 ^ width_of l) × (suc factor_slots * lim ≤ length (take (length l - head_slots) (drop head_slots l)))
+    walk-asks k h = (is_row.size, omega (arith, ap length (rest l head_slots), length-drop head_slots l))
 
-    module _ {lim : ℕ} (under : lim ≡ limitBy l) {r : Sum}
-        (w : r ≡ tally (width_of l) lim (count_of l) (take (length l - headSlots) (drop headSlots l))) where
+    module _ {lim : ℕ} (under : lim ≡ limit_by l) {r : Sum}
+        (w : r ≡ tally (width_of l) lim (count_of l) (take (length l - head_slots) (drop head_slots l))) where
       -- what `walk` answers: the sum where the pass finds nothing against the rules
-      walked : r ≡ cond (fairBlocks (width_of l) (limitBy l) (count_of l) (drop headSlots l)) (Of stated-degrees) Unsound
+      walked : r ≡ cond (fair_blocks (width_of l) (limit_by l) (count_of l) (drop head_slots l)) (Of stated-degrees) Unsound
       unfolding tally
-      walked = w ∙ ap (λ n. tally (width_of l) n (count_of l) (take (length l - headSlots) (drop headSlots l))) under
-          ∙ ap (tally (width_of l) (limitBy l) (count_of l)) (rest l headSlots)
+      walked = w ∙ ap (λ n. tally (width_of l) n (count_of l) (take (length l - head_slots) (drop head_slots l))) under
+          ∙ ap (tally (width_of l) (limit_by l) (count_of l)) (rest l head_slots)
 
       -- the pass found a rule broken
       pub deny-walk : r ≡ Unsound → Unsound ≡ summed l
@@ -95,8 +95,8 @@ module _ (l : List ℕ) where
 
       module _ {sum : ℕ} (o : r ≡ Of sum) where
         -- the pass found none broken, and gave the sum of what is stated
-        found : (fairBlocks (width_of l) (limitBy l) (count_of l) (drop headSlots l) ≡ true) × (sum ≡ stated-degrees)
-        found = go (fairBlocks (width_of l) (limitBy l) (count_of l) (drop headSlots l)) (sym o ∙ walked)
+        found : (fair_blocks (width_of l) (limit_by l) (count_of l) (drop head_slots l) ≡ true) × (sum ≡ stated-degrees)
+        found = go (fair_blocks (width_of l) (limit_by l) (count_of l) (drop head_slots l)) (sym o ∙ walked)
           where
             go : (b : Bool) → Of sum ≡ cond b (Of stated-degrees) Unsound → (b ≡ true) × (sum ≡ stated-degrees)
             go true q = (refl, cc)
@@ -104,22 +104,22 @@ module _ (l : List ℕ) where
 
         -- the sum is at most the limit
         pub few : sum ≤ limit
-        few = omega (arith, limit-most (length l), found.1, ((scan-exactly (width_of l) (limitBy l) (count_of l) (drop headSlots l)).0 found.0).sum)
+        few = omega (arith, limit-most (length l), found.1, ((scan-exactly (width_of l) (limit_by l) (count_of l) (drop head_slots l)).0 found.0).sum)
 
         -- the limit of slot 3, by the sum
-        limit_is : width_of l * (sum / suc (cutoffOf l)) ≡ stepLimit (width_of l) (cutoffOf l) stated-degrees
-        limit_is = ap (λ z. width_of l * (z / suc (cutoffOf l))) found.1
+        limit_is : width_of l * (sum / suc (cutoff_of l)) ≡ step_limit (width_of l) (cutoff_of l) stated-degrees
+        limit_is = ap (λ z. width_of l * (z / suc (cutoff_of l))) found.1
 
         -- slot 3 is above its limit
-        pub deny-steps : width_of l * (sum / suc (cutoffOf l)) < taken_of l → Unsound ≡ summed l
+        pub deny-steps : width_of l * (sum / suc (cutoff_of l)) < taken_of l → Unsound ≡ summed l
         deny-steps h = deny (λ s. omega (arith, s.steps, limit_is))
 
         -- no test fails
-        pub accept : length l ≡ slotsFor (limitBy l) → 1 ≤ cutoffOf l → cutoffOf l ≤ highestCutoff → taken_of l ≤ width_of l * (sum / suc (cutoffOf l)) → Of sum ≡ summed l
+        pub accept : length l ≡ slots_for (limit_by l) → 1 ≤ cutoff_of l → cutoff_of l ≤ highest_cutoff → taken_of l ≤ width_of l * (sum / suc (cutoff_of l)) → Of sum ≡ summed l
         unfolding summed
         accept h low high lim =
-            let s : isSound l ≡ true =
-            (sound-by-pass known (limitBy l) l).1 (record {
+            let s : is_sound l ≡ true =
+            (sound-by-pass known (limit_by l) l).1 (record {
               size = h;
               field = is_row.list.degree;
               cutoff-least = low;

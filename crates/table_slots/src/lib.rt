@@ -4,13 +4,13 @@
 // first slot.
 ghost use Rattle.std.specs.Prelude.{◌≡◌, suc, ◌+◌, ◌-◌, ◌*◌, ◌/◌, ◌^◌, ◌≤◌, ◌<◌, length};
 ghost use Rattle.input.specs.Limit.{limit};
-ghost use Rattle.table_rules.specs.Layout.{factorSlots, byFactor};
-ghost use Rattle.table_rules.specs.Table.{headSlots, slotsFor, encode};
-ghost use Rattle.table_rules.specs.Splitting.{begunTable};
-ghost use Rattle.table_rules.specs.Sizes.{slots, isTableSize, limitFor, limitBy};
-ghost use Rattle.table_slots.specs.Slots.{Heads, StandsWhole, levelAt, factorAt, next_at};
-ghost use Rattle.table_slots.specs.Slots.{Appended, Replaceable, replacedAt};
-ghost use Rattle.table_slots.specs.Walk.{frontSlots, tally, soughtIn, summed};
+ghost use Rattle.table_rules.specs.Layout.{factor_slots, by_factor};
+ghost use Rattle.table_rules.specs.Table.{head_slots, slots_for, encode};
+ghost use Rattle.table_rules.specs.Splitting.{begun_table};
+ghost use Rattle.table_rules.specs.Sizes.{slots, is_table_size, limit_for, limit_by};
+ghost use Rattle.table_slots.specs.Slots.{Heads, StandsWhole, level_at, factor_at, next_at};
+ghost use Rattle.table_slots.specs.Slots.{Appended, Replaceable, replaced_at};
+ghost use Rattle.table_slots.specs.Walk.{front_slots, tally, sought_in, summed};
 
 use field::rows::{FoundRow, row_of};
 use input::{HIGHEST_CUTOFF, LIMIT};
@@ -47,7 +47,7 @@ pub const TWO_FACTORS: usize = 2 * LOW + LIMIT;
 
 // Does some table have n slots?
 pub fn is_table_size(n: usize) -> bool
-    ensures { result ≡ isTableSize n }
+    ensures { result ≡ is_table_size n }
 {
     if n == STORED_SLOTS {
         return true;
@@ -57,7 +57,7 @@ pub fn is_table_size(n: usize) -> bool
 
 // The limit that a table of n slots is under.
 fn limit_for(n: usize) -> usize
-    ensures { result ≡ limitFor n }
+    ensures { result ≡ limit_for n }
 {
     if n == STORED_SLOTS {
         STORED_LIMIT
@@ -91,7 +91,7 @@ pub enum Sum {
 
 // The head of a table.
 pub fn head_of(table: &[u16]) -> Head
-    requires { headSlots ≤ length table.now }
+    requires { head_slots ≤ length table.now }
     ensures { Heads table.now result }
 {
     Head {
@@ -105,7 +105,7 @@ pub fn head_of(table: &[u16]) -> Head
 // The level of the factor at o.
 pub fn level_at(table: &[u16], o: usize) -> u16
     requires { o < length table.now }
-    ensures { result ≡ levelAt table.now o }
+    ensures { result ≡ level_at table.now o }
 {
     table[o]
 }
@@ -121,7 +121,7 @@ pub fn next_at(table: &[u16], o: usize) -> usize
 // The coefficients of the factor at o, below the leading 1.
 pub fn low_at(table: &[u16], o: usize) -> &[u16]
     requires { StandsWhole table.now o }
-    ensures { result.now ≡ factorAt table.now o }
+    ensures { result.now ≡ factor_at table.now o }
 {
     let b = o + LOW;
     let e = b + table[o + DEGREE] as usize;
@@ -130,8 +130,8 @@ pub fn low_at(table: &[u16], o: usize) -> &[u16]
 
 // The place of the first factor whose degree is above c.
 pub fn first_above(table: &[u16], c: u16) -> Spot
-    requires { headSlots ≤ length table.now }
-    ensures { result ≡ soughtIn c table.now }
+    requires { head_slots ≤ length table.now }
+    ensures { result ≡ sought_in c table.now }
 {
     let mut left = table[FACTORS];
     let mut at = FIRST;
@@ -151,7 +151,7 @@ pub fn first_above(table: &[u16], c: u16) -> Spot
 
 // Writes the slots of a factor to w at `at`, and nothing where it is constant. Returns the place behind them.
 pub fn append(w: &mut [u16], at: usize, level: u16, low: &[u16]) -> usize
-    requires { (at + (length low.now + factorSlots) ≤ length w.old) × (length low.now < 65536) }
+    requires { (at + (length low.now + factor_slots) ≤ length w.old) × (length low.now < 65536) }
     ensures { Appended at level low.now w.old result w.new }
 {
     let n = low.len();
@@ -168,7 +168,7 @@ pub fn append(w: &mut [u16], at: usize, level: u16, low: &[u16]) -> usize
 // Writes a whole table with one factor at level 0, or none where low is empty, whatever it held.
 pub fn lay(table: &mut [u16], m: u16, c: u16, low: &[u16])
     requires { (length table.old ≡ slots) × (length low.now ≤ limit) }
-    ensures { table.new ≡ encode byFactor slots (begunTable m c low.now) }
+    ensures { table.new ≡ encode by_factor slots (begun_table m c low.now) }
 {
     slices::clear(table);
     table[WIDTH] = m;
@@ -184,7 +184,7 @@ pub fn lay(table: &mut [u16], m: u16, c: u16, low: &[u16])
 // Puts the slots of its parts in the place of the factor at o. The factors are counted again, and the step is counted.
 pub fn replace(table: &mut [u16], o: usize, parts: &[u16])
     requires { Replaceable table.old o parts.now }
-    ensures { table.new ≡ replacedAt o parts.now table.old }
+    ensures { table.new ≡ replaced_at o parts.now table.old }
 {
     let others = table[FACTORS] - 1;
     let taken = table[STEPS] + 1;
@@ -197,8 +197,8 @@ pub fn replace(table: &mut [u16], o: usize, parts: &[u16])
 
 // The slots that the factor at the front of s takes, or 0 where none stands there that fits.
 fn front_slots(s: &[u16], m: u16, size: u16, room: usize) -> usize
-    requires { (size ≡ 2 ^ m) × (room ≤ length s.now - factorSlots) }
-    ensures { result ≡ frontSlots m room s.now }
+    requires { (size ≡ 2 ^ m) × (room ≤ length s.now - factor_slots) }
+    ensures { result ≡ front_slots m room s.now }
 {
     if s.len() < LOW {
         return 0;
@@ -222,7 +222,7 @@ fn front_slots(s: &[u16], m: u16, size: u16, room: usize) -> usize
 
 // The sum of the degrees of `count` factors in s, if they fit and zeros follow.
 fn walk(s: &[u16], m: u16, size: u16, count: u16, limit: usize) -> Sum
-    requires { (size ≡ 2 ^ m) × (suc factorSlots * limit ≤ length s.now) }
+    requires { (size ≡ 2 ^ m) × (suc factor_slots * limit ≤ length s.now) }
     ensures { result ≡ tally m limit count s.now }
 {
     let mut left = count;
@@ -253,7 +253,7 @@ pub fn step_limit(m: u16, c: u16, sum: usize) -> usize
 
 // The sum of the degrees of a sound table: all rules in one pass over its slots.
 pub fn degrees(table: &[u16]) -> Sum
-    requires { length table.now ≡ slotsFor (limitBy table.now) }
+    requires { length table.now ≡ slots_for (limit_by table.now) }
     ensures { result ≡ summed table.now }
 {
     let m = table[WIDTH];

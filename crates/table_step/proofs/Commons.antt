@@ -18,15 +18,15 @@ use Rattle.field.specs.Rows.{known}
 use Rattle.field.proofs.Known.{by_row, listed}
 use Rattle.algebra.specs.Field.{power}
 use Rattle.algebra.specs.Polynomial.{Below}
-use Rattle.algebra.specs.Routines.{rem, traceMod, gcd}
-use Rattle.algebra.proofs.Lengths.{length-rem, length-traceMod}
-use Rattle.algebra.proofs.StaysBelow.{power_below, rem_below, traceMod-below}
+use Rattle.algebra.specs.Routines.{rem, trace_mod, gcd}
+use Rattle.algebra.proofs.Lengths.{length-rem, length-trace_mod}
+use Rattle.algebra.proofs.StaysBelow.{power_below, rem_below, trace_mod-below}
 use Rattle.algebra.proofs.NumberSteps.{trace-run}
 use Rattle.field.specs.Field.{field_at, G}
 use Rattle.field.proofs.Logarithms.{antilogs-power}
 use Rattle.poly_gcd.specs.Euclid.{GcdIs}
 use Rattle.poly.proofs.Logs.{field_of, numbers_of}
-use Rattle.table_rules.specs.Splitting.{halvingAt}
+use Rattle.table_rules.specs.Splitting.{halving_at}
 use Rattle.table_step.specs.Parting.{Splittable, Partable}
 
 -- a known degree is less than the size of its field
@@ -58,38 +58,38 @@ module _ {m : ℕ} {ls ts p : List ℕ} {i : ℕ} (s : Splittable m ls ts p i) w
 
   -- Tr(a^i z) modulo the factor
   abbrev trace : List ℕ
-  trace = traceMod (G m) p m start
+  trace = trace_mod (G m) p m start
 
   -- what the code sums up is that
-  pub traced : {t : List ℕ} → t ≡ traceMod (G m) p m (rem (G m) p (0 ∷ get_or ts (2 * i) 0 ∷ [])) → t ≡ trace
-  traced e = e ∙ ap (λ b. traceMod (G m) p m (rem (G m) p (0 ∷ b ∷ []))) level-power
+  pub traced : {t : List ℕ} → t ≡ trace_mod (G m) p m (rem (G m) p (0 ∷ get_or ts (2 * i) 0 ∷ [])) → t ≡ trace
+  traced e = e ∙ ap (λ b. trace_mod (G m) p m (rem (G m) p (0 ∷ b ∷ []))) level-power
 
   -- it is as long as the factor
   pub traced-long : {t : List ℕ} → t ≡ trace → length t ≡ length p
   traced-long {t} e =
       let j : m ≡ suc (m - 1) = omega (arith, s.level) in
-      ap length e ∙ ap (λ k. length (traceMod (G m) p k start)) j ∙ length-traceMod (G m) p (m - 1) start (length-rem (G m) p (0 ∷ power (G m) 2 i ∷ []))
+      ap length e ∙ ap (λ k. length (trace_mod (G m) p k start)) j ∙ length-trace_mod (G m) p (m - 1) start (length-rem (G m) p (0 ∷ power (G m) 2 i ∷ []))
 
   -- its coefficients are elements
   pub trace-small : Below (2 ^ m) trace
   trace-small =
       let n = numbers_of s.tables in
-      traceMod-below n p m start s.small (rem_below n p (0 ∷ power (G m) 2 i ∷ []) s.small (omega (arith, power_small), (power_small, tt)))
+      trace_mod-below n p m start s.small (rem_below n p (0 ∷ power (G m) 2 i ∷ []) s.small (omega (arith, power_small), (power_small, tt)))
 
   -- and it stands for Tr(a^i z)
-  pub traced-same : gcd (G m) p trace ≡ (halvingAt m).low i p
+  pub traced-same : gcd (G m) p trace ≡ (halving_at m).low i p
   traced-same = sym (trace-run (numbers_of s.tables) m (power (G m) 2 i) power_small p s.small)
 
 -- ---- the first part
 
 -- the first r coefficients of g are those of the factor's part that goes first
 pub record IsCommon (m i : ℕ) (p : List ℕ) (r : ℕ) (g : List ℕ) : Type 0 where
-  pub degree : r ≡ length ((halvingAt m).low i p)
-  pub low : take r g ≡ (halvingAt m).low i p
+  pub degree : r ≡ length ((halving_at m).low i p)
+  pub low : take r g ≡ (halving_at m).low i p
 
 module _ {m : ℕ} {ls ts p : List ℕ} {i : ℕ} {t : List ℕ} (s : Partable m ls ts p i t) where
   -- what the greatest common divisor with t leaves is the first part
   pub common-is : {r : ℕ} {g : List ℕ} → GcdIs m p t r g → length p < length g → IsCommon m i p r g
   common-is {r} {g} q h =
-      let low : take r g ≡ (halvingAt m).low i p = q.low ∙ s.same in
+      let low : take r g ≡ (halving_at m).low i p = q.low ∙ s.same in
       record { degree = sym (length-take-le r g (omega (arith, q.count))) ∙ ap length low; low = low }

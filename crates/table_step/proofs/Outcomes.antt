@@ -13,11 +13,11 @@ use Rattle.refusals.specs.Order.Passed.{none}
 use Rattle.refusals.specs.declared.Refusal.{Refusal}
 use Rattle.refusals.proofs.Order.{holds, fails, passes}
 use Rattle.refusals.proofs.Order as order
-use Rattle.table_rules.specs.Layout.{byFactor}
-use Rattle.table_rules.specs.Splitting.{slotsDone, slotsStuck, slotsStepped}
-use Rattle.table_rules.specs.Sizes.{isTableSize, isSound}
+use Rattle.table_rules.specs.Layout.{by_factor}
+use Rattle.table_rules.specs.Splitting.{slots_done, slots_stuck, slots_stepped}
+use Rattle.table_rules.specs.Sizes.{is_table_size, is_sound}
 use Rattle.table_rules.proofs.Sizes.{size-exactly, sound-size}
-use Rattle.table_step.specs.Calls.{stepTests, stepOutcome, stepMemory, toldStepped}
+use Rattle.table_step.specs.Calls.{step_tests, step_outcome, step_memory, told_stepped}
 use Rattle.table_slots.specs.Verdicts.{Checks, Chosen, Judged}
 use Rattle.table_slots.specs.Verdicts.Checks.{short, unsound}
 use Rattle.table_slots.specs.Verdicts.Judged.{unfit, stuck, over, split}
@@ -28,51 +28,51 @@ use Rattle.table_slots.specs.declared.check.Verdict.TheVariants.{Refused, Over, 
 
 -- what a step promises of its answer and of the slots that it leaves
 abbrev Promise : List ℕ → Stepped → List ℕ → Type 0
-Promise l r l' = (toldStepped r ≡ stepOutcome l) × (l' ≡ stepMemory l)
+Promise l r l' = (told_stepped r ≡ step_outcome l) × (l' ≡ step_memory l)
 
 -- a step that passes its tests, by whether the table is done
-passed-memory : (l : List ℕ) (b : Bool) → slotsDone byFactor l ≡ b → cond (slotsDone byFactor l) l (slotsStepped byFactor l) ≡ cond b l (slotsStepped byFactor l)
-passed-memory l b d = ap (λ x. cond x l (slotsStepped byFactor l)) d
+passed-memory : (l : List ℕ) (b : Bool) → slots_done by_factor l ≡ b → cond (slots_done by_factor l) l (slots_stepped by_factor l) ≡ cond b l (slots_stepped by_factor l)
+passed-memory l b d = ap (λ x. cond x l (slots_stepped by_factor l)) d
 
 -- ---- the tests of a step, by the verdict
 
 module _ (l : List ℕ) where
   -- a sound table passes 7 and 8
-  sound-first : isSound l ≡ true → not (isTableSize (length l)) ≡ false
+  sound-first : is_sound l ≡ true → not (is_table_size (length l)) ≡ false
   sound-first s = ap not ((size-exactly (length l)).1 (sound-size l s))
 
   -- the test that a check found to hold
-  check-given : {k : Refusal} → Checks l (Unfit k) → Given (number_of k) (stepTests l)
+  check-given : {k : Refusal} → Checks l (Unfit k) → Given (number_of k) (step_tests l)
   check-given (short n) = holds (ap not n)
   check-given (unsound e u) = fails (ap not e) (holds (ap not u))
 
   -- no test holds
-  step-passes : isSound l ≡ true → slotsStuck byFactor l ≡ false → Passed (stepTests l)
+  step-passes : is_sound l ≡ true → slots_stuck by_factor l ≡ false → Passed (step_tests l)
   step-passes s f = passes (sound-first s) (passes (ap not s) (passes f none))
 
   -- a done table is not stuck
-  done-free : slotsDone byFactor l ≡ true → slotsStuck byFactor l ≡ false
-  unfolding slotsDone slotsStuck
+  done-free : slots_done by_factor l ≡ true → slots_stuck by_factor l ≡ false
+  unfolding slots_done slots_stuck
   done-free d = rw d
 
 -- a refusal
-refused-by : {l : List ℕ} {k : Refusal} → Judged l (Refused k) → Given (number_of k) (stepTests l)
+refused-by : {l : List ℕ} {k : Refusal} → Judged l (Refused k) → Given (number_of k) (step_tests l)
 refused-by {l} (unfit c) = check-given l c
 refused-by {l} (stuck s f) = fails (sound-first l s) (fails (ap not s) (holds f))
 
 -- it writes nothing
 pub step-refused : {l : List ℕ} {k : Refusal} → Judged l (Refused k) → Promise l (NotStepped k) l
 step-refused {l} j = (
-  sym (order.refused (cond (slotsDone byFactor l) 1 0 ∷ []) (refused-by j)),
-  sym (order.unwritten (cond (slotsDone byFactor l) l (slotsStepped byFactor l)) l (refused-by j)),
+  sym (order.refused (cond (slots_done by_factor l) 1 0 ∷ []) (refused-by j)),
+  sym (order.unwritten (cond (slots_done by_factor l) l (slots_stepped by_factor l)) l (refused-by j)),
 )
 
 -- nothing to split
 pub step-over : {l : List ℕ} → Judged l Over → Promise l Done l
 step-over {l} (over s d) =
     let p = step-passes l s (done-free l d) in (
-      sym (order.accepted (cond (slotsDone byFactor l) 1 0 ∷ []) p ∙ ap (λ b. (0, cond b 1 0 ∷ [])) d),
-      sym (order.written (cond (slotsDone byFactor l) l (slotsStepped byFactor l)) l p ∙ passed-memory l true d),
+      sym (order.accepted (cond (slots_done by_factor l) 1 0 ∷ []) p ∙ ap (λ b. (0, cond b 1 0 ∷ [])) d),
+      sym (order.written (cond (slots_done by_factor l) l (slots_stepped by_factor l)) l p ∙ passed-memory l true d),
     )
 
 -- a verdict to split
@@ -80,9 +80,9 @@ pub chosen_of : {l : List ℕ} {o : ℕ} → Judged l (Split o) → Chosen l o
 chosen_of (split c) = c
 
 -- a step that is taken
-pub step-taken : {l l' : List ℕ} {o : ℕ} → Chosen l o → l' ≡ slotsStepped byFactor l → Promise l Taken l'
+pub step-taken : {l l' : List ℕ} {o : ℕ} → Chosen l o → l' ≡ slots_stepped by_factor l → Promise l Taken l'
 step-taken {l} c e =
     let p = step-passes l c.sound c.free in (
-      sym (order.accepted (cond (slotsDone byFactor l) 1 0 ∷ []) p ∙ ap (λ b. (0, cond b 1 0 ∷ [])) c.more),
-      e ∙ sym (order.written (cond (slotsDone byFactor l) l (slotsStepped byFactor l)) l p ∙ passed-memory l false c.more),
+      sym (order.accepted (cond (slots_done by_factor l) 1 0 ∷ []) p ∙ ap (λ b. (0, cond b 1 0 ∷ [])) c.more),
+      e ∙ sym (order.written (cond (slots_done by_factor l) l (slots_stepped by_factor l)) l p ∙ passed-memory l false c.more),
     )

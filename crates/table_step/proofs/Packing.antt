@@ -15,9 +15,9 @@ use Rattle.algebra.proofs.Lengths.{length-cofactor}
 use Rattle.field.specs.Field.{G}
 use Rattle.slices.proofs.Lists.{pasted-front}
 use Rattle.input.proofs.Fields.{known-field}
-use Rattle.table_rules.specs.Entries.{unlessEmpty, parts}
+use Rattle.table_rules.specs.Entries.{unless_empty, parts}
 use Rattle.table_rules.specs.Layout.{blocks}
-use Rattle.table_rules.specs.Splitting.{halvingAt}
+use Rattle.table_rules.specs.Splitting.{halving_at}
 use Rattle.table_rules.proofs.Layouts.{blocks-append}
 use Rattle.table_rules.proofs.Keeping.{LosslessHalving, trace-halves}
 use Rattle.table_slots.specs.Slots.{Appended}
@@ -28,7 +28,7 @@ use Rattle.table_step.proofs.Commons.{IsCommon}
 
 module _ {m : ℕ} {ls ts p : List ℕ} {i : ℕ} (s : Splittable m ls ts p i) {k : ℕ} {g : List ℕ} (c : IsCommon m i p k g) where
   -- the two parts have, together, the factor's degree
-  halves : LosslessHalving (halvingAt m) m i p
+  halves : LosslessHalving (halving_at m) m i p
   halves = trace-halves (known-field m s.tables.degree) i p s.small
 
   -- the first has at most that
@@ -72,19 +72,19 @@ module _ {m : ℕ} {ls ts p : List ℕ} {i : ℕ} (s : Splittable m ls ts p i) {
     rest-long = length-take-le (length p - k) (h ++ z) rest-fits
 
   -- what is left is the second part
-  second_is : {h : List ℕ} → h ≡ cofactor (G m) p (take k g) → h ≡ (halvingAt m).high i p
+  second_is : {h : List ℕ} → h ≡ cofactor (G m) p (take k g) → h ≡ (halving_at m).high i p
   second_is e = e ∙ ap (cofactor (G m) p) c.low
 
   -- both stand one behind the other
   pub parted : {at r : ℕ} {h w w₁ w₂ : List ℕ} → h ≡ cofactor (G m) p (take k g) → at ≤ length w₁ → Appended 0 (i + 1) (take k g) w at w₁ → Appended at (i + 1) h w₁ r w₂ → Parted m i p r w₂
   unfolding parts
   parted {at} {r} {h} {w} {w₁} {w₂} e n x y =
-      let a : List ℕ = blocks (unlessEmpty (i + 1) (take k g)) in
-      let b : List ℕ = blocks (unlessEmpty (i + 1) h) in
-      let u : a ++ b ≡ blocks (parts (halvingAt m) (i, p)) =
-      ap₂ (λ v z. blocks (unlessEmpty (i + 1) v) ++ blocks (unlessEmpty (i + 1) z)) c.low (second_is e)
-      ∙ sym (blocks-append (unlessEmpty (i + 1) ((halvingAt m).low i p)) (unlessEmpty (i + 1) ((halvingAt m).high i p)))
-      ∙ ap (λ j. blocks (unlessEmpty j ((halvingAt m).low i p) ++ unlessEmpty j ((halvingAt m).high i p))) (add-one i) in
+      let a : List ℕ = blocks (unless_empty (i + 1) (take k g)) in
+      let b : List ℕ = blocks (unless_empty (i + 1) h) in
+      let u : a ++ b ≡ blocks (parts (halving_at m) (i, p)) =
+      ap₂ (λ v z. blocks (unless_empty (i + 1) v) ++ blocks (unless_empty (i + 1) z)) c.low (second_is e)
+      ∙ sym (blocks-append (unless_empty (i + 1) ((halving_at m).low i p)) (unless_empty (i + 1) ((halving_at m).high i p)))
+      ∙ ap (λ j. blocks (unless_empty j ((halving_at m).low i p) ++ unless_empty j ((halving_at m).high i p))) (add-one i) in
       let front : take at w₁ ≡ a = ap₂ take x.place x.slots ∙ pasted-front 0 a w (omega arith) in
       record {
         slots = ap₂ take y.place y.slots ∙ pasted-front at b w₁ n ∙ ap (λ v. v ++ b) front ∙ u;

@@ -19,32 +19,32 @@ use lib.Seq.{take_at}
 use Rattle.algebra.specs.Polynomial.{Below}
 use Rattle.field.specs.Rows.{known}
 use Rattle.algebra.specs.Field.{power}
-use Rattle.algebra.specs.Routines.{rem, traceMod, gcd}
+use Rattle.algebra.specs.Routines.{rem, trace_mod, gcd}
 use Rattle.field.specs.Field.{G}
 use Rattle.poly.specs.Lent.{Lent}
 use Rattle.slices.specs.Lists.{spliced}
 use Rattle.input.proofs.Fields.{known-field, degree-within}
 use Rattle.input.specs.Limit.{limit, widest}
-use Rattle.table_rules.specs.Entries.{Halving, parts, entry_at, firstAbove, done}
-use Rattle.table_rules.specs.Layout.{factorSlots, Factor, degreeSum, blocks, byFactor}
-use Rattle.table_rules.specs.Table.{Table, headSlots, slotsFor, encode, decode}
-use Rattle.table_rules.specs.Splitting.{isDone, firstFactor, halvingAt, slotsDone, slotsStuck, slotsStepped}
+use Rattle.table_rules.specs.Entries.{Halving, parts, entry_at, first_above, done}
+use Rattle.table_rules.specs.Layout.{factor_slots, Factor, degree_sum, blocks, by_factor}
+use Rattle.table_rules.specs.Table.{Table, head_slots, slots_for, encode, decode}
+use Rattle.table_rules.specs.Splitting.{is_done, first_factor, halving_at, slots_done, slots_stuck, slots_stepped}
 use Rattle.table_rules.proofs.Sizes.{limit-most, sound-size}
-use Rattle.table_rules.proofs.Layouts.{byFactor-lawful}
+use Rattle.table_rules.proofs.Layouts.{by_factor-lawful}
 use Rattle.table_rules.proofs.Soundness.{Valid, sound-valid, sound-encoded, count-within}
 use Rattle.table_rules.proofs.Keeping.{Free, free, LosslessHalving, trace-halves, step-slots}
 use Rattle.table_rules.specs.Places.{beyond, leading, place, slots_of, spare}
 use Rattle.table_rules.proofs.Places.{encode-around, level-at, degree-at, coefficients-at, first-fair, room, parts-few, parts-some, length-new, step-spliced}
-use Rattle.table_rules.specs.Sizes.{limitBy, twoFactors}
-use Rattle.table_slots.specs.Slots.{width_of, count_of, taken_of, Heads, levelAt, degreeAt, factorAt, next_at, StandsWhole, Replaceable, replacedAt}
+use Rattle.table_rules.specs.Sizes.{limit_by, two_factors}
+use Rattle.table_slots.specs.Slots.{width_of, count_of, taken_of, Heads, level_at, degree_at, factor_at, next_at, StandsWhole, Replaceable, replaced_at}
 use Rattle.table_slots.specs.declared.Head.{Head}
 use Rattle.table_slots.specs.Verdicts.{Chosen}
 use Rattle.table_step.specs.Parting.{Splittable, Partable, Parted, ChosenAt, Steppable, StepReady}
 use Rattle.table_step.proofs.Commons.{traced-long, trace-small, traced-same}
 
 -- no degree is above their sum, and a list that is not done has an entry
-entry-most : (l : List Factor) (k : ℕ) → length (entry_at l k).1 ≤ degreeSum l
-unfolding degreeSum
+entry-most : (l : List Factor) (k : ℕ) → length (entry_at l k).1 ≤ degree_sum l
+unfolding degree_sum
 entry-most [] k = omega arith
 entry-most (e ∷ l) zero = omega arith
 entry-most (e ∷ l) (suc k) = omega (arith, entry-most l k)
@@ -61,69 +61,69 @@ steppable {ls = ls} {ts} a = record { chosen = a.0.chosen; tables = subst (λ (w
 
 -- where the factor to split stands
 pub record SlotsRead (l : List ℕ) (o : ℕ) : Type 0 where
-  pub long : headSlots ≤ length l
-  pub room : next_at l o + factorSlots ≤ length l
-  pub few : degreeAt l o ≤ limit
+  pub long : head_slots ≤ length l
+  pub room : next_at l o + factor_slots ≤ length l
+  pub few : degree_at l o ≤ limit
 
 module _ (l : List ℕ) {o : ℕ} (c : Chosen l o) where
   -- the table that the slots hold, and its factor to split
   abbrev t : Table
-  t = decode byFactor l
+  t = decode by_factor l
 
   -- the first above the cutoff
   abbrev P : Factor
-  P = firstFactor t
+  P = first_factor t
 
   -- its field is known
   is_known : known (width_of l) ≡ true
   unfolding decode
-  is_known = (sound-valid byFactor-lawful known (limitBy l) l c.sound).field
+  is_known = (sound-valid by_factor-lawful known (limit_by l) l c.sound).field
 
   -- what it holds is valid
-  valid : Valid known (limitBy l) t
-  valid = sound-valid byFactor-lawful known (limitBy l) l c.sound
+  valid : Valid known (limit_by l) t
+  valid = sound-valid by_factor-lawful known (limit_by l) l c.sound
 
   -- and the slots are its encoding
-  encoded : encode byFactor (slotsFor (limitBy l)) t ≡ l
-  encoded = sound-encoded byFactor-lawful known (limitBy l) l c.sound
+  encoded : encode by_factor (slots_for (limit_by l)) t ≡ l
+  encoded = sound-encoded by_factor-lawful known (limit_by l) l c.sound
 
   -- it is not done
-  open-still : isDone t ≡ false
-  unfolding slotsDone
+  open-still : is_done t ≡ false
+  unfolding slots_done
   open-still = c.more
 
   -- the factor is below level m, and the steps below their limit
   is_free : Free t
-  unfolding slotsStuck
+  unfolding slots_stuck
   is_free = free t valid open-still c.free
 
   -- the level that the code reads
-  level-is : levelAt l o ≡ P.0
-  level-is = ap₂ levelAt (sym encoded) c.at ∙ level-at t valid open-still (slotsFor (limitBy l))
+  level-is : level_at l o ≡ P.0
+  level-is = ap₂ level_at (sym encoded) c.at ∙ level-at t valid open-still (slots_for (limit_by l))
 
   -- it is below the degree of the field
-  pub level-below-width : levelAt l o < width_of l
+  pub level-below-width : level_at l o < width_of l
   unfolding decode
   level-below-width = omega (arith, level-is, is_free.level)
 
   -- the degree that it reads
-  degree-is : degreeAt l o ≡ length P.1
-  degree-is = ap₂ degreeAt (sym encoded) c.at ∙ degree-at t valid open-still (slotsFor (limitBy l))
+  degree-is : degree_at l o ≡ length P.1
+  degree-is = ap₂ degree_at (sym encoded) c.at ∙ degree-at t valid open-still (slots_for (limit_by l))
 
   -- the coefficients that it reads
-  pub factor-is : factorAt l o ≡ P.1
-  factor-is = ap₂ take degree-is (ap₂ (λ k u. drop (k + factorSlots) u) c.at (sym encoded)) ∙ coefficients-at t valid open-still (slotsFor (limitBy l))
+  pub factor-is : factor_at l o ≡ P.1
+  factor-is = ap₂ take degree-is (ap₂ (λ k u. drop (k + factor_slots) u) c.at (sym encoded)) ∙ coefficients-at t valid open-still (slots_for (limit_by l))
 
   -- the degree of the factor is one of those that are summed up
-  around-long : place t + (length P.1 + 2 * factorSlots) ≤ length l
+  around-long : place t + (length P.1 + 2 * factor_slots) ≤ length l
   around-long =
       omega (
         arith,
-        ap length (sym encoded ∙ encode-around t valid open-still (slotsFor (limitBy l))),
-        length-append (leading t) (slots_of P ++ (blocks (beyond t) ++ replicate (spare (slotsFor (limitBy l)) t) 0)),
-        length-append P.1 (blocks (beyond t) ++ replicate (spare (slotsFor (limitBy l)) t) 0),
-        length-append (blocks (beyond t)) (replicate (spare (slotsFor (limitBy l)) t) 0),
-        length-replicate {A = ℕ} (spare (slotsFor (limitBy l)) t) 0,
+        ap length (sym encoded ∙ encode-around t valid open-still (slots_for (limit_by l))),
+        length-append (leading t) (slots_of P ++ (blocks (beyond t) ++ replicate (spare (slots_for (limit_by l)) t) 0)),
+        length-append P.1 (blocks (beyond t) ++ replicate (spare (slots_for (limit_by l)) t) 0),
+        length-append (blocks (beyond t)) (replicate (spare (slots_for (limit_by l)) t) 0),
+        length-replicate {A = ℕ} (spare (slots_for (limit_by l)) t) 0,
         room t valid open-still,
       )
 
@@ -142,11 +142,11 @@ module _ (l : List ℕ) {o : ℕ} (c : Chosen l o) where
   slots_read = record {
     long = omega (arith, sound-size l c.sound);
     room = omega (arith, degree-is, c.at, around-long);
-    few = omega (arith, limit-most (length l), degree-is, entry-most t.factors (firstAbove t.cutoff t.factors), valid.sum);
+    few = omega (arith, limit-most (length l), degree-is, entry-most t.factors (first_above t.cutoff t.factors), valid.sum);
   }
 
   -- there is a head
-  pub head-there : headSlots ≤ length l
+  pub head-there : head_slots ≤ length l
   head-there = omega (arith, slots_read.long)
 
   -- the factor's level is one of the slots, and the factor stands in them
@@ -157,7 +157,7 @@ module _ (l : List ℕ) {o : ℕ} (c : Chosen l o) where
   stands = let r = slots_read in omega (arith, r.long, r.room)
 
   -- it has as many coefficients as its degree
-  factor-long : length (factorAt l o) ≡ degreeAt l o
+  factor-long : length (factor_at l o) ≡ degree_at l o
   factor-long = ap length factor-is ∙ sym degree-is
 
   -- the field that the head names is known
@@ -165,7 +165,7 @@ module _ (l : List ℕ) {o : ℕ} (c : Chosen l o) where
   named k = record { chosen = c; width = k.width; field = ap known k.width ∙ is_known }
 
   -- what is read by the names of its parts
-  module _ {h : Head} (k : Heads l h) {i : ℕ} (e : i ≡ levelAt l o) {p : List ℕ} (q : p ≡ factorAt l o) where
+  module _ {h : Head} (k : Heads l h) {i : ℕ} (e : i ≡ level_at l o) {p : List ℕ} (q : p ≡ factor_at l o) where
     -- it is at most as long as the limit
     pub read-few : length p ≤ limit
     read-few = let r = slots_read in omega (arith, ap length q, factor-long, r.few)
@@ -189,7 +189,7 @@ module _ (l : List ℕ) {o : ℕ} (c : Chosen l o) where
       same = rw (k.width, e, q) r.same;
     }
 
-    module _ {ls ts u : List ℕ} (a : Lent (width_of l) ls ts) (z : List ℕ) (g : u ≡ traceMod (G h.m) p h.m (rem (G h.m) p (0 ∷ power (G h.m) 2 i ∷ []))) where
+    module _ {ls ts u : List ℕ} (a : Lent (width_of l) ls ts) (z : List ℕ) (g : u ≡ trace_mod (G h.m) p h.m (rem (G h.m) p (0 ∷ power (G h.m) 2 i ∷ []))) where
       -- the trace sum modulo the factor is as long
       traced-fits : length u ≡ length p
       traced-fits = traced-long (split-asks a) g
@@ -208,26 +208,26 @@ module _ (l : List ℕ) {o : ℕ} (c : Chosen l o) where
             tables = a;
             small = subst (λ (m : ℕ). Below (2 ^ m) (take (length p) (u ++ z))) k.width (subst (Below (2 ^ h.m)) (sym (f ∙ g)) (trace-small s));
             few = omega (arith, ap length f, traced-fits, read-few);
-            same = ap (gcd (G (width_of l)) (factorAt l o)) (f ∙ g) ∙ at_slots (traced-same s);
+            same = ap (gcd (G (width_of l)) (factor_at l o)) (f ∙ g) ∙ at_slots (traced-same s);
           }
         where
           -- the same by the names of the slots
-          at_slots : gcd (G h.m) p (traceMod (G h.m) p h.m (rem (G h.m) p (0 ∷ power (G h.m) 2 i ∷ []))) ≡ (halvingAt h.m).low i p
-              → gcd (G (width_of l)) (factorAt l o) (traceMod (G h.m) p h.m (rem (G h.m) p (0 ∷ power (G h.m) 2 i ∷ [])))
-              ≡ (halvingAt (width_of l)).low (levelAt l o) (factorAt l o)
+          at_slots : gcd (G h.m) p (trace_mod (G h.m) p h.m (rem (G h.m) p (0 ∷ power (G h.m) 2 i ∷ []))) ≡ (halving_at h.m).low i p
+              → gcd (G (width_of l)) (factor_at l o) (trace_mod (G h.m) p h.m (rem (G h.m) p (0 ∷ power (G h.m) 2 i ∷ [])))
+              ≡ (halving_at (width_of l)).low (level_at l o) (factor_at l o)
           at_slots x = rw (sym k.width, sym e, sym q) x
 
   -- the parts of the factor that the code reads are those of the factor
   abbrev H : Halving ℕ
-  H = halvingAt t.width
+  H = halving_at t.width
 
   -- each factor is parted in two that have its degree together
   halves : (i : ℕ) (p : List ℕ) → Below (2 ^ t.width) p → LosslessHalving H t.width i p
   halves = trace-halves (known-field t.width valid.field)
 
-  module _ {h : Head} (k : Heads l h) {i : ℕ} (e : i ≡ levelAt l o) {p : List ℕ} (g : p ≡ factorAt l o) {q : ℕ} {w : List ℕ} (r : Parted h.m i p q w) where
+  module _ {h : Head} (k : Heads l h) {i : ℕ} (e : i ≡ level_at l o) {p : List ℕ} (g : p ≡ factor_at l o) {q : ℕ} {w : List ℕ} (r : Parted h.m i p q w) where
     -- the parts that were written
-    parts_are : blocks (parts (halvingAt h.m) (i, p)) ≡ blocks (parts H P)
+    parts_are : blocks (parts (halving_at h.m) (i, p)) ≡ blocks (parts H P)
     unfolding decode
     parts_are = rw (k.width, e ∙ level-is, g ∙ factor-is) refl
 
@@ -240,13 +240,13 @@ module _ (l : List ℕ) {o : ℕ} (c : Chosen l o) where
     new-count = ap length r.slots ∙ sym r.count
 
     -- two for each part, and the coefficients
-    new-long : q ≡ factorSlots * length (parts H P) + degreeAt l o
-    new-long = r.count ∙ ap length parts_are ∙ length-new t valid open-still H halves ∙ ap (λ n. factorSlots * length (parts H P) + n) (sym degree-is)
+    new-long : q ≡ factor_slots * length (parts H P) + degree_at l o
+    new-long = r.count ∙ ap length parts_are ∙ length-new t valid open-still H halves ∙ ap (λ n. factor_slots * length (parts H P) + n) (sym degree-is)
 
     -- one part or two: two or four slots more than coefficients
     pub record SlotSizes : Type 0 where
-      pub least : degreeAt l o + factorSlots ≤ q
-      pub most : q ≤ degreeAt l o + 2 * factorSlots
+      pub least : degree_at l o + factor_slots ≤ q
+      pub most : q ≤ degree_at l o + 2 * factor_slots
 
     -- as they are
     slot-sizes : SlotSizes
@@ -256,7 +256,7 @@ module _ (l : List ℕ) {o : ℕ} (c : Chosen l o) where
     }
 
     -- they fit in the room of two factors
-    pub new-fits : q ≤ twoFactors
+    pub new-fits : q ≤ two_factors
     new-fits = let z = slot-sizes in let s = slots_read in omega (arith, z.most, s.few)
 
     -- the factor can give way to them
@@ -271,7 +271,7 @@ module _ (l : List ℕ) {o : ℕ} (c : Chosen l o) where
             arith,
             taken_is,
             is_free.steps,
-            mul-le-mul {n₂ = widest} {m₂ = limit} (degree-within t.width valid.field) (le_trans (div-le_self (degreeSum t.factors) (suc t.cutoff)) (le_trans valid.sum (limit-most (length l)))),
+            mul-le-mul {n₂ = widest} {m₂ = limit} (degree-within t.width valid.field) (le_trans (div-le_self (degree_sum t.factors) (suc t.cutoff)) (le_trans valid.sum (limit-most (length l)))),
           );
           room = omega (arith, s.room, s.long);
           least = omega (arith, new-count, z.least);
@@ -279,13 +279,13 @@ module _ (l : List ℕ) {o : ℕ} (c : Chosen l o) where
         }
 
     -- the slots are then those of the table after the step
-    pub replaced : {s : List ℕ} → s ≡ replacedAt o (take q w) l → s ≡ slotsStepped byFactor l
+    pub replaced : {s : List ℕ} → s ≡ replaced_at o (take q w) l → s ≡ slots_stepped by_factor l
     replaced {s} x =
-        let old : degreeAt l o + factorSlots ≡ length (slots_of P) = omega (arith, degree-is) in
-        let n : count_of l - 1 + (length (take q w) - degreeAt l o) / factorSlots ≡ length t.factors - 1 + length (parts H P) = omega (arith, new-count, new-long, count-is) in
+        let old : degree_at l o + factor_slots ≡ length (slots_of P) = omega (arith, degree-is) in
+        let n : count_of l - 1 + (length (take q w) - degree_at l o) / factor_slots ≡ length t.factors - 1 + length (parts H P) = omega (arith, new-count, new-long, count-is) in
         let j : taken_of l + 1 ≡ suc t.taken = omega (arith, taken_is) in
-        let same : spliced o (degreeAt l o + factorSlots) (take q w) l ≡ spliced (place t) (length (slots_of P)) (blocks (parts H P)) (encode byFactor (slotsFor (limitBy l)) t) =
+        let same : spliced o (degree_at l o + factor_slots) (take q w) l ≡ spliced (place t) (length (slots_of P)) (blocks (parts H P)) (encode by_factor (slots_for (limit_by l)) t) =
         ap₂ (λ (a b : ℕ). spliced a b (take q w) l) c.at old ∙ ap₂ (λ (u v : List ℕ). spliced (place t) (length (slots_of P)) u v) new_is (sym encoded) in
         x ∙ ap₂ (λ (u : List ℕ) (a : ℕ). set (set u 2 a) 3 (taken_of l + 1)) same n
-        ∙ ap (λ a. set (set (spliced (place t) (length (slots_of P)) (blocks (parts H P)) (encode byFactor (slotsFor (limitBy l)) t)) 2 (length t.factors - 1 + length (parts H P))) 3 a) j
-        ∙ sym (step-slots byFactor-lawful (limitBy l) l c.sound ∙ step-spliced t valid open-still H halves)
+        ∙ ap (λ a. set (set (spliced (place t) (length (slots_of P)) (blocks (parts H P)) (encode by_factor (slots_for (limit_by l)) t)) 2 (length t.factors - 1 + length (parts H P))) 3 a) j
+        ∙ sym (step-slots by_factor-lawful (limit_by l) l c.sound ∙ step-spliced t valid open-still H halves)

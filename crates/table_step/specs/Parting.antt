@@ -17,8 +17,8 @@ use Rattle.poly.specs.Lent.{Lent}
 use Rattle.input.specs.Limit.{limit}
 use Rattle.table_rules.specs.Entries.{parts}
 use Rattle.table_rules.specs.Layout.{blocks}
-use Rattle.table_rules.specs.Splitting.{halvingAt}
-use Rattle.table_slots.specs.Slots.{width_of, levelAt, factorAt}
+use Rattle.table_rules.specs.Splitting.{halving_at}
+use Rattle.table_slots.specs.Slots.{width_of, level_at, factor_at}
 use Rattle.table_slots.specs.Verdicts.{Chosen}
 
 -- over the field of degree m
@@ -33,12 +33,12 @@ pub record Partable (m : ℕ) (ls ts p : List ℕ) (i : ℕ) (t : List ℕ) : Ty
   pub splittable : Splittable m ls ts p i
   pub small : Below (2 ^ m) t
   pub few : length t ≤ limit
-  pub same : gcd (G m) p t ≡ (halvingAt m).low i p
+  pub same : gcd (G m) p t ≡ (halving_at m).low i p
 
 -- one level further
 pub record Parted (m i : ℕ) (p : List ℕ) (r : ℕ) (w : List ℕ) : Type 0 where
-  pub slots : take r w ≡ blocks (parts (halvingAt m) (i, p))
-  pub count : r ≡ length (blocks (parts (halvingAt m) (i, p)))
+  pub slots : take r w ≡ blocks (parts (halving_at m) (i, p))
+  pub count : r ≡ length (blocks (parts (halving_at m) (i, p)))
 
 -- the table's field is that of degree m
 pub record ChosenAt (m : ℕ) (l : List ℕ) (o : ℕ) : Type 0 where
@@ -57,4 +57,4 @@ pub record StepReady (l ls ts : List ℕ) (o : ℕ) (t : List ℕ) : Type 0 wher
   pub tables : Lent (width_of l) ls ts
   pub small : Below (2 ^ width_of l) t
   pub few : length t ≤ limit
-  pub same : gcd (G (width_of l)) (factorAt l o) t ≡ (halvingAt (width_of l)).low (levelAt l o) (factorAt l o)
+  pub same : gcd (G (width_of l)) (factor_at l o) t ≡ (halving_at (width_of l)).low (level_at l o) (factor_at l o)

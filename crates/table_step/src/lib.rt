@@ -2,12 +2,12 @@
 // greatest common divisor g of P and Tr(a^i z), and to h = P/g.
 ghost use Rattle.std.specs.Prelude.{◌≡◌, [], ◌∷◌, ◌≤◌, length};
 ghost use Rattle.algebra.specs.Field.{power};
-ghost use Rattle.algebra.specs.Routines.{rem, traceMod};
+ghost use Rattle.algebra.specs.Routines.{rem, trace_mod};
 ghost use Rattle.field.specs.Field.{G};
 ghost use Rattle.poly.specs.Lent.{Lent};
-ghost use Rattle.table_rules.specs.Layout.{byFactor};
-ghost use Rattle.table_rules.specs.Splitting.{slotsStepped};
-ghost use Rattle.table_rules.specs.Sizes.{twoFactors};
+ghost use Rattle.table_rules.specs.Layout.{by_factor};
+ghost use Rattle.table_rules.specs.Splitting.{slots_stepped};
+ghost use Rattle.table_rules.specs.Sizes.{two_factors};
 ghost use Rattle.table_step.specs.Calls.{Steps};
 ghost use Rattle.table_slots.specs.Verdicts.{Chosen};
 ghost use Rattle.table_step.specs.Parting.{Splittable, Partable, Parted, ChosenAt, Steppable, StepReady};
@@ -32,7 +32,7 @@ pub enum Stepped {
 fn trace_at(m: u16, logs: &[u16], antilogs: &[u16], p: &[u16], level: u16, t: &mut [u16])
     requires { Splittable m logs.now antilogs.now p.now level × (length t.old ≡ length p.now) }
     ensures { t.new
-        ≡ traceMod (G m) p.now m (rem (G m) p.now (0 ∷ power (G m) 2 level ∷ [])) }
+        ≡ trace_mod (G m) p.now m (rem (G m) p.now (0 ∷ power (G m) 2 level ∷ [])) }
 {
     let b = antilogs[2 * (level as usize)];
     trace_of(m, logs, antilogs, p, b, t);
@@ -49,7 +49,7 @@ fn parts_of(
     t: &[u16],
     w: &mut [u16],
 ) -> usize
-    requires { Partable m logs.now antilogs.now p.now level t.now × (twoFactors ≤ length w.old) }
+    requires { Partable m logs.now antilogs.now p.now level t.now × (two_factors ≤ length w.old) }
     ensures { Parted m level p.now result w.new }
 {
     let mut g = [0u16; COEFFICIENTS];
@@ -65,7 +65,7 @@ fn parts_of(
 // Tr(a^i z).
 pub fn step_lent(table: &mut [u16], logs: &[u16], antilogs: &[u16], o: usize, t: &[u16])
     requires { StepReady table.old logs.now antilogs.now o t.now }
-    ensures { table.new ≡ slotsStepped byFactor table.old }
+    ensures { table.new ≡ slots_stepped by_factor table.old }
 {
     let h = head_of(table);
     let level = level_at(table, o);
@@ -78,7 +78,7 @@ pub fn step_lent(table: &mut [u16], logs: &[u16], antilogs: &[u16], o: usize, t:
 // whatever the table.
 fn step_traced(table: &mut [u16], logs: &[u16], antilogs: &[u16], o: usize)
     requires { Steppable table.old logs.now antilogs.now o }
-    ensures { table.new ≡ slotsStepped byFactor table.old }
+    ensures { table.new ≡ slots_stepped by_factor table.old }
 {
     let h = head_of(table);
     let level = level_at(table, o);
@@ -92,7 +92,7 @@ fn step_traced(table: &mut [u16], logs: &[u16], antilogs: &[u16], o: usize)
 // The same, with m for the degree of the table's field.
 fn step_named(m: u16, table: &mut [u16], logs: &[u16], antilogs: &[u16], o: usize)
     requires { ChosenAt m table.old o × Lent m logs.now antilogs.now }
-    ensures { table.new ≡ slotsStepped byFactor table.old }
+    ensures { table.new ≡ slots_stepped by_factor table.old }
 {
     step_traced(table, logs, antilogs, o);
 }
@@ -100,7 +100,7 @@ fn step_named(m: u16, table: &mut [u16], logs: &[u16], antilogs: &[u16], o: usiz
 // The same. The field's tables are lent here.
 fn step_at(m: u16, table: &mut [u16], o: usize)
     requires { ChosenAt m table.old o }
-    ensures { table.new ≡ slotsStepped byFactor table.old }
+    ensures { table.new ≡ slots_stepped by_factor table.old }
 {
     match m {
         4 => step_named(m, table, &logs4(m), &antilogs4(m), o),
@@ -112,7 +112,7 @@ fn step_at(m: u16, table: &mut [u16], o: usize)
 // Replaces the factor at o by its parts, and counts the step.
 fn step_in(table: &mut [u16], o: usize)
     requires { Chosen table.old o }
-    ensures { table.new ≡ slotsStepped byFactor table.old }
+    ensures { table.new ≡ slots_stepped by_factor table.old }
 {
     let h = head_of(table);
     step_at(h.m, table, o);

@@ -4,7 +4,7 @@ use mathlib.Core.Path.{◌≡◌, sym, ◌∙◌, subst}
 use Prim.Native.Nat.{ℕ, ◌-◌, ◌≤◌}
 use native.Mathlib.Omega.{arith}
 use lib.ListN.{length}
-use Rattle.corrector.specs.Places.{placesIn, Agrees}
+use Rattle.corrector.specs.Places.{places_in, Agrees}
 use Rattle.corrector.proofs.Walking.{agree_on, agree-not}
 use borrow.Author.Rules.{rules}
 use Rattle.corrector.proofs.agree.Statement.{statement}
@@ -12,7 +12,7 @@ use Rattle.corrector.proofs.agree.Tie as tie
 use Rattle.corrector.proofs.power_sum.Reads as power-sum-reads
 
 abbrev invariant-loop : tie.invariant-loop
-invariant-loop antilogs p t odd i₀ i = (i ≤ t) × (length odd ≡ 8) × Agrees odd i (placesIn p)
+invariant-loop antilogs p t odd i₀ i = (i ≤ t) × (length odd ≡ 8) × Agrees odd i (places_in p)
 
 abbrev decreases-loop : tie.decreases-loop
 decreases-loop antilogs p t odd i₀ i = t - i
@@ -39,7 +39,7 @@ array-read-if1 : tie.Need-array-read-if1 invariant-loop decreases-loop
 array-read-if1 c = let l = c.before.before.before.before.requires.2 in let v = c.before.before.loop.invariant.1 in omega arith
 
 returns : tie.Need-returns invariant-loop decreases-loop
-returns c = agree-not c.before.before.before.before.before.args.t3 (placesIn c.before.before.before.before.before.args.p) (omega arith) c.before.power-sum.ensures c.if1.true
+returns c = agree-not c.before.before.before.before.before.args.t3 (places_in c.before.before.before.before.before.args.p) (omega arith) c.before.power-sum.ensures c.if1.true
 
 add-i : tie.Need-overflow-add-i invariant-loop decreases-loop
 add-i c = let l = c.before.before.before.before.before.requires.2 in omega arith
@@ -48,10 +48,10 @@ loop-less : tie.Need-loop-smaller invariant-loop decreases-loop
 loop-less c = search rules
 
 loop-again : tie.Need-loop-preserved invariant-loop decreases-loop
-loop-again c = let v = c.before.before.before.loop.invariant in (omega arith, v.1, agree_on c.before.before.before.before.before.args.t3 (placesIn c.before.before.before.before.before.args.p) v.2 (sym c.before.power-sum.ensures ∙ c.if1.false))
+loop-again c = let v = c.before.before.before.loop.invariant in (omega arith, v.1, agree_on c.before.before.before.before.before.args.t3 (places_in c.before.before.before.before.before.args.p) v.2 (sym c.before.power-sum.ensures ∙ c.if1.false))
 
 returns-2 : tie.Need-returns-2 invariant-loop decreases-loop
-returns-2 c = let v = c.before.loop.invariant in let z : c.before.loop.i ≡ c.before.before.before.args.t = (let l = v.0 in omega arith) in subst (λ (n : ℕ). Agrees c.before.before.before.args.t3 n (placesIn c.before.before.before.args.p)) z v.2
+returns-2 c = let v = c.before.loop.invariant in let z : c.before.loop.i ≡ c.before.before.before.args.t = (let l = v.0 in omega arith) in subst (λ (n : ℕ). Agrees c.before.before.before.args.t3 n (places_in c.before.before.before.args.p)) z v.2
 
 pub agree-spec : {M : Type 1} → statement M
 agree-spec =

@@ -3,7 +3,7 @@
 use mathlib.Core.Path.{refl}
 use native.Mathlib.Omega.{arith}
 use lib.ListN.{replicate}
-use Rattle.corrector.specs.Places.{placesOf}
+use Rattle.corrector.specs.Places.{places_of}
 use Rattle.corrector.proofs.Finding.{findable}
 use Rattle.corrector.proofs.Calling.{count-places, placing, places-held, spotted-many, spotted-few}
 use borrow.Author.Rules.{rules}
@@ -26,7 +26,7 @@ returns : tie.Need-returns
 returns c =
     let a = c.before.before.before.before.before.before.before in
     let n = count-places a.args.locator a.requires.2 c.before.before.before.roots-of.ensures in
-    spotted-many (placesOf a.args.locator) a.args.t _ c.nowhere.ensures (let h = c.before.if1.true in omega arith)
+    spotted-many (places_of a.args.locator) a.args.t _ c.nowhere.ensures (let h = c.before.if1.true in omega arith)
 
 slice-aggregate-places-of : tie.Need-slice-aggregate-places-of
 slice-aggregate-places-of c = search rules
@@ -42,7 +42,7 @@ returns-2 c =
     let v = c.before.before.before.before.roots-of.ensures in
     let n = count-places a.args.locator a.requires.2 v in
     let h = c.before.before.if1.false in
-    spotted-few (placesOf a.args.locator) a.args.t _ c.places_of.ensures.good
+    spotted-few (places_of a.args.locator) a.args.t _ c.places_of.ensures.good
     (places-held a.args.locator a.requires.2 v _ (let t = a.requires.3 in omega arith) c.places_of.ensures) (omega arith)
 
 pub spots-of-spec : {M : Type 1} → statement M

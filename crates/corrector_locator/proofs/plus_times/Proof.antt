@@ -5,23 +5,23 @@ use Prim.Native.Nat.{◌-◌}
 use native.Mathlib.Omega.{arith}
 use lib.Bits.{bit_xor}
 use lib.ListN.{length}
-use Rattle.corrector_code.specs.Key.{plusTimes}
+use Rattle.corrector_code.specs.Key.{plus_times}
 use Rattle.corrector_code.specs.Eleven.{F11}
 use Rattle.slices.proofs.Filling.{Filling, fill-from, fill_on, fill-next, fill_end}
-use Rattle.corrector_locator.proofs.Loops.{plusTimes-at, plusTimes-long}
+use Rattle.corrector_locator.proofs.Loops.{plus_times-at, plus_times-long}
 use borrow.Author.Rules.{rules}
 use Rattle.corrector_locator.proofs.plus_times.Statement.{statement}
 use Rattle.corrector_locator.proofs.plus_times.Tie as tie
 use Rattle.corrector_locator.proofs.product.Reads as product-reads
 
 abbrev invariant-loop : tie.invariant-loop
-invariant-loop logs powers d q r₀ i₀ r i = (length r₀ ≡ 9) × (length q ≡ 9) × Filling (plusTimes F11 r₀ d q) r₀ r i
+invariant-loop logs powers d q r₀ i₀ r i = (length r₀ ≡ 9) × (length q ≡ 9) × Filling (plus_times F11 r₀ d q) r₀ r i
 
 abbrev decreases-loop : tie.decreases-loop
 decreases-loop logs powers d q r₀ i₀ r i = 9 - i
 
 loop-holds : tie.Need-loop-init invariant-loop decreases-loop
-loop-holds c = (omega arith, omega arith, fill-from _ _ (plusTimes-long _ _ _ (omega arith)))
+loop-holds c = (omega arith, omega arith, fill-from _ _ (plus_times-long _ _ _ (omega arith)))
 
 mul-r : tie.Need-overflow-mul-r invariant-loop decreases-loop
 mul-r c = search rules
@@ -53,7 +53,7 @@ loop-less c = search rules
 loop-again : tie.Need-loop-preserved invariant-loop decreases-loop
 loop-again c =
     let v = c.before.before.loop.invariant in
-    (v.0, v.1, fill_on v.2 (omega arith) (ap₂ bit_xor (fill-next v.2 (omega arith)) c.product.ensures ∙ sym (plusTimes-at _ _ _ _ (v.0 ∙ sym v.1) (omega arith))))
+    (v.0, v.1, fill_on v.2 (omega arith) (ap₂ bit_xor (fill-next v.2 (omega arith)) c.product.ensures ∙ sym (plus_times-at _ _ _ _ (v.0 ∙ sym v.1) (omega arith))))
 
 returns : tie.Need-returns invariant-loop decreases-loop
 returns c = fill_end c.before.loop.invariant.2 (omega arith)

@@ -3,7 +3,7 @@
 use mathlib.Core.Path.{refl}
 use Prim.Native.Nat.{◌*◌}
 use native.Mathlib.Omega.{arith}
-use Rattle.corrector_generator.specs.Generators.{generatorAt}
+use Rattle.corrector_generator.specs.Generators.{generator_at}
 use Rattle.corrector_generator.proofs.Zeros.{rest_below}
 use Rattle.corrector_remainder.proofs.Dividing.{Resting, rest-start, rest-turn, rest_end}
 use Rattle.corrector_remainder.proofs.Registers.{monic5}
@@ -14,13 +14,13 @@ use Rattle.corrector_remainder.proofs.four.Reads as four-reads
 use Rattle.corrector_remainder.proofs.rest5_on.Reads as rest5-on-reads
 
 abbrev invariant-loop : tie.invariant-loop
-invariant-loop word r₀ k₀ r k = Resting (generatorAt 5) word r (4 * k)
+invariant-loop word r₀ k₀ r k = Resting (generator_at 5) word r (4 * k)
 
 abbrev decreases-loop : tie.decreases-loop
 decreases-loop word r₀ k₀ r k = k
 
 loop-holds : tie.Need-loop-init invariant-loop decreases-loop
-loop-holds c = rest-start (generatorAt 5) _ c.before.requires refl
+loop-holds c = rest-start (generator_at 5) _ c.before.requires refl
 
 sub-k : tie.Need-overflow-sub-k invariant-loop decreases-loop
 sub-k c = search rules
@@ -71,11 +71,11 @@ loop-less c = search rules
 loop-again : tie.Need-loop-preserved invariant-loop decreases-loop
 loop-again c =
     let a = c.before.before.before.before.before.before.before in
-    rest-turn (generatorAt 5) monic5 a.before.before.requires a.loop.invariant (omega arith) c.before.four.ensures
+    rest-turn (generator_at 5) monic5 a.before.before.requires a.loop.invariant (omega arith) c.before.four.ensures
     c.rest5-on.ensures
 
 returns : tie.Need-returns invariant-loop decreases-loop
-returns c = rest_end (generatorAt 5) c.before.loop.invariant (omega arith)
+returns c = rest_end (generator_at 5) c.before.loop.invariant (omega arith)
 
 pub rest5-spec : {M : Type 1} → statement M
 rest5-spec =

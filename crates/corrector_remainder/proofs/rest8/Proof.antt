@@ -3,7 +3,7 @@
 use mathlib.Core.Path.{refl}
 use native.Mathlib.Omega.{arith}
 use borrow.Author.Rules.{rules}
-use Rattle.corrector_generator.specs.Generators.{generatorAt}
+use Rattle.corrector_generator.specs.Generators.{generator_at}
 use Rattle.corrector_remainder.specs.Remainder.{rest_of}
 use Rattle.corrector_remainder.proofs.Dividing.{Resting, rest-start, rest-turn, rest_end}
 use Rattle.corrector_remainder.proofs.Registers.{monic8, high_fits}
@@ -13,13 +13,13 @@ use Rattle.corrector_remainder.proofs.four.Reads as four-reads
 use Rattle.corrector_remainder.proofs.rest8_on.Reads as rest8-on-reads
 
 abbrev invariant-loop : tie.invariant-loop
-invariant-loop word r₀ i₀ r i = Resting (generatorAt 8) word (rest_of r) i
+invariant-loop word r₀ i₀ r i = Resting (generator_at 8) word (rest_of r) i
 
 abbrev decreases-loop : tie.decreases-loop
 decreases-loop word r₀ i₀ r i = i
 
 loop-holds : tie.Need-loop-init invariant-loop decreases-loop
-loop-holds c = rest-start (generatorAt 8) _ c.before.requires refl
+loop-holds c = rest-start (generator_at 8) _ c.before.requires refl
 
 sub-i : tie.Need-overflow-sub-i invariant-loop decreases-loop
 sub-i c = let v = c.before.loop.invariant in let a = v.fourth in let b = v.within in omega arith
@@ -72,11 +72,11 @@ loop-again c =
     let a = c.before.before.before.before.before.before.before in
     let v = a.loop.invariant in
     let f = v.fourth in
-    rest-turn (generatorAt 8) monic8 a.before.before.requires v (omega arith) c.before.four.ensures
+    rest-turn (generator_at 8) monic8 a.before.before.requires v (omega arith) c.before.four.ensures
     c.rest8-on.ensures
 
 returns : tie.Need-returns invariant-loop decreases-loop
-returns c = rest_end (generatorAt 8) c.before.loop.invariant (omega arith)
+returns c = rest_end (generator_at 8) c.before.loop.invariant (omega arith)
 
 pub rest8-spec : {M : Type 1} → statement M
 rest8-spec =

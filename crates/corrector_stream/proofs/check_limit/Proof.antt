@@ -3,14 +3,14 @@
 use mathlib.Core.Path.{◌≡◌, refl, sym, ap, ◌∙◌}
 use Prim.Native.Nat.{ℕ, suc, ◌^◌, ◌≤◌}
 use native.Mathlib.Omega.{arith}
-use Rattle.corrector_stream.proofs.Shapes.{checkBits}
+use Rattle.corrector_stream.proofs.Shapes.{check_bits}
 use borrow.Author.Rules.{rules}
 use Rattle.corrector_stream.proofs.check_limit.Statement.{statement}
 use Rattle.corrector_stream.proofs.check_limit.Tie as tie
 
 -- an arm by its key
-arm : {t x : ℕ} (k : ℕ) → t ≡ k → x ≡ 2 ^ checkBits k → x ≡ 2 ^ checkBits t
-arm k e h = h ∙ ap (λ (n : ℕ). 2 ^ checkBits n) (sym e)
+arm : {t x : ℕ} (k : ℕ) → t ≡ k → x ≡ 2 ^ check_bits k → x ≡ 2 ^ check_bits t
+arm k e h = h ∙ ap (λ (n : ℕ). 2 ^ check_bits n) (sym e)
 
 -- past a key
 beyond : {k t : ℕ} → k ≤ t → (t ≡ k → ⊥) → suc k ≤ t

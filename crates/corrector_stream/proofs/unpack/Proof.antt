@@ -2,7 +2,7 @@
 -- Assumes nothing.
 use mathlib.Core.Path.{refl, ap}
 use mathlib.Core.List.{[], ◌∷◌}
-use Rattle.corrector.specs.Correcting.{Corrects, toldCorrected}
+use Rattle.corrector.specs.Correcting.{Corrects, told_corrected}
 use Rattle.corrector.proofs.Contract.{found-codeword}
 use Rattle.corrector_stream.specs.Calls.Unpacks.{no_room, refused}
 use Rattle.corrector_stream.proofs.Holding.{cramped, roomy, corrected-as, unpacked}
@@ -22,7 +22,7 @@ codeword : (c : tie.After-take-out-arg2)
     c.before.before.before.before.before.before.before.correct.new.1.0
 codeword c =
     corrected-as c.before.before.before.before.before.before.before.correct.ensures
-    (ap toldCorrected c.before.before.before.flips.given.1)
+    (ap told_corrected c.before.before.before.flips.given.1)
 
 capacity-requires : tie.Need-capacity-requires
 capacity-requires c κs = search rules
@@ -57,7 +57,7 @@ returns-2 c =
     let k = c.before.before.before.before.before in
     let a = k.before.before.before in
     refused (roomy a.before.before.before.args.room.now a.capacity.ensures k.before.before.if1.false)
-    (corrected-as k.correct.ensures (ap toldCorrected c.before.k.given.1))
+    (corrected-as k.correct.ensures (ap told_corrected c.before.k.given.1))
 
 same-length-2 : tie.Need-same-length-2
 same-length-2 c = search rules

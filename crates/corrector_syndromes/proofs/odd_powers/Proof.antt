@@ -1,12 +1,12 @@
 -- `corrector_syndromes::odd_powers` meets its contract: one test over the whole table.
 -- Assumes nothing.
-use Rattle.field.specs.Rows.{polyIn}
-use Rattle.corrector_syndromes.proofs.Entries.{rowsTest, rows_at}
+use Rattle.field.specs.Rows.{poly_in}
+use Rattle.corrector_syndromes.proofs.Entries.{rows_test, rows_at}
 use Rattle.corrector_syndromes.proofs.odd_powers.Statement.{statement}
 use Rattle.corrector_syndromes.proofs.odd_powers.Tie as tie
 
 returns : tie.Need-returns
-unfolding polyIn rowsTest
+unfolding poly_in rows_test
 returns c = rows_at _ tt
 
 pub odd-powers-spec : {M : Type 1} → statement M

@@ -7,7 +7,7 @@ use native.Mathlib.Omega.{arith}
 use Rattle.refusals.specs.Order.{Passed}
 use Rattle.refusals.proofs.Admitting.{let-in, turned-away}
 use Rattle.refusals.proofs.Order.{refused}
-use Rattle.field_elements.specs.Calls.{positionTests}
+use Rattle.field_elements.specs.Calls.{position_tests}
 use Rattle.field_elements.proofs.Admitting.{place-told}
 use Rattle.field_elements.proofs.Placing.{ExponentKnown, exponent-known, goppa-outcome, recorder-outcome}
 use borrow.Author.Rules.{rules}
@@ -18,7 +18,7 @@ use Rattle.field_elements.proofs.admit_position.Reads as admit-position-reads
 use Rattle.field_tables.proofs.field_types.position_in.Reads as position-in-reads
 
 -- all tests passed
-let_through : (c : tie.After-enum-told) → let s = c.before.before.before.args in Passed (positionTests s.m s.r s.convention)
+let_through : (c : tie.After-enum-told) → let s = c.before.before.before.args in Passed (position_tests s.m s.r s.convention)
 let_through c = let-in c.before.before.admit-position.ensures c.enum_told.given.1
 
 -- and the exponent is taken

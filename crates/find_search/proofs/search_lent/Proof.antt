@@ -5,7 +5,7 @@ use mathlib.Core.List.{List}
 use Prim.Native.Nat.{ℕ, ◌+◌, ◌-◌, ◌%◌, ◌≤◌, ◌<◌, ◌^◌}
 use native.Mathlib.Omega.{arith}
 use lib.ListN.{length}
-use Rattle.field.specs.Field.{rootsAt}
+use Rattle.field.specs.Field.{roots_at}
 use Rattle.find_search.specs.Searching.{Tried}
 use Rattle.find_search.proofs.Trying.{tried-note, note-room, tried-next, tried-again, tried-end, searched-over, sizes}
 use Rattle.find_search.proofs.Admitting.{roots-room}
@@ -19,7 +19,7 @@ record Blocks (m : ℕ) (f roots : List ℕ) (x k : ℕ) (roots' : List ℕ) : T
   pub positive : 0 < x
 
 -- the list is as long as it was
-roomy : {m : ℕ} {f roots r : List ℕ} {x k : ℕ} → Tried m f roots x k r → length (rootsAt m f) ≤ length roots → length (rootsAt m f) ≤ length r
+roomy : {m : ℕ} {f roots r : List ℕ} {x k : ℕ} → Tried m f roots x k r → length (roots_at m f) ≤ length roots → length (roots_at m f) ≤ length r
 roomy h l = let e = h.long in omega arith
 
 abbrev invariant-loop : tie.invariant-loop

@@ -3,8 +3,8 @@
 -- Assumes nothing.
 use Prim.Native.Nat.{◌-◌}
 use native.Mathlib.Omega.{arith}
-use Rattle.field.specs.Field.{rootsAt}
-use Rattle.table_rules.specs.Demand.{stepCount}
+use Rattle.field.specs.Field.{roots_at}
+use Rattle.table_rules.specs.Demand.{step_count}
 use Rattle.table_slots.specs.Slots.{taken_of}
 use Rattle.find_solve.proofs.Running.{found_none, found_at, long-now, run-count, run-left, run_end}
 use Rattle.find_solve.proofs.Tracing.{Going, going-from, going-asks, going_on}
@@ -16,7 +16,7 @@ abbrev invariant-loop : tie.invariant-loop
 invariant-loop m c coeffs logs antilogs n rows traces₀ table₀ ready₀ traces table ready = Going m c coeffs n rows traces₀ table₀ traces table ready
 
 abbrev decreases-loop : tie.decreases-loop
-decreases-loop m c coeffs logs antilogs n rows traces₀ table₀ ready₀ traces table ready = stepCount m c (rootsAt m coeffs) - taken_of table
+decreases-loop m c coeffs logs antilogs n rows traces₀ table₀ ready₀ traces table ready = step_count m c (roots_at m coeffs) - taken_of table
 
 loop-holds : tie.Need-loop-init invariant-loop decreases-loop
 loop-holds c = going-from c.before.before.before.before.before.before.requires

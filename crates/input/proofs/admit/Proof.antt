@@ -5,11 +5,11 @@ use mathlib.Core.Bool.{Bool}
 use mathlib.Core.List.{[], ◌∷◌}
 use Prim.Native.Nat.{ℕ}
 use lib.Dec.{ltb}
-use Rattle.input.specs.Cutoff.{highestCutoff}
+use Rattle.input.specs.Cutoff.{highest_cutoff}
 use lib.ListN.{length}
 use Rattle.refusals.proofs.Admitting.{admits-also}
 use Rattle.refusals.specs.declared.Refusal.TheVariants.{Room}
-use Rattle.input.specs.Values.{valueTests}
+use Rattle.input.specs.Values.{value_tests}
 use Rattle.input.proofs.PolynomialTests.{values-admit}
 use borrow.Author.Rules.{rules}
 use Rattle.input.proofs.admit.Statement.{statement}
@@ -31,9 +31,9 @@ returns : tie.Need-returns
 returns c =
     let l = c.before.before in
     let s = l.before.before.args in
-    let six : ℕ × Bool = (6, ltb highestCutoff s.cutoff) in
+    let six : ℕ × Bool = (6, ltb highest_cutoff s.cutoff) in
     values-admit s.m s.coeffs.now (six ∷ (7, s.short) ∷ []) c.also.result l.largest.ensures
-    (admits-also (valueTests s.m (length s.coeffs.now) l.largest.result (six ∷ [])) c.before.admit-call.result s.short Room c.also.ensures
+    (admits-also (value_tests s.m (length s.coeffs.now) l.largest.result (six ∷ [])) c.before.admit-call.result s.short Room c.also.ensures
     c.before.admit-call.ensures)
 
 pub admit-spec : {M : Type 1} → statement M

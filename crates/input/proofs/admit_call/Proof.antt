@@ -2,10 +2,10 @@
 -- Assumes nothing.
 use mathlib.Core.List.{[]}
 use lib.Dec.{ltb}
-use Rattle.input.specs.Cutoff.{highestCutoff}
+use Rattle.input.specs.Cutoff.{highest_cutoff}
 use Rattle.refusals.proofs.Admitting.{admits-also}
 use Rattle.refusals.specs.declared.Refusal.TheVariants.{Cutoff}
-use Rattle.input.specs.Values.{valueTests}
+use Rattle.input.specs.Values.{value_tests}
 use borrow.Author.Rules.{rules}
 use Rattle.input.proofs.admit_call.Statement.{statement}
 use Rattle.input.proofs.admit_call.Tie as tie
@@ -21,7 +21,7 @@ also-requires c κs = search rules
 returns : tie.Need-returns
 returns c =
     let s = c.before.before.args in
-    admits-also (valueTests s.m s.n s.top []) c.before.admit-values.result (ltb highestCutoff s.cutoff) Cutoff c.also.ensures
+    admits-also (value_tests s.m s.n s.top []) c.before.admit-values.result (ltb highest_cutoff s.cutoff) Cutoff c.also.ensures
     c.before.admit-values.ensures
 
 pub admit-call-spec : {M : Type 1} → statement M

@@ -4,7 +4,7 @@ use mathlib.Core.List.{[], ◌∷◌}
 use lib.ListN.{length}
 use Rattle.refusals.proofs.Admitting.{admits-also}
 use Rattle.refusals.specs.declared.Refusal.TheVariants.{Room}
-use Rattle.input.specs.Values.{valueTests}
+use Rattle.input.specs.Values.{value_tests}
 use Rattle.input.proofs.PolynomialTests.{values-admit}
 use borrow.Author.Rules.{rules}
 use Rattle.input.proofs.admit_room.Statement.{statement}
@@ -27,7 +27,7 @@ returns c =
     let l = c.before.before in
     let s = l.before.before.args in
     values-admit s.m s.coeffs.now ((7, s.short) ∷ []) c.also.result l.largest.ensures
-    (admits-also (valueTests s.m (length s.coeffs.now) l.largest.result []) c.before.admit-values.result s.short Room c.also.ensures
+    (admits-also (value_tests s.m (length s.coeffs.now) l.largest.result []) c.before.admit-values.result s.short Room c.also.ensures
     c.before.admit-values.ensures)
 
 pub admit-room-spec : {M : Type 1} → statement M

@@ -1,7 +1,7 @@
 -- `job_lines::take_turn` meets its contract: by what was read.
 -- Assumes nothing.
 use mathlib.Core.Path.{sym, ap, ◌∙◌}
-use Rattle.job_records.specs.Reading.{toldRead, bytes_of}
+use Rattle.job_records.specs.Reading.{told_read, bytes_of}
 use Rattle.job_solve.proofs.Solving.{job-accepted}
 use Rattle.job_lines.proofs.Turning.{turn-over, turn-stop, turn-refuse, turn-record}
 use borrow.Author.Rules.{rules}
@@ -31,7 +31,7 @@ solved-line-requires c κs =
     let f = c.before.before.read3.given.1 in
     let start = c.before.before.before.before.before.before in
     let s = start.requires.1 in
-    (job-accepted s.file s.at (ap toldRead (sym f) ∙ s.read) (s.lent ∙ ap (bytes_of s.file) f), start.requires.0)
+    (job-accepted s.file s.at (ap told_read (sym f) ∙ s.read) (s.lent ∙ ap (bytes_of s.file) f), start.requires.0)
 
 returns : tie.Need-returns
 returns c file at e b = turn-over e c.enum_told.given.1

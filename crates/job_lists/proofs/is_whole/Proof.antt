@@ -4,16 +4,16 @@ use mathlib.Core.Path.{◌≡◌, sym, ap}
 use mathlib.Core.Bool.{◌||◌}
 use lib.Dec.{ltb}
 use lib.ListN.{length}
-use Rattle.job_lists.specs.Lines.{endsWhole}
+use Rattle.job_lists.specs.Lines.{ends_whole}
 use Rattle.job_lists.proofs.is_whole.Statement.{statement}
 use Rattle.job_lists.proofs.is_whole.Tie as tie
 
 returns : tie.Need-returns
-unfolding endsWhole
+unfolding ends_whole
 returns c = sym (ap (λ b. b || ltb c.before.args.end (length c.before.args.text.now)) c.if1.true)
 
 returns-2 : tie.Need-returns-2
-unfolding endsWhole
+unfolding ends_whole
 returns-2 c =
     sym (ap (λ b. b || ltb c.before.args.end (length c.before.args.text.now)) c.if1.false)
 

@@ -3,14 +3,14 @@
 use mathlib.Core.Path.{◌≡◌, refl}
 use Prim.Native.Nat.{◌-◌}
 use lib.ListN.{length}
-use Rattle.job_lists.specs.Lines.{lineEnd}
+use Rattle.job_lists.specs.Lines.{line_end}
 use Rattle.job_lists.proofs.Ends.{end-here, end_on, end-over}
 use borrow.Author.Rules.{rules}
 use Rattle.job_lists.proofs.line_end.Statement.{statement}
 use Rattle.job_lists.proofs.line_end.Tie as tie
 
 abbrev invariant-loop : tie.invariant-loop
-invariant-loop text at end₀ end = lineEnd text end ≡ lineEnd text at
+invariant-loop text at end₀ end = line_end text end ≡ line_end text at
 
 abbrev decreases-loop : tie.decreases-loop
 decreases-loop text at end₀ end = length text - end

@@ -6,7 +6,7 @@ use mathlib.Core.List.{List}
 use Prim.Native.Nat.{ℕ}
 use native.Mathlib.Omega.{arith}
 use borrow.Author.Tests.{not-true, not-false}
-use Rattle.job_lists.specs.Lines.{lineEnd, endsWhole}
+use Rattle.job_lists.specs.Lines.{line_end, ends_whole}
 use Rattle.job_lists.specs.Calls.{Lists}
 use Rattle.job_lists.specs.Calls.ListsAt.{cut, whole}
 use Rattle.job_lists.specs.declared.Listed.{Listed}
@@ -19,9 +19,9 @@ use Rattle.job_lists.proofs.line_end.Reads as line-end-reads
 use Rattle.job_lists.proofs.line_record.Reads as line-record-reads
 
 -- whether the line is whole is asked where it ends
-place : (text : List ℕ) (at : ℕ) {end : ℕ} (ended : Bool) {r : Bool} → end ≡ lineEnd text at → r ≡ endsWhole text end ended
-    → endsWhole text (lineEnd text at) ended ≡ r
-place text at ended e f = ap (λ (i : ℕ). endsWhole text i ended) (sym e) ∙ sym f
+place : (text : List ℕ) (at : ℕ) {end : ℕ} (ended : Bool) {r : Bool} → end ≡ line_end text at → r ≡ ends_whole text end ended
+    → ends_whole text (line_end text at) ended ≡ r
+place text at ended e f = ap (λ (i : ℕ). ends_whole text i ended) (sym e) ∙ sym f
 
 of-line : {l line room : List ℕ} {r : Listed} {after : List ℕ} → l ≡ line → Lists l room r after → Lists line room r after
 of-line {room = room} {r} {after} e p = subst (λ x. Lists x room r after) e p

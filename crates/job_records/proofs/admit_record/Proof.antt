@@ -7,7 +7,7 @@ use native.Mathlib.Omega.{arith}
 use lib.Dec.{ltb}
 use Rattle.input.proofs.PolynomialTests.{values-admit}
 use Rattle.job_records.specs.Layout.{words}
-use Rattle.input.specs.Cutoff.{highestCutoff}
+use Rattle.input.specs.Cutoff.{highest_cutoff}
 use Rattle.job_records.proofs.Words.{whole_words}
 use borrow.Author.Rules.{rules}
 use Rattle.job_records.proofs.admit_record.Statement.{statement}
@@ -25,7 +25,7 @@ returns : tie.Need-returns
 returns c =
     let l = c.before in
     let a = l.before.before.args in
-    values-admit a.m (words a.bytes.now) ((6, ltb highestCutoff a.c) ∷ []) c.admit-call.result
+    values-admit a.m (words a.bytes.now) ((6, ltb highest_cutoff a.c) ∷ []) c.admit-call.result
     (record { count = sym (whole_words a.bytes.now a.n (omega arith)); largest = l.largest.ensures.largest })
     c.admit-call.ensures
 

@@ -5,16 +5,16 @@ use native.Mathlib.Omega.{arith}
 use mathlib.Core.Path.{sym, ap, ◌∙◌}
 use lib.ListN.{length, drop, length-drop, drop_of_length-le}
 use lib.Seq.{take_all}
-use Rattle.job_records.specs.Reading.{readHere}
+use Rattle.job_records.specs.Reading.{read_here}
 use borrow.Author.Rules.{rules}
 use Rattle.job_records.proofs.read_record.Statement.{statement}
 use Rattle.job_records.proofs.read_record.Tie as tie
 
 returns : tie.Need-returns
-unfolding readHere
+unfolding read_here
 returns c =
     let a = c.before.before.args in
-    sym (ap (readHere a.at) (drop_of_length-le a.file.now c.if1.true))
+    sym (ap (read_here a.at) (drop_of_length-le a.file.now c.if1.true))
 
 sub-read-here : tie.Need-overflow-sub-read-here
 sub-read-here c = search rules
@@ -32,7 +32,7 @@ returns-2 : tie.Need-returns-2
 returns-2 c =
     let a = c.before.before.before.before.args in
     c.read_here.ensures
-    ∙ ap (readHere a.at) (take_all (length a.file.now - a.at) (drop a.at a.file.now) (omega (arith, length-drop a.at a.file.now)))
+    ∙ ap (read_here a.at) (take_all (length a.file.now - a.at) (drop a.at a.file.now) (omega (arith, length-drop a.at a.file.now)))
 
 pub read-record-spec : {M : Type 1} → statement M
 read-record-spec =

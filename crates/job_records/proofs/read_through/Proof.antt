@@ -6,7 +6,7 @@ use mathlib.Core.Logic.{⊎_elim}
 use Prim.Native.Nat.{ℕ, ◌-◌}
 use native.Mathlib.Omega.{arith}
 use lib.ListN.{length}
-use Rattle.job_records.specs.Reading.{Outcome, toldRead, readAt}
+use Rattle.job_records.specs.Reading.{Outcome, told_read, read_at}
 use Rattle.job_records.specs.Files.Halts.{over, stop}
 use Rattle.job_records.proofs.Forward.{onward}
 use Rattle.job_records.proofs.Whole.{HaltsFrom, halts-from, halts-on}
@@ -28,13 +28,13 @@ to {number = number} {values = values} e q = e ∙ ap (λ n. Outcome.gives numbe
 -- reading goes on behind a refused or an accepted record
 goes : (c : tie.At-match-branch invariant-loop decreases-loop)
     → (number : ℕ) × (values : List ℕ)
-    × (readAt c.before.before.before.before.args.file.now c.before.before.loop.at
+    × (read_at c.before.before.before.before.args.file.now c.before.before.loop.at
     ≡ Outcome.gives number (c.match.at ∷ values))
 goes c =
     let e = sym c.before.read-record.ensures in
     ⊎_elim
-    (λ w. (_, _, to (e ∙ ap toldRead w.1.given.1) w.3))
-    (λ w. (_, _, to (e ∙ ap toldRead w.1.given.1) w.3))
+    (λ w. (_, _, to (e ∙ ap told_read w.1.given.1) w.3))
+    (λ w. (_, _, to (e ∙ ap told_read w.1.given.1) w.3))
     c.match.branch
 
 loop-holds : tie.Need-loop-init invariant-loop decreases-loop
@@ -47,7 +47,7 @@ enum_told : tie.Need-enum-told invariant-loop decreases-loop
 enum_told c = search rules
 
 returns : tie.Need-returns invariant-loop decreases-loop
-returns c = c.before.before.before.loop.invariant.all (over (sym c.before.before.read-record.ensures ∙ ap toldRead c.enum_told.given.1))
+returns c = c.before.before.before.loop.invariant.all (over (sym c.before.before.read-record.ensures ∙ ap told_read c.enum_told.given.1))
 
 enum-known-read : tie.Need-enum-known-read invariant-loop decreases-loop
 enum-known-read c = search rules
@@ -55,7 +55,7 @@ enum-known-read c = search rules
 returns-2 : tie.Need-returns-2 invariant-loop decreases-loop
 returns-2 c =
     let r = c.before.before.before in
-    r.before.loop.invariant.all (stop (sym r.read-record.ensures ∙ ap toldRead c.before.read.given.1) refl refl)
+    r.before.loop.invariant.all (stop (sym r.read-record.ensures ∙ ap told_read c.before.read.given.1) refl refl)
 
 enum-known-read-2 : tie.Need-enum-known-read-2 invariant-loop decreases-loop
 enum-known-read-2 c = search rules

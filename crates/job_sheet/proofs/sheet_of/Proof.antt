@@ -2,13 +2,13 @@
 -- Assumes nothing.
 use Rattle.std.proofs.Common.{◌≡◌, ℕ, ◌-◌, true, List, [], ◌∷◌, length, sym, ap, ◌∙◌, arith, rules}
 use Rattle.refusals.specs.Numbers.{number_of}
-use Rattle.job_records.specs.Reading.{Outcome, toldRead, readAt}
+use Rattle.job_records.specs.Reading.{Outcome, told_read, read_at}
 use Rattle.job_records.specs.declared.Read.TheVariants.{Record}
 use Rattle.field.specs.Rows.{known}
 use Rattle.job_sheet.specs.Figures.{numbered}
 use Rattle.job_sheet.proofs.Counts.{count-few}
 use Rattle.job_sheet.proofs.Places.{place-below}
-use Rattle.job_sheet.proofs.Lines.{noLine}
+use Rattle.job_sheet.proofs.Lines.{no_line}
 use Rattle.job_sheet.proofs.Outcomes.{Next, read-on}
 use Rattle.job_sheet.proofs.Readings.{read_known, stands, accepted-known}
 use Rattle.job_sheet.proofs.Turns.{Sheeting, sheet-from, sheet-unknown, sheet-refused, refusal-room}
@@ -23,31 +23,31 @@ abbrev decreases-loop : tie.decreases-loop
 decreases-loop file lines₀ unknown₀ at₀ k₀ lines unknown at k = length file - at
 
 -- the file, the place and what stands before it, where a record was read
-abbrev fileAt : tie.After-read-record invariant-loop decreases-loop → List ℕ
-fileAt c = c.before.before.before.before.args.file.now
+abbrev file_at : tie.After-read-record invariant-loop decreases-loop → List ℕ
+file_at c = c.before.before.before.before.args.file.now
 
-abbrev placeAt : tie.After-read-record invariant-loop decreases-loop → ℕ
-placeAt c = c.before.loop.at
+abbrev place_at : tie.After-read-record invariant-loop decreases-loop → ℕ
+place_at c = c.before.loop.at
 
 -- reading ends, or stops
 over-read : (c : tie.After-enum-told invariant-loop decreases-loop)
-    → readAt (fileAt c.before.before) (placeAt c.before.before) ≡ Outcome.ends
-over-read c = sym c.before.before.read-record.ensures ∙ ap toldRead c.enum_told.given.1
+    → read_at (file_at c.before.before) (place_at c.before.before) ≡ Outcome.ends
+over-read c = sym c.before.before.read-record.ensures ∙ ap told_read c.enum_told.given.1
 
 stop-read : (c : tie.After-read invariant-loop decreases-loop)
-    → readAt (fileAt c.before.before) (placeAt c.before.before)
+    → read_at (file_at c.before.before) (place_at c.before.before)
     ≡ Outcome.gives (number_of c.read.given.0.0) []
-stop-read c = sym c.before.before.read-record.ensures ∙ ap toldRead c.read.given.1
+stop-read c = sym c.before.before.read-record.ensures ∙ ap told_read c.read.given.1
 
 -- a refused record
 refused-read : (c : tie.After-read2 invariant-loop decreases-loop)
-    → readAt (fileAt c.before.before) (placeAt c.before.before)
+    → read_at (file_at c.before.before) (place_at c.before.before)
     ≡ Outcome.gives (number_of c.read2.given.0.0) (c.read2.given.0.1.0 ∷ [])
-refused-read c = sym c.before.before.read-record.ensures ∙ ap toldRead c.read2.given.1
+refused-read c = sym c.before.before.read-record.ensures ∙ ap told_read c.read2.given.1
 
 refused-next : (c : tie.After-read2 invariant-loop decreases-loop)
-    → Next (fileAt c.before.before) (placeAt c.before.before) c.read2.given.0.1.0
-refused-next c = read-on (fileAt c.before.before) (placeAt c.before.before) (refused-read c)
+    → Next (file_at c.before.before) (place_at c.before.before) c.read2.given.0.1.0
+refused-next c = read-on (file_at c.before.before) (place_at c.before.before) (refused-read c)
 
 not-one : (c : tie.Else1 invariant-loop decreases-loop) → number_of c.before.before.before.read2.given.0.0 ≡ 1 → ⊥
 not-one c e = c.if1.false (c.before.number2.ensures ∙ e)
@@ -56,21 +56,21 @@ its-field : (c : tie.After-degree-byte invariant-loop decreases-loop) → known 
 its-field c =
     let r = c.before.before.before.before in
     ap known c.degree-byte.ensures
-    ∙ read_known (fileAt r.before.before) (placeAt r.before.before) (refused-read r) (not-one c.before)
+    ∙ read_known (file_at r.before.before) (place_at r.before.before) (refused-read r) (not-one c.before)
 
 -- an accepted record
 accepted-read : (c : tie.After-read3 invariant-loop decreases-loop)
-    → toldRead (Record c.read3.given.0.0) ≡ readAt (fileAt c.before.before) (placeAt c.before.before)
-accepted-read c = sym (ap toldRead c.read3.given.1) ∙ c.before.before.read-record.ensures
+    → told_read (Record c.read3.given.0.0) ≡ read_at (file_at c.before.before) (place_at c.before.before)
+accepted-read c = sym (ap told_read c.read3.given.1) ∙ c.before.before.read-record.ensures
 
 accepted-next : (c : tie.After-read3 invariant-loop decreases-loop)
-    → Next (fileAt c.before.before) (placeAt c.before.before) c.read3.given.0.0.next
-accepted-next c = read-on (fileAt c.before.before) (placeAt c.before.before) (sym (accepted-read c))
+    → Next (file_at c.before.before) (place_at c.before.before) c.read3.given.0.0.next
+accepted-next c = read-on (file_at c.before.before) (place_at c.before.before) (sym (accepted-read c))
 
 -- its field is known
 job-field : (c : tie.After-read3 invariant-loop decreases-loop) → known c.read3.given.0.0.m ≡ true
 job-field c =
-    accepted-known (fileAt c.before.before) (placeAt c.before.before) c.read3.given.0.0 (accepted-read c)
+    accepted-known (file_at c.before.before) (place_at c.before.before) c.read3.given.0.0 (accepted-read c)
 
 empty-line-requires : tie.Need-empty-line-requires invariant-loop decreases-loop
 empty-line-requires c κs = search rules
@@ -141,7 +141,7 @@ with-refused-requires c κs =
     let n = p.before.before in
     let r = n.before.before.before in
     refusal-room r.before.before.before.loop.invariant (refused-read r) (not-one n) p.before.degree-byte.ensures
-    p.place_of.ensures noLine n.before.number2.ensures (omega arith)
+    p.place_of.ensures no_line n.before.number2.ensures (omega arith)
 
 mul-lines : tie.Need-overflow-mul-lines invariant-loop decreases-loop
 mul-lines c =
@@ -176,7 +176,7 @@ loop-again-2 c =
     let n = p.before.before in
     let r = n.before.before.before in
     sheet-refused r.before.before.before.loop.invariant (refused-read r) (not-one n) p.before.degree-byte.ensures
-    p.place_of.ensures noLine c.with-refused.result n.before.number2.ensures c.with-refused.ensures
+    p.place_of.ensures no_line c.with-refused.result n.before.number2.ensures c.with-refused.ensures
 
 enum-known-read-3 : tie.Need-enum-known-read-3 invariant-loop decreases-loop
 enum-known-read-3 c = search rules
@@ -202,7 +202,7 @@ array-copy-out-line-2 c =
 count-job-requires : tie.Need-count-job-requires invariant-loop decreases-loop
 count-job-requires c κs =
     let r =
-    c.before.before.before.before in stands (fileAt r.before.before) (placeAt r.before.before)
+    c.before.before.before.before in stands (file_at r.before.before) (place_at r.before.before)
     r.read3.given.0.0 (accepted-read r)
 
 with-accepted-requires : tie.Need-with-accepted-requires invariant-loop decreases-loop
@@ -210,7 +210,7 @@ with-accepted-requires c κs =
     let p = c.before.before in
     let r = p.before.before.before in
     record-room r.before.before.before.loop.invariant r.read3.given.0.0 (accepted-read r) c.count-job.ensures
-    p.place-of2.ensures noLine (omega arith)
+    p.place-of2.ensures no_line (omega arith)
 
 mul-lines-2 : tie.Need-overflow-mul-lines-2 invariant-loop decreases-loop
 mul-lines-2 c =
@@ -235,7 +235,7 @@ loop-again-3 c =
     let p = c.before.before.before in
     let r = p.before.before.before in
     sheet-accepted r.before.before.before.loop.invariant r.read3.given.0.0 (accepted-read r)
-    c.before.count-job.ensures p.place-of2.ensures noLine c.with-accepted.result
+    c.before.count-job.ensures p.place-of2.ensures no_line c.with-accepted.result
     c.with-accepted.ensures
 
 pub sheet-of-spec : {M : Type 1} → statement M

@@ -3,7 +3,7 @@
 use mathlib.Core.Path.{sym, ◌∙◌}
 use native.Mathlib.Omega.{arith}
 use lib.Seq.{length-take-le}
-use Rattle.algebra.specs.Routines.{traceMod}
+use Rattle.algebra.specs.Routines.{trace_mod}
 use Rattle.field.specs.Field.{G}
 use Rattle.poly_powers.proofs.Starts.{start-room, begun-fits, begun-long, low_fits, low-started, begun-asks, begun-is}
 use borrow.Author.Rules.{rules}
@@ -44,7 +44,7 @@ same_length : tie.Need-same-length
 same_length c = search rules
 
 returns : tie.Need-returns
-returns c = let s = c.before.before.before.before.before.before.before.before.before.before.before.before.before.before.before.before in begun-is s.requires.0 (low-started c.before.before.before.before.before.before.before.before.before.before.before.before.before.before.before.before.requires.0 c.before.before.before.before.before.before.before.before.before.start.ensures) (λ u v. traceMod (G s.args.m) u s.args.m v) c.before.before.before.trace-mod.ensures
+returns c = let s = c.before.before.before.before.before.before.before.before.before.before.before.before.before.before.before.before in begun-is s.requires.0 (low-started c.before.before.before.before.before.before.before.before.before.before.before.before.before.before.before.before.requires.0 c.before.before.before.before.before.before.before.before.before.start.ensures) (λ u v. trace_mod (G s.args.m) u s.args.m v) c.before.before.before.trace-mod.ensures
 
 pub trace-of-spec : {M : Type 1} → statement M
 trace-of-spec =

@@ -3,7 +3,7 @@
 use mathlib.Core.Path.{sym}
 use native.Mathlib.Omega.{arith}
 use lib.Seq.{length-take-le}
-use Rattle.algebra.specs.Routines.{frobeniusMod}
+use Rattle.algebra.specs.Routines.{frobenius_mod}
 use Rattle.field.specs.Field.{G}
 use Rattle.poly_powers.proofs.Starts.{start-one, begun-fits, begun-long, begun-asks, begun-is}
 use borrow.Author.Rules.{rules}
@@ -32,7 +32,7 @@ same_length : tie.Need-same-length
 same_length c = search rules
 
 returns : tie.Need-returns
-returns c = let s = c.before.before.before.before.before.before.before.before.before.before.before.before.before.before.before in begun-is s.requires c.before.before.before.before.before.before.before.before.start.ensures (λ u v. frobeniusMod (G s.args.m) u s.args.k v) c.before.before.power-mod.ensures
+returns c = let s = c.before.before.before.before.before.before.before.before.before.before.before.before.before.before.before in begun-is s.requires c.before.before.before.before.before.before.before.before.start.ensures (λ u v. frobenius_mod (G s.args.m) u s.args.k v) c.before.before.power-mod.ensures
 
 pub z-power-spec : {M : Type 1} → statement M
 z-power-spec =

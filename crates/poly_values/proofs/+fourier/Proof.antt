@@ -3,7 +3,7 @@
 use mathlib.Core.Path.{◌≡◌, refl, sym, ap, ◌∙◌}
 use native.Mathlib.Omega.{arith}
 use lib.ListN.{length, length-take, length-drop, length-append}
-use Rattle.poly_values.specs.Planes.{taps11, transformAt}
+use Rattle.poly_values.specs.Planes.{taps11, transform_at}
 use Rattle.poly_values.proofs.Halves.{HalfCount, half_count, halves-back}
 use Prim.Native.Nat.{ℕ, ◌/◌, ◌<◌}
 use borrow.Fn.Kinds.{In}
@@ -167,11 +167,11 @@ run-returns t c =
     halves-back taps11 s.args.g.now s.args.p.now s.args.k (s.args.n / 2) c.before.before.before.before.before.before.before.before.before.before.before.before.before.before.if1.true h.half (c.before.before.before.before.before.before.before.fourier.auto.1.0 ∙ simp length-take (omega (arith, c.before.before.before.before.before.before.before.before.before.before.before.before.butterflies.auto.0))) refl c.before.before.before.before.before.before.before.before.before.before.before.before.butterflies.ensures c.before.before.before.before.before.before.before.fourier.ensures c.before.before.fourier2.ensures
 
 run-returns-2 : (t : ℕ) → fourier-lts.Need-returns-2 (laws t) (run_at t) fourier.Post
-unfolding transformAt
+unfolding transform_at
 run-returns-2 t c =
     let s = c.before.before.before in
     let none : s.args.k ≡ 0 = omega arith in
-    sym (ap (λ k. transformAt taps11 k s.args.g.now s.args.p.now) none)
+    sym (ap (λ k. transform_at taps11 k s.args.g.now s.args.p.now) none)
 
 pub +fourier-spec : {M : Type 1} → statement M
 +fourier-spec = close μ-fourier λ t. fourier-lts.spec (laws t)

@@ -9,14 +9,14 @@ use Prim.Native.Nat.{ℕ, ◌+◌, ◌-◌, ◌≤◌}
 use lib.Bits.{bit_and, bit_xor}
 use lib.ListN.{get_or, length, take, set, length-set}
 use lib.Seq.{take_all}
-use Rattle.poly_values.specs.Planes.{sum, pairWords}
+use Rattle.poly_values.specs.Planes.{sum, pair_words}
 use Rattle.poly_values.proofs.Lists.{length-tabulate, get_d_tabulate}
 use Rattle.poly_values.proofs.Products.{row-turn}
 use Rattle.poly_values.proofs.add_pair.Statement.{statement}
 use Rattle.poly_values.proofs.add_pair.Tie as tie
 
 abbrev invariant-loop : tie.invariant-loop
-invariant-loop t₀ v w b j₀ t j = (j ≤ 12) × (length t ≡ length t₀) × (t ≡ sum (take j (pairWords 12 v w b)) t₀)
+invariant-loop t₀ v w b j₀ t j = (j ≤ 12) × (length t ≡ length t₀) × (t ≡ sum (take j (pair_words 12 v w b)) t₀)
 
 abbrev decreases-loop : tie.decreases-loop
 decreases-loop t₀ v w b j₀ t j = 12 - j
@@ -62,7 +62,7 @@ loop-again : tie.Need-loop-preserved invariant-loop decreases-loop
 loop-again c = let l = c.before.before.loop in
     let s = c.before.before.before in
     let at : ℕ → ℕ = λ k. bit_xor (bit_and s.args.v (get_or s.args.t4 (k + 1) 0)) (bit_and s.args.w (get_or s.args.t4 k 0)) in
-    let u = pairWords 12 s.args.v s.args.w s.args.t4 in (
+    let u = pair_words 12 s.args.v s.args.w s.args.t4 in (
       omega arith,
       simp length-set l.invariant.1,
       ap (λ (x : List ℕ). set x l.j (bit_xor (at l.j) (get_or x l.j 0))) l.invariant.2
@@ -78,7 +78,7 @@ returns : tie.Need-returns invariant-loop decreases-loop
 returns c = let l = c.before.loop in
     let s = c.before.before in
     let done : l.j ≡ 12 = omega arith in
-    l.invariant.2 ∙ ap (λ (n : ℕ). sum (take n (pairWords 12 s.args.v s.args.w s.args.t4)) s.args.t.now) done
+    l.invariant.2 ∙ ap (λ (n : ℕ). sum (take n (pair_words 12 s.args.v s.args.w s.args.t4)) s.args.t.now) done
 
 pub add-pair-spec : {M : Type 1} → statement M
 add-pair-spec =

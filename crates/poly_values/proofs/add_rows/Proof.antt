@@ -7,7 +7,7 @@ use native.Mathlib.Numerals.{add-one}
 use Prim.Native.Nat.{ℕ, suc, ◌+◌, ◌-◌, ◌%◌, ◌≤◌, ◌<◌}
 use lib.Bits.{bit_and}
 use lib.ListN.{get_or, length, take, drop, replicate, length-drop}
-use Rattle.poly_values.specs.Planes.{sum, pairWords, carryFreeWords, wordsAt}
+use Rattle.poly_values.specs.Planes.{sum, pair_words, carry_free_words, words_at}
 use Rattle.poly_values.proofs.Tail.{lent-tail, back}
 use Rattle.poly_values.proofs.Products.{rows-from, rows-turn, rows-pair, vector-word-at, padded-middle}
 use borrow.Author.Rules.{rules}
@@ -18,7 +18,7 @@ use Rattle.poly_values.proofs.add_masked.Reads as add-masked-reads
 use Rattle.poly_values.proofs.between_zeros.Reads as between-zeros-reads
 
 abbrev invariant-loop : tie.invariant-loop
-invariant-loop t₀ e c i₀ t i = (i ≤ 10) × (i % 2 ≡ 0) × (length t ≡ 22) × (t ≡ replicate i 0 ++ carryFreeWords (drop i (wordsAt 11 e 0)) (take 11 (drop 1 c)))
+invariant-loop t₀ e c i₀ t i = (i ≤ 10) × (i % 2 ≡ 0) × (length t ≡ 22) × (t ≡ replicate i 0 ++ carry_free_words (drop i (words_at 11 e 0)) (take 11 (drop 1 c)))
 
 abbrev decreases-loop : tie.decreases-loop
 decreases-loop t₀ e c i₀ t i = i
@@ -51,7 +51,7 @@ loop-holds : tie.Need-loop-init invariant-loop decreases-loop
 loop-holds c = let s = c.before.before.before.before.before.before.before.before in
     let b = s.args.b in
     let t = s.args.t.now in
-    let W = wordsAt 11 s.args.e.now 0 in
+    let W = words_at 11 s.args.e.now 0 in
     let last : 10 < 11 = omega arith in
     let m = padded-middle b c.before.before.before.before.before.between-zeros.result (omega arith) c.before.before.before.before.before.between-zeros.ensures in (
       omega arith,
@@ -60,7 +60,7 @@ loop-holds c = let s = c.before.before.before.before.before.before.before.before
       back t c.before.before.add-masked.new.0 10
           ∙ rows-turn W b {j = 10} refl last (s.requires.0 ∙ rows-from W b refl (omega arith))
           (c.before.before.add-masked.ensures ∙ ap (λ (y : List ℕ). sum (map (bit_and (get_or s.args.e.now 10 0)) b) y) (lent-tail t 10))
-          ∙ ap (λ (x : List ℕ). replicate 10 0 ++ carryFreeWords (drop 10 W) x) (sym m.1),
+          ∙ ap (λ (x : List ℕ). replicate 10 0 ++ carry_free_words (drop 10 W) x) (sym m.1),
     )
 
 sub-i : tie.Need-overflow-sub-i invariant-loop decreases-loop
@@ -104,7 +104,7 @@ loop-again c = let s = c.before.before.before.before.before.before.before.before
     let l = c.before.before.before.before.before.before.before.loop in
     let j = l.i - 2 in
     let e = s.args.e.now in
-    let W = wordsAt 11 e 0 in
+    let W = words_at 11 e 0 in
     let p = c.before.before.before.before.before.before.before.before.before.before.before.before.before.between-zeros.result in
     let m = padded-middle s.args.b p (omega arith) c.before.before.before.before.before.before.before.before.before.before.before.before.before.between-zeros.ensures in
     let two : l.i ≡ suc (suc j) = omega arith in
@@ -115,8 +115,8 @@ loop-again c = let s = c.before.before.before.before.before.before.before.before
       c.before.t2.given.1 ∙ l.invariant.2,
       back l.t c.before.before.add-pair.new.0 j
           ∙ rows-pair W (take 11 (drop 1 p)) two small (ap length m.1 ∙ long) m.0 l.invariant.3
-          (c.before.before.add-pair.ensures ∙ ap (λ (y : List ℕ). sum (pairWords 12 (get_or e j 0) (get_or e (j + 1) 0) p) y) (lent-tail l.t j)
-          ∙ ap₂ (λ (u v : ℕ). sum (pairWords 12 u v p) (drop j l.t)) (sym (vector-word-at 11 e j (omega arith))) (ap (λ (k : ℕ). get_or e k 0) (add-one j) ∙ sym (vector-word-at 11 e (suc j) small))),
+          (c.before.before.add-pair.ensures ∙ ap (λ (y : List ℕ). sum (pair_words 12 (get_or e j 0) (get_or e (j + 1) 0) p) y) (lent-tail l.t j)
+          ∙ ap₂ (λ (u v : ℕ). sum (pair_words 12 u v p) (drop j l.t)) (sym (vector-word-at 11 e j (omega arith))) (ap (λ (k : ℕ). get_or e k 0) (add-one j) ∙ sym (vector-word-at 11 e (suc j) small))),
     )
 
 same_length : tie.Need-same-length invariant-loop decreases-loop
@@ -125,10 +125,10 @@ same_length c = c.before.loop.invariant.2 ∙ sym (ap length c.before.before.bef
 returns : tie.Need-returns invariant-loop decreases-loop
 returns c = let s = c.before.before.before.before.before.before.before.before.before.before in
     let l = c.before.loop in
-    let W = wordsAt 11 s.args.e.now 0 in
+    let W = words_at 11 s.args.e.now 0 in
     let m = padded-middle s.args.b c.before.before.before.before.before.before.before.between-zeros.result (omega arith) c.before.before.before.before.before.before.before.between-zeros.ensures in
     let done : l.i ≡ 0 = omega arith in
-    l.invariant.3 ∙ ap (λ (n : ℕ). replicate n 0 ++ carryFreeWords (drop n W) (take 11 (drop 1 c.before.before.before.before.before.before.before.between-zeros.result))) done ∙ ap (carryFreeWords W) m.1
+    l.invariant.3 ∙ ap (λ (n : ℕ). replicate n 0 ++ carry_free_words (drop n W) (take 11 (drop 1 c.before.before.before.before.before.before.before.between-zeros.result))) done ∙ ap (carry_free_words W) m.1
 
 pub add-rows-spec : {M : Type 1} → statement M
 add-rows-spec =

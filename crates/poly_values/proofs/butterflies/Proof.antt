@@ -7,7 +7,7 @@ use borrow.Author.Rules.{rules}
 use Prim.Native.Nat.{◌+◌, ◌*◌, ◌-◌, ◌≤◌}
 use mathlib.Core.List.{◌++◌}
 use lib.ListN.{length, take, length-drop}
-use Rattle.poly_values.specs.Planes.{taps11, wordsAt, butterflyAt, butterfliesAt}
+use Rattle.poly_values.specs.Planes.{taps11, words_at, butterfly_at, butterflies_at}
 use Rattle.poly_values.proofs.Tail.{lent-tail, back}
 use Rattle.poly_values.proofs.Planes.{butterflies-turn}
 use Rattle.poly_values.proofs.butterflies.Statement.{statement}
@@ -17,13 +17,13 @@ use Rattle.poly_values.proofs.butterflies.Lts as lts
 use Rattle.poly_values.proofs.butterfly.Reads as butterfly-reads
 
 abbrev invariant-loop : tie.invariant-loop
-invariant-loop p₀ g n up w₀ p w = (w ≤ n) × (length p ≡ length p₀) × (p ≡ butterfliesAt taps11 (wordsAt 11 g 0) up w p₀)
+invariant-loop p₀ g n up w₀ p w = (w ≤ n) × (length p ≡ length p₀) × (p ≡ butterflies_at taps11 (words_at 11 g 0) up w p₀)
 
 abbrev decreases-loop : tie.decreases-loop
 decreases-loop p₀ g n up w₀ p w = n - w
 
 loop-holds : tie.Need-loop-init invariant-loop decreases-loop
-unfolding butterfliesAt
+unfolding butterflies_at
 loop-holds c = (omega arith, refl, refl)
 
 mul_at : tie.Need-overflow-mul-at invariant-loop decreases-loop
@@ -60,9 +60,9 @@ loop-again c =
       c.before.p.given.1 ∙ l.invariant.1,
       back l.p c.before.before.butterfly.new.0 (l.w * 11)
           ∙ ap (λ y. take (l.w * 11) l.p ++ y)
-          (c.before.before.butterfly.ensures ∙ ap (λ y. butterflyAt taps11 (wordsAt 11 a.g.now 0) a.up y) (lent-tail l.p (l.w * 11)))
-          ∙ butterflies-turn taps11 (wordsAt 11 a.g.now 0) a.up l.w a.p.now l.invariant.2
-          ∙ ap (λ n. butterfliesAt taps11 (wordsAt 11 a.g.now 0) a.up n a.p.now) (sym (add-one l.w)),
+          (c.before.before.butterfly.ensures ∙ ap (λ y. butterfly_at taps11 (words_at 11 a.g.now 0) a.up y) (lent-tail l.p (l.w * 11)))
+          ∙ butterflies-turn taps11 (words_at 11 a.g.now 0) a.up l.w a.p.now l.invariant.2
+          ∙ ap (λ n. butterflies_at taps11 (words_at 11 a.g.now 0) a.up n a.p.now) (sym (add-one l.w)),
     )
 
 same_length : tie.Need-same-length invariant-loop decreases-loop
@@ -73,7 +73,7 @@ returns c =
     let l = c.before.loop in
     let a = c.before.before.before.before.args in
     let done : l.w ≡ a.n = omega arith in
-    l.invariant.2 ∙ ap (λ w. butterfliesAt taps11 (wordsAt 11 a.g.now 0) a.up w a.p.now) done
+    l.invariant.2 ∙ ap (λ w. butterflies_at taps11 (words_at 11 a.g.now 0) a.up w a.p.now) done
 
 pub butterflies-spec : {M : Type 1} → statement M
 butterflies-spec =

@@ -1,6 +1,6 @@
 -- `poly_values::butterfly` meets its contract: product, two sums, two stores.
 -- Assumes nothing.
-use Rattle.poly_values.specs.Planes.{taps11, wordsAt}
+use Rattle.poly_values.specs.Planes.{taps11, words_at}
 use Rattle.poly_values.proofs.Planes.{butterfly-from}
 use borrow.Author.Rules.{rules}
 use Rattle.poly_values.proofs.butterfly.Statement.{statement}
@@ -36,7 +36,7 @@ same_length c = search rules
 
 returns : tie.Need-returns
 returns c = let a = c.before.before.before.before.before.before.before.before.before.before.before.before.before.before.before.before.before.args in
-    butterfly-from taps11 (wordsAt 11 a.g.now 0) a.p.now a.up c.before.before.before.before.before.before.before.before.before.before.vector2.ensures c.before.before.before.before.before.before.before.before.before.before.before.before.before.vector.ensures c.before.before.before.before.before.before.before.before.before.before.before.before.lane-product.ensures
+    butterfly-from taps11 (words_at 11 a.g.now 0) a.p.now a.up c.before.before.before.before.before.before.before.before.before.before.vector2.ensures c.before.before.before.before.before.before.before.before.before.before.before.before.before.vector.ensures c.before.before.before.before.before.before.before.before.before.before.before.before.lane-product.ensures
     c.before.before.before.before.before.before.before.before.before.sum.ensures c.before.before.before.before.before.before.before.before.sum2.ensures c.before.before.before.before.before.before.put_vector.ensures c.before.before.put-vector2.ensures
 
 pub butterfly-spec : {M : Type 1} → statement M

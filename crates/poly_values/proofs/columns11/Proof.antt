@@ -1,12 +1,12 @@
 -- `poly_values::columns11` meets its contract: one test over the whole table.
 -- Assumes nothing.
-use Rattle.poly_values.specs.Planes.{digitsNumber}
-use Rattle.poly_values.proofs.Multipliers.{first-columns, firstTest}
+use Rattle.poly_values.specs.Planes.{digits_number}
+use Rattle.poly_values.proofs.Multipliers.{first-columns, first_test}
 use Rattle.poly_values.proofs.columns11.Statement.{statement}
 use Rattle.poly_values.proofs.columns11.Tie as tie
 
 returns : tie.Need-returns
-unfolding digitsNumber firstTest
+unfolding digits_number first_test
 returns c = first-columns _ _ _ _ _ tt
 
 pub columns11-spec : {M : Type 1} → statement M

@@ -6,7 +6,7 @@ use native.Mathlib.Omega.{arith}
 use Prim.Native.Nat.{ℕ, suc, ◌+◌, ◌-◌, ◌≤◌}
 use lib.ListN.{length, take, length-set}
 use lib.Seq.{take_all}
-use Rattle.poly_values.specs.Planes.{taps11, folded, foldTop}
+use Rattle.poly_values.specs.Planes.{taps11, folded, fold_top}
 use Rattle.poly_values.proofs.Products.{fold-turn}
 use borrow.Author.Rules.{rules}
 use Rattle.poly_values.proofs.fold.Statement.{statement}

@@ -2,7 +2,7 @@
 -- Assumes nothing.
 use mathlib.Core.Path.{◌≡◌, refl, sym, ap, ◌∙◌}
 use native.Mathlib.Omega.{arith}
-use Rattle.poly_values.specs.Planes.{wordsAt}
+use Rattle.poly_values.specs.Planes.{words_at}
 use Rattle.poly_values.proofs.Lanes.{take_words}
 use Rattle.poly_values.proofs.Products.{product-from}
 use borrow.Author.Rules.{rules}
@@ -33,7 +33,7 @@ vector-requires c κs = omega (arith, c.before.before.fold.auto.0, c.before.befo
 returns : tie.Need-returns
 returns c = let s = c.before.before.before.before.before.before.before.before.before in
     let u = c.before.before.before.fold.new.0 in
-    product-from (wordsAt 11 s.args.e.now 0) s.args.b u refl c.before.before.before.before.before.before.add-rows.ensures c.before.before.before.fold.ensures
+    product-from (words_at 11 s.args.e.now 0) s.args.b u refl c.before.before.before.before.before.before.add-rows.ensures c.before.before.before.fold.ensures
     (c.vector.ensures ∙ take_words 11 u (omega (arith, c.before.before.before.fold.auto.0, c.before.before.before.before.before.before.add-rows.auto.0)))
 
 pub lane-product-spec : {M : Type 1} → statement M

@@ -5,7 +5,7 @@ use Prim.Native.Nat.{ℕ, suc, ◌-◌, ◌/◌, ◌^◌, ◌≤◌}
 use native.Mathlib.Nat.{div-eq_of_lt, div-one}
 use native.Mathlib.Omega.{arith}
 use Rattle.poly_values.specs.Planes.{taps11, Multiple}
-use Rattle.poly_values.proofs.Scalars.{digits11, binaryDigit-next, multiple-from, multiple-double, multiple-more}
+use Rattle.poly_values.proofs.Scalars.{digits11, binary_digit-next, multiple-from, multiple-double, multiple-more}
 use borrow.Author.Rules.{rules}
 use Rattle.poly_values.proofs.multiple.Statement.{statement}
 use Rattle.poly_values.proofs.multiple.Tie as tie
@@ -41,14 +41,14 @@ loop-less c = omega arith
 
 loop-again : tie.Need-loop-preserved invariant-loop decreases-loop
 loop-again c = let l = c.before.before.before.before.loop in let s = c.before.before.before.before.before.before in let e : l.i ≡ suc (l.i - 1) = omega arith in
-    (omega arith, multiple-more taps11 digits11 s.args.b (omega arith) l.invariant.1 c.before.before.doubled.ensures c.sum.ensures (let d = binaryDigit-next s.args.c e in omega arith))
+    (omega arith, multiple-more taps11 digits11 s.args.b (omega arith) l.invariant.1 c.before.before.doubled.ensures c.sum.ensures (let d = binary_digit-next s.args.c e in omega arith))
 
 loop-less-2 : tie.Need-loop-smaller-2 invariant-loop decreases-loop
 loop-less-2 c = omega arith
 
 loop-again-2 : tie.Need-loop-preserved-2 invariant-loop decreases-loop
 loop-again-2 c = let l = c.before.before.before.loop in let s = c.before.before.before.before.before in let e : l.i ≡ suc (l.i - 1) = omega arith in
-    (omega arith, multiple-double taps11 digits11 s.args.b (omega arith) l.invariant.1 c.before.doubled.ensures (let d = binaryDigit-next s.args.c e in omega arith))
+    (omega arith, multiple-double taps11 digits11 s.args.b (omega arith) l.invariant.1 c.before.doubled.ensures (let d = binary_digit-next s.args.c e in omega arith))
 
 returns-2 : tie.Need-returns-2 invariant-loop decreases-loop
 returns-2 c = let l = c.before.loop in

@@ -6,7 +6,7 @@ use mathlib.Core.List.{List}
 use Prim.Native.Nat.{ℕ, suc, ◌-◌, ◌/◌, ◌%◌, ◌^◌, ◌≤◌, ◌<◌}
 use native.Mathlib.Nat.{div-one}
 use native.Mathlib.Omega.{arith}
-use Rattle.poly_values.specs.Planes.{taps11, wordsAt, Multiple, FourMultiples}
+use Rattle.poly_values.specs.Planes.{taps11, words_at, Multiple, FourMultiples}
 use Rattle.poly_values.proofs.Scalars.{digits11}
 use Rattle.poly_values.proofs.Multipliers.{monic11}
 use Rattle.poly_values.proofs.Windows.{windows-turn, window-next}
@@ -18,11 +18,11 @@ use Rattle.poly_values.proofs.four_multiples.Reads as four-multiples-reads
 use Rattle.poly_values.proofs.sum.Reads as sum-reads
 use Rattle.poly_values.proofs.vector.Reads as vector-reads
 
-four-own : {b t : List ℕ} → FourMultiples taps11 b t → FourMultiples taps11 (wordsAt 11 t 11) t
+four-own : {b t : List ℕ} → FourMultiples taps11 b t → FourMultiples taps11 (words_at 11 t 11) t
 four-own {b} {t} F = subst (λ (x : List ℕ). FourMultiples taps11 x t) (sym F.itself) F
 
 abbrev invariant-loop : tie.invariant-loop
-invariant-loop c t i₀ r₀ i r = (i ≤ 10) × (i % 2 ≡ 0) × Multiple taps11 (c / 2 ^ i) (wordsAt 11 t 11) r
+invariant-loop c t i₀ r₀ i r = (i ≤ 10) × (i % 2 ≡ 0) × Multiple taps11 (c / 2 ^ i) (words_at 11 t 11) r
 
 abbrev decreases-loop : tie.decreases-loop
 decreases-loop c t i₀ r₀ i r = i
@@ -47,7 +47,7 @@ vector-requires c κs = omega arith
 
 loop-holds : tie.Need-loop-init invariant-loop decreases-loop
 loop-holds c = let h : c.before.before.before.args.c / 2 ^ 10 < 4 = omega (arith, c.before.before.before.requires) in
-    (omega arith, refl, subst (Multiple taps11 (c.before.before.before.args.c / 2 ^ 10) (wordsAt 11 c.before.before.four-multiples.result 11)) (sym c.vector.ensures) ((four-own c.before.before.four-multiples.ensures).multiples (c.before.before.before.args.c / 2 ^ 10) h))
+    (omega arith, refl, subst (Multiple taps11 (c.before.before.before.args.c / 2 ^ 10) (words_at 11 c.before.before.four-multiples.result 11)) (sym c.vector.ensures) ((four-own c.before.before.four-multiples.ensures).multiples (c.before.before.before.args.c / 2 ^ 10) h))
 
 sub-i : tie.Need-overflow-sub-i invariant-loop decreases-loop
 sub-i c = omega arith
@@ -85,7 +85,7 @@ loop-again c = let l = c.before.before.before.before.before.before.loop in
     let few : c.before.before.before.before.before.before.before.before.before.before.args.c / 2 ^ (l.i - 2) % 4 < 4 = omega arith in (
       omega arith,
       omega arith,
-      windows-turn taps11 digits11 monic11 (wordsAt 11 c.before.before.before.before.before.before.before.before.before.four-multiples.result 11) refl (four-own c.before.before.before.before.before.before.before.before.before.four-multiples.ensures) l.invariant.2 few (window-next c.before.before.before.before.before.before.before.before.before.before.args.c two)
+      windows-turn taps11 digits11 monic11 (words_at 11 c.before.before.before.before.before.before.before.before.before.four-multiples.result 11) refl (four-own c.before.before.before.before.before.before.before.before.before.four-multiples.ensures) l.invariant.2 few (window-next c.before.before.before.before.before.before.before.before.before.before.args.c two)
           c.before.before.before.before.doubled.ensures c.before.before.before.doubled2.ensures c.before.vector2.ensures c.sum.ensures,
     )
 
@@ -94,7 +94,7 @@ returns c = let l = c.before.loop in
     let s = c.before.before.before.before.before in
     let done : l.i ≡ 0 = omega arith in
     subst (λ (b : List ℕ). Multiple taps11 s.args.c b l.r) c.before.before.before.before.four-multiples.ensures.itself
-    (subst (λ (n : ℕ). Multiple taps11 n (wordsAt 11 c.before.before.before.before.four-multiples.result 11) l.r) (ap (λ (i : ℕ). s.args.c / 2 ^ i) done ∙ div-one s.args.c) l.invariant.2)
+    (subst (λ (n : ℕ). Multiple taps11 n (words_at 11 c.before.before.before.before.four-multiples.result 11) l.r) (ap (λ (i : ℕ). s.args.c / 2 ^ i) done ∙ div-one s.args.c) l.invariant.2)
 
 pub multiple-by-table-spec : {M : Type 1} → statement M
 multiple-by-table-spec =

@@ -1,12 +1,12 @@
 -- `poly_values::multipliers11` meets its contract: one test over the whole table.
 -- Assumes nothing.
-use Rattle.poly_values.specs.Planes.{digitsNumber}
-use Rattle.poly_values.proofs.Multipliers.{tree11, treeTest}
+use Rattle.poly_values.specs.Planes.{digits_number}
+use Rattle.poly_values.proofs.Multipliers.{tree11, tree_test}
 use Rattle.poly_values.proofs.multipliers11.Statement.{statement}
 use Rattle.poly_values.proofs.multipliers11.Tie as tie
 
 returns : tie.Need-returns
-unfolding digitsNumber treeTest
+unfolding digits_number tree_test
 returns c = tree11 _ tt
 
 pub multipliers11-spec : {M : Type 1} → statement M

@@ -1,12 +1,12 @@
 -- `poly_values::squares11` meets its contract: one test over the whole table.
 -- Assumes nothing.
-use Rattle.poly_values.specs.Planes.{digitsNumber}
-use Rattle.poly_values.proofs.Multipliers.{squares11 as table, squareTest}
+use Rattle.poly_values.specs.Planes.{digits_number}
+use Rattle.poly_values.proofs.Multipliers.{squares11 as table, square_test}
 use Rattle.poly_values.proofs.squares11.Statement.{statement}
 use Rattle.poly_values.proofs.squares11.Tie as tie
 
 returns : tie.Need-returns
-unfolding digitsNumber squareTest
+unfolding digits_number square_test
 returns c = table _ tt
 
 pub squares11-spec : {M : Type 1} → statement M

@@ -1,12 +1,12 @@
 -- `poly_values::top11` meets its contract: one test over the whole table.
 -- Assumes nothing.
-use Rattle.poly_values.specs.Planes.{digitsNumber}
-use Rattle.poly_values.proofs.Multipliers.{tops11, topTest}
+use Rattle.poly_values.specs.Planes.{digits_number}
+use Rattle.poly_values.proofs.Multipliers.{tops11, top_test}
 use Rattle.poly_values.proofs.top11.Statement.{statement}
 use Rattle.poly_values.proofs.top11.Tie as tie
 
 returns : tie.Need-returns
-unfolding digitsNumber topTest
+unfolding digits_number top_test
 returns c = tops11 _ tt
 
 pub top11-spec : {M : Type 1} → statement M

@@ -53,8 +53,8 @@ use denote.Triple.Table.{entered, cited}
 use denote.Triple.Walked.{says, needs, Stays, stay_none_slice, walk_of, Goes-none_slice, Walks, ends_at, walked, walk_Meets}
 use denote.Exit.{yes}
 use denote.Triple.Clauses.{ensured, lasts}
-use Rattle.job_records.specs.Layout.{headLength}
-use Rattle.job_records.specs.Reading.{toldRead, readAt, bytes_of, Stands}
+use Rattle.job_records.specs.Layout.{head_length}
+use Rattle.job_records.specs.Reading.{told_read, read_at, bytes_of, Stands}
 use Rattle.job_records.specs.declared.held.Reader.{Reader}
 use Rattle.job_records.specs.declared.Read.{Read}
 use Rattle.job_lines.specs.Printing.{Ahead}
@@ -210,8 +210,8 @@ module _ {M : Type 1} {𝓤 : Ura M} (𝓛 : Logic 𝓤) (mem : Memory → SProp
   goes-next : (r : Reader) (u : Val) → ent 𝓤 (⋆ 𝓛 (‵ (R.own_val r (u ∷ [])) ∷ token ∷ [])) ((Next 𝓛 mem run).pre (to-next r u))
   goes-next r u = qed 𝓛 (‵ (R.own_val r (u ∷ [])) ∷ token ∷ []) ∵ nothing ! $ move ! (1 ∷ 0 ∷ []) $ fjoin ! $ move ! (1 ∷ 0 ∷ []) $ join ! $ frame ! $ done !
 
-  next-said : (r : Reader) (t : Read) → ent 𝓤 (ensured 𝓛 next.ended (next.clauses 𝓛 mem run) (κ, tt) (r, tt) tt t) (fact 𝓤 (toldRead t ≡ readAt r.file.now r.at))
-  next-said r t = ex_e 𝓤 _ (λ ws. snd∗ 𝓤 (sem 𝓛 (lasts next.ended (κ, tt) (r, tt) ws)) (fact 𝓤 (toldRead t ≡ readAt r.file.now r.at)))
+  next-said : (r : Reader) (t : Read) → ent 𝓤 (ensured 𝓛 next.ended (next.clauses 𝓛 mem run) (κ, tt) (r, tt) tt t) (fact 𝓤 (told_read t ≡ read_at r.file.now r.at))
+  next-said r t = ex_e 𝓤 _ (λ ws. snd∗ 𝓤 (sem 𝓛 (lasts next.ended (κ, tt) (r, tt) ws)) (fact 𝓤 (told_read t ≡ read_at r.file.now r.at)))
 
   abbrev to-bytes : Reader → Val → Read → Val → (Bytes 𝓛 mem run).Ghost
   to-bytes r u t w = (((κ, tt), (q, tt), tt, (r, (t, tt)), (u ∷ [], (w ∷ [], tt))), tt)
@@ -309,15 +309,15 @@ module _ {M : Type 1} {𝓤 : Ura M} (𝓛 : Logic 𝓤) (mem : Memory → SProp
     k-next : {t n k : ℕ} {r : Reader} → Facts t r n k → n < len → k + 1 < 2 ^ 32
     k-next f ahead = omega (arith, f.number ahead, ahead, small)
 
-    behind : {t n k m : ℕ} {r : Reader} (x : Read) {bs : List ℕ} → Facts t r n k → n < len → toldRead x ≡ readAt r.file.now r.at → bs ≡ bytes_of r.file.now x → Ahead x bs m → n + headLength ≤ m
+    behind : {t n k m : ℕ} {r : Reader} (x : Read) {bs : List ℕ} → Facts t r n k → n < len → told_read x ≡ read_at r.file.now r.at → bs ≡ bytes_of r.file.now x → Ahead x bs m → n + head_length ≤ m
     behind {r = r} x f ahead e₁ e₂ e₃ =
         let l : length r.file.now ≡ len = ap (λ (c : Bor (List ℕ)). length c.now) f.file in
         omega (arith, e₃ r.file.now r.at e₁ e₂ (omega (arith, l, small)) (omega (arith, l, f.place, ahead)), f.place)
 
-    less : {t n k m : ℕ} {r : Reader} → Facts t r n k → n < len → n + headLength ≤ m → len - m < t
+    less : {t n k m : ℕ} {r : Reader} → Facts t r n k → n < len → n + head_length ≤ m → len - m < t
     less f ahead p = omega (arith, f.left, ahead, p)
 
-    on : {t n k m : ℕ} {r r' : Reader} → Facts t r n k → n < len → n + headLength ≤ m → (r'.file ≡ r.file) × (r'.at ≡ m) → m < 2 ^ 64 → Facts (len - m) r' m (k + 1)
+    on : {t n k m : ℕ} {r r' : Reader} → Facts t r n k → n < len → n + head_length ≤ m → (r'.file ≡ r.file) × (r'.at ≡ m) → m < 2 ^ 64 → Facts (len - m) r' m (k + 1)
     on f ahead p e fits = record {
       file = e.0 ∙ f.file;
       place = e.1;
@@ -344,7 +344,7 @@ module _ {M : Type 1} {𝓤 : Ura M} (𝓛 : Logic 𝓤) (mem : Memory → SProp
         use2 𝓛 (raw ((Next 𝓛 mem run).pre (to-next r u))) (goes-next r u) $
         calls_at ! fm (Next 𝓛 mem run) known_next (to-next r u) (and_then ! (load ! (from ! (stop !)) (look ! 11 refl)) (no_more !)) (λ w.
         use1 𝓛 (later (some (λ (x : Read). (token ⊛ ‵ ((S.the_row).own_val x (w ∷ []))) ⊛ raw (ensured 𝓛 next.ended (next.clauses 𝓛 mem run) (κ, tt) (r, tt) tt x)))) (id⊢ 𝓤 _) $ await ! tt $ pick ! (λ x.
-        split ! $ move ! (1 ∷ []) $ use1 𝓛 (raw (fact 𝓤 (toldRead x ≡ readAt r.file.now r.at))) (next-said r x) $ heard ! (toldRead x ≡ readAt r.file.now r.at) (λ e₁. split ! $ move ! (1 ∷ []) $
+        split ! $ move ! (1 ∷ []) $ use1 𝓛 (raw (fact 𝓤 (told_read x ≡ read_at r.file.now r.at))) (next-said r x) $ heard ! (told_read x ≡ read_at r.file.now r.at) (λ e₁. split ! $ move ! (1 ∷ []) $
         peeks ! S.the_row (Is S.the_row) (shows 𝓛 S.the_row) x (w ∷ []) (λ is₁.
         land ! (from ! (stop !)) (init ! 8 refl ((EL.lawful S.the_type S'.the_laws 𝓛 tt).typed x _ is₁).0) $ drop ! $
         -- [the token; what the reader owns; what file owns; …]: its coefficient bytes

@@ -8,8 +8,8 @@ use Rattle.refusals.proofs.Order.{refused, accepted, unwritten, written}
 use Rattle.input.proofs.Polynomials.{polynomial-told}
 use Rattle.input.proofs.admit.Reads as admit-reads
 use Rattle.input.proofs.in_force.Reads as in-force-reads
-use Rattle.table_rules.specs.Layout.{byFactor}
-use Rattle.table_rules.specs.Splitting.{slotsBegun}
+use Rattle.table_rules.specs.Layout.{by_factor}
+use Rattle.table_rules.specs.Splitting.{slots_begun}
 use Rattle.table_rules.specs.Sizes.{slots}
 use Rattle.table_begin.proofs.Writing.{begin-room}
 use borrow.Author.Rules.{rules}
@@ -48,7 +48,7 @@ returns-2 c =
     let s = c.before.before.before.before.before.before.before.before.before.before in
     let p = let-in c.before.before.before.before.before.before.before.admit.ensures c.before.before.before.before.before.enum_told.given.1 in (
       sym (accepted [] p),
-      c.before.before.begin-in.ensures ∙ ap (λ k. slotsBegun byFactor slots s.args.m k s.args.coeffs.now) c.before.before.before.before.in-force.ensures ∙ sym (written _ _ p),
+      c.before.before.begin-in.ensures ∙ ap (λ k. slots_begun by_factor slots s.args.m k s.args.coeffs.now) c.before.before.before.before.in-force.ensures ∙ sym (written _ _ p),
     )
 
 pub begin-spec : {M : Type 1} → statement M

@@ -1,9 +1,9 @@
 -- `table_finish::finish_lent` meets its contract. The loop's invariant: some numbers have been merged, and what lies
 -- ahead has the others.
 -- Assumes nothing.
-use Rattle.table_rules.specs.Layout.{byFactor}
+use Rattle.table_rules.specs.Layout.{by_factor}
 use Rattle.table_rules.specs.Table.{decode}
-use Rattle.table_slots.specs.Slots.{width_of, cutoffOf}
+use Rattle.table_slots.specs.Slots.{width_of, cutoff_of}
 use Rattle.table_finish.proofs.Merging.{Finishing, head-there, finish-from, front-stands, turn-asks, finish-on, finish-end}
 use borrow.Author.Rules.{rules}
 use Rattle.table_finish.proofs.finish_lent.Statement.{statement}
@@ -11,7 +11,7 @@ use Rattle.table_finish.proofs.finish_lent.Tie as tie
 
 abbrev invariant-loop : tie.invariant-loop
 invariant-loop logs antilogs halves table roots₀ m left₀ at₀ k₀ roots left at k =
-    Finishing (width_of table) (cutoffOf table) (decode byFactor table).factors table roots₀ roots left at k
+    Finishing (width_of table) (cutoff_of table) (decode by_factor table).factors table roots₀ roots left at k
 
 abbrev decreases-loop : tie.decreases-loop
 decreases-loop logs antilogs halves table roots₀ m left₀ at₀ k₀ roots left at k = left

@@ -1,4 +1,4 @@
--- `table_slots::front_slots` meets its contract: each return says which test of `fairFront` failed.
+-- `table_slots::front_slots` meets its contract: each return says which test of `fair_front` failed.
 -- Assumes nothing.
 use mathlib.Core.Path.{◌≡◌, sym, ap, ◌∙◌}
 use Prim.Native.Nat.{◌^◌}
@@ -7,7 +7,7 @@ use native.Mathlib.Omega.{arith}
 use borrow.Author.Tests.{le-leb, lt-leb}
 use lib.ListN.{get_or, take, drop}
 use Rattle.slices.specs.Bounded.{all_below}
-use Rattle.table_slots.specs.Walk.{frontSlots}
+use Rattle.table_slots.specs.Walk.{front_slots}
 use Rattle.table_slots.proofs.Passes.{front-constant, front-short}
 use borrow.Author.Rules.{rules}
 use Rattle.table_slots.proofs.front_slots.Statement.{statement}
@@ -30,7 +30,7 @@ shared-slice-read-if2 : tie.Need-shared-slice-read-if2
 shared-slice-read-if2 c = search rules
 
 returns-2 : tie.Need-returns-2
-unfolding frontSlots
+unfolding front_slots
 returns-2 c = simp (lt-leb _ _ c.if2.true)
 
 shared-slice-read-d : tie.Need-shared-slice-read-d
@@ -43,7 +43,7 @@ returns-3 : tie.Need-returns-3
 returns-3 c = front-constant _ _ _ c.if3.true
 
 returns-4 : tie.Need-returns-4
-unfolding frontSlots
+unfolding front_slots
 returns-4 c =
     let e = c.before.before.before in
     simp (le-leb _ _ e.if2.false, le-leb _ _ c.before.if3.false, lt-leb _ _ c.if4.true)
@@ -64,14 +64,14 @@ all-below-requires : tie.Need-all-below-requires
 all-below-requires c κs = search rules
 
 returns-5 : tie.Need-returns-5
-unfolding frontSlots
+unfolding front_slots
 returns-5 c =
     let f = c.before.before.before in
     let e = f.before.before.before in
     simp (le-leb _ _ e.if2.false, le-leb _ _ f.before.if3.false, le-leb _ _ f.if4.false, coefficients c.before, c.if5.true)
 
 returns-6 : tie.Need-returns-6
-unfolding frontSlots
+unfolding front_slots
 returns-6 c =
     let f = c.before.before.before in
     let e = f.before.before.before in

@@ -4,7 +4,7 @@ use mathlib.Core.Path.{ap}
 use native.Mathlib.Omega.{arith}
 use Prim.Native.Nat.{◌+◌, ◌-◌, ◌/◌}
 use lib.ListN.{length, length-set, set}
-use Rattle.table_slots.specs.Slots.{count_of, taken_of, degreeAt}
+use Rattle.table_slots.specs.Slots.{count_of, taken_of, degree_at}
 use borrow.Author.Rules.{rules}
 use Rattle.table_slots.proofs.replace.Statement.{statement}
 use Rattle.table_slots.proofs.replace.Tie as tie
@@ -61,7 +61,7 @@ same_length c = search rules
 returns : tie.Need-returns
 returns c = let k = c.before.before.before.before.before.before.before.before.before in
     let l = k.args.table.now in
-    ap (λ s. set (set s 2 (count_of l - 1 + (length k.args.parts.now - degreeAt l k.args.o) / 2)) 3 (taken_of l + 1)) c.before.before.splice.ensures
+    ap (λ s. set (set s 2 (count_of l - 1 + (length k.args.parts.now - degree_at l k.args.o) / 2)) 3 (taken_of l + 1)) c.before.before.splice.ensures
 
 pub replace_spec : {M : Type 1} → statement M
 replace_spec =

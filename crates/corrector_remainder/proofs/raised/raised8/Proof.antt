@@ -1,21 +1,21 @@
 -- `corrector_remainder::raised::raised8` meets its contract: each arm by its key.
 -- Assumes nothing.
 use mathlib.Core.Path.{refl}
-use Rattle.corrector_generator.specs.Generators.{generatorOf}
+use Rattle.corrector_generator.specs.Generators.{generator_of}
 use Rattle.corrector_remainder.proofs.Loops.{raised-arm, beyond, only}
 use Rattle.corrector_remainder.proofs.raised.raised8.Statement.{statement}
 use Rattle.corrector_remainder.proofs.raised.raised8.Tie as tie
 
 returns : tie.Need-returns
-unfolding generatorOf
+unfolding generator_of
 returns c = raised-arm 88 c.match.keys1 refl
 
 returns-2 : tie.Need-returns-2
-unfolding generatorOf
+unfolding generator_of
 returns-2 c = raised-arm 88 c.match.keys2 refl
 
 returns-3 : tie.Need-returns-3
-unfolding generatorOf
+unfolding generator_of
 returns-3 c =
     let r = c.match.rest in
     let p = c.before.requires in

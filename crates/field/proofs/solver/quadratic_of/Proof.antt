@@ -7,13 +7,13 @@ use native.Mathlib.Omega.{arith}
 use lib.Bits.{bit_xor, xor_lt}
 use Rattle.field.specs.Rows.{ListedRow}
 use Rattle.field.specs.Field.{field_of, mul, inverse}
-use Rattle.field.specs.Powers.{turned, raisedBy}
+use Rattle.field.specs.Powers.{turned, raised_by}
 use Rattle.field.specs.Tables.{HalfRoot}
 use Rattle.field.specs.Quadratics.{SolvesQuadratic}
 use Rattle.field.specs.declared.solver.Quadratic.TheVariants.{NoRoot, Two}
 use Rattle.field.proofs.Generator.{generated, small, product-asks, mul-inverse}
 use Rattle.field.proofs.Ring.{mul_comm}
-use Rattle.field.proofs.Raising.{raisedBy-lt, raised-squared}
+use Rattle.field.proofs.Raising.{raised_by-lt, raised-squared}
 use Rattle.field.proofs.Solutions.{answer-none, answer-up, answer-down, solution}
 use Rattle.field.proofs.Doubles.{solved-none, solved-double, solved-two}
 use borrow.Author.Rules.{rules}
@@ -24,14 +24,14 @@ use Rattle.field.proofs.arithmetic.root_of.Reads as root-of-reads
 use Rattle.field.proofs.powers.raised.Reads as raised-reads
 
 -- the square root of b, divided by a, is an element
-quotient-lt : {m p : ℕ} (a b : ℕ) {q : ℕ} → ListedRow m p → b < 2 ^ m → q ≡ raisedBy (field_of m p) a (m - 1) b → q < 2 ^ m
-quotient-lt {m} a b l h e = rw e (raisedBy-lt _ (generated l) a (m - 1) b h)
+quotient-lt : {m p : ℕ} (a b : ℕ) {q : ℕ} → ListedRow m p → b < 2 ^ m → q ≡ raised_by (field_of m p) a (m - 1) b → q < 2 ^ m
+quotient-lt {m} a b l h e = rw e (raised_by-lt _ (generated l) a (m - 1) b h)
 
 marked : {m p : ℕ} → ListedRow m p → 2 ^ m ≤ 65535
 marked l = omega (arith, (small l).size-le)
 
 -- where a is not 0: the table's entry j at that quotient q says which roots there are
-module _ {m p a b q j : ℕ} (l : ListedRow m p) (n : a ≡ 0 → ⊥) (ha : a < 2 ^ m) (hb : b < 2 ^ m) (e : q ≡ raisedBy (field_of m p) a (m - 1) b)
+module _ {m p a b q j : ℕ} (l : ListedRow m p) (n : a ≡ 0 → ⊥) (ha : a < 2 ^ m) (hb : b < 2 ^ m) (e : q ≡ raised_by (field_of m p) a (m - 1) b)
     (entry : q < 2 ^ m → HalfRoot (field_of m p) q j) where
   q-lt : q < 2 ^ m
   q-lt = quotient-lt a b l hb e

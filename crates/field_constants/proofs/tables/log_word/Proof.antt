@@ -2,7 +2,7 @@
 -- Assumes nothing.
 use borrow.Author.Rules.{rules}
 use native.Mathlib.Omega.{arith}
-use Rattle.field_constants.specs.Words.{logWords}
+use Rattle.field_constants.specs.Words.{log_words}
 use Rattle.field_constants.proofs.Arms.{NotBelow, none_left}
 use Rattle.field_constants.proofs.Reading.{at-word}
 use Rattle.field_constants.proofs.tables.log_word.Statement.{statement}
@@ -33,28 +33,28 @@ log-words7-requires : tie.Need-log-words7-requires
 log-words7-requires c κs = search rules
 
 returns : tie.Need-returns
-returns c = at-word logWords c.log-words0.ensures (omega arith)
+returns c = at-word log_words c.log-words0.ensures (omega arith)
 
 returns-2 : tie.Need-returns-2
-returns-2 c = at-word logWords c.log-words1.ensures (omega arith)
+returns-2 c = at-word log_words c.log-words1.ensures (omega arith)
 
 returns-3 : tie.Need-returns-3
-returns-3 c = at-word logWords c.log-words2.ensures (omega arith)
+returns-3 c = at-word log_words c.log-words2.ensures (omega arith)
 
 returns-4 : tie.Need-returns-4
-returns-4 c = at-word logWords c.log-words3.ensures (omega arith)
+returns-4 c = at-word log_words c.log-words3.ensures (omega arith)
 
 returns-5 : tie.Need-returns-5
-returns-5 c = at-word logWords c.log-words4.ensures (omega arith)
+returns-5 c = at-word log_words c.log-words4.ensures (omega arith)
 
 returns-6 : tie.Need-returns-6
-returns-6 c = at-word logWords c.log-words5.ensures (omega arith)
+returns-6 c = at-word log_words c.log-words5.ensures (omega arith)
 
 returns-7 : tie.Need-returns-7
-returns-7 c = at-word logWords c.log-words6.ensures (omega arith)
+returns-7 c = at-word log_words c.log-words6.ensures (omega arith)
 
 returns-8 : tie.Need-returns-8
-returns-8 c = at-word logWords c.log-words7.ensures (omega arith)
+returns-8 c = at-word log_words c.log-words7.ensures (omega arith)
 
 returns-9 : tie.Need-returns-9
 unfolding NotBelow

@@ -1,42 +1,42 @@
 -- `field_constants::words::high_words` meets its contract: each arm is the word at its key.
 -- Written by tools/constant_words.py. Assumes nothing.
 use mathlib.Core.Path.{refl}
-use Rattle.field_constants.specs.Words.{highWords}
+use Rattle.field_constants.specs.Words.{high_words}
 use Rattle.field_constants.proofs.Arms.{NotBelow, none_left, arm}
 use Rattle.field_constants.proofs.words.high_words.Statement.{statement}
 use Rattle.field_constants.proofs.words.high_words.Tie as tie
 
 returns : tie.Need-returns
-unfolding highWords
-returns c = arm highWords 0 c.match.keys1 refl
+unfolding high_words
+returns c = arm high_words 0 c.match.keys1 refl
 
 returns-2 : tie.Need-returns-2
-unfolding highWords
-returns-2 c = arm highWords 0 c.match.keys2 refl
+unfolding high_words
+returns-2 c = arm high_words 0 c.match.keys2 refl
 
 returns-3 : tie.Need-returns-3
-unfolding highWords
-returns-3 c = arm highWords 0 c.match.keys3 refl
+unfolding high_words
+returns-3 c = arm high_words 0 c.match.keys3 refl
 
 returns-4 : tie.Need-returns-4
-unfolding highWords
-returns-4 c = arm highWords 0 c.match.keys4 refl
+unfolding high_words
+returns-4 c = arm high_words 0 c.match.keys4 refl
 
 returns-5 : tie.Need-returns-5
-unfolding highWords
-returns-5 c = arm highWords 0 c.match.keys5 refl
+unfolding high_words
+returns-5 c = arm high_words 0 c.match.keys5 refl
 
 returns-6 : tie.Need-returns-6
-unfolding highWords
-returns-6 c = arm highWords 0 c.match.keys6 refl
+unfolding high_words
+returns-6 c = arm high_words 0 c.match.keys6 refl
 
 returns-7 : tie.Need-returns-7
-unfolding highWords
-returns-7 c = arm highWords 0 c.match.keys7 refl
+unfolding high_words
+returns-7 c = arm high_words 0 c.match.keys7 refl
 
 returns-8 : tie.Need-returns-8
-unfolding highWords
-returns-8 c = arm highWords 0 c.match.keys8 refl
+unfolding high_words
+returns-8 c = arm high_words 0 c.match.keys8 refl
 
 returns-9 : tie.Need-returns-9
 unfolding NotBelow

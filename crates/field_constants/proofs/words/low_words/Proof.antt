@@ -1,74 +1,74 @@
 -- `field_constants::words::low_words` meets its contract: each arm is the word at its key.
 -- Written by tools/constant_words.py. Assumes nothing.
 use mathlib.Core.Path.{refl}
-use Rattle.field_constants.specs.Words.{lowWords}
+use Rattle.field_constants.specs.Words.{low_words}
 use Rattle.field_constants.proofs.Arms.{NotBelow, none_left, arm}
 use Rattle.field_constants.proofs.words.low_words.Statement.{statement}
 use Rattle.field_constants.proofs.words.low_words.Tie as tie
 
 returns : tie.Need-returns
-unfolding lowWords
-returns c = arm lowWords 0 c.match.keys1 refl
+unfolding low_words
+returns c = arm low_words 0 c.match.keys1 refl
 
 returns-2 : tie.Need-returns-2
-unfolding lowWords
-returns-2 c = arm lowWords 0 c.match.keys2 refl
+unfolding low_words
+returns-2 c = arm low_words 0 c.match.keys2 refl
 
 returns-3 : tie.Need-returns-3
-unfolding lowWords
-returns-3 c = arm lowWords 0 c.match.keys3 refl
+unfolding low_words
+returns-3 c = arm low_words 0 c.match.keys3 refl
 
 returns-4 : tie.Need-returns-4
-unfolding lowWords
-returns-4 c = arm lowWords 0 c.match.keys4 refl
+unfolding low_words
+returns-4 c = arm low_words 0 c.match.keys4 refl
 
 returns-5 : tie.Need-returns-5
-unfolding lowWords
-returns-5 c = arm lowWords 0 c.match.keys5 refl
+unfolding low_words
+returns-5 c = arm low_words 0 c.match.keys5 refl
 
 returns-6 : tie.Need-returns-6
-unfolding lowWords
-returns-6 c = arm lowWords 0 c.match.keys6 refl
+unfolding low_words
+returns-6 c = arm low_words 0 c.match.keys6 refl
 
 returns-7 : tie.Need-returns-7
-unfolding lowWords
-returns-7 c = arm lowWords 0 c.match.keys7 refl
+unfolding low_words
+returns-7 c = arm low_words 0 c.match.keys7 refl
 
 returns-8 : tie.Need-returns-8
-unfolding lowWords
-returns-8 c = arm lowWords 0 c.match.keys8 refl
+unfolding low_words
+returns-8 c = arm low_words 0 c.match.keys8 refl
 
 returns-9 : tie.Need-returns-9
-unfolding lowWords
-returns-9 c = arm lowWords 0 c.match.keys9 refl
+unfolding low_words
+returns-9 c = arm low_words 0 c.match.keys9 refl
 
 returns-10 : tie.Need-returns-10
-unfolding lowWords
-returns-10 c = arm lowWords 0 c.match.keys10 refl
+unfolding low_words
+returns-10 c = arm low_words 0 c.match.keys10 refl
 
 returns-11 : tie.Need-returns-11
-unfolding lowWords
-returns-11 c = arm lowWords 0 c.match.keys11 refl
+unfolding low_words
+returns-11 c = arm low_words 0 c.match.keys11 refl
 
 returns-12 : tie.Need-returns-12
-unfolding lowWords
-returns-12 c = arm lowWords 0 c.match.keys12 refl
+unfolding low_words
+returns-12 c = arm low_words 0 c.match.keys12 refl
 
 returns-13 : tie.Need-returns-13
-unfolding lowWords
-returns-13 c = arm lowWords 0 c.match.keys13 refl
+unfolding low_words
+returns-13 c = arm low_words 0 c.match.keys13 refl
 
 returns-14 : tie.Need-returns-14
-unfolding lowWords
-returns-14 c = arm lowWords 0 c.match.keys14 refl
+unfolding low_words
+returns-14 c = arm low_words 0 c.match.keys14 refl
 
 returns-15 : tie.Need-returns-15
-unfolding lowWords
-returns-15 c = arm lowWords 0 c.match.keys15 refl
+unfolding low_words
+returns-15 c = arm low_words 0 c.match.keys15 refl
 
 returns-16 : tie.Need-returns-16
-unfolding lowWords
-returns-16 c = arm lowWords 0 c.match.keys16 refl
+unfolding low_words
+returns-16 c = arm low_words 0 c.match.keys16 refl
 
 returns-17 : tie.Need-returns-17
 unfolding NotBelow

@@ -1,15 +1,15 @@
 -- `field_tables::constants::halves8` meets its contract: one test over the whole table.
 -- Assumes nothing.
-use Rattle.field.specs.Rows.{polyIn}
+use Rattle.field.specs.Rows.{poly_in}
 use Rattle.field.proofs.Known.{row8}
 use Rattle.field.proofs.Generator.{generated}
-use Rattle.field.proofs.HalfRoots.{halfRoots, halves-hold}
+use Rattle.field.proofs.HalfRoots.{half_roots, halves-hold}
 use Rattle.field_tables.proofs.Naming.{halves-at}
 use Rattle.field_tables.proofs.constants.halves8.Statement.{statement}
 use Rattle.field_tables.proofs.constants.halves8.Tie as tie
 
 returns : tie.Need-returns
-unfolding polyIn halfRoots
+unfolding poly_in half_roots
 returns c = halves-at c.requires (halves-hold _ (generated row8) _ tt)
 
 pub halves8-spec : {M : Type 1} → statement M

@@ -1,15 +1,15 @@
 -- `field_tables::constants::logs11` meets its contract: one test over the whole table.
 -- Assumes nothing.
-use Rattle.field.specs.Rows.{polyIn}
+use Rattle.field.specs.Rows.{poly_in}
 use Rattle.field.proofs.Known.{row11}
 use Rattle.field.proofs.Generator.{generated}
-use Rattle.field.proofs.Logarithms.{logTest, logs-hold}
+use Rattle.field.proofs.Logarithms.{log_test, logs-hold}
 use Rattle.field_tables.proofs.Naming.{last-is, logs_at}
 use Rattle.field_tables.proofs.constants.logs11.Statement.{statement}
 use Rattle.field_tables.proofs.constants.logs11.Tie as tie
 
 returns : tie.Need-returns
-unfolding polyIn logTest
+unfolding poly_in log_test
 returns c = logs_at (last-is c.requires) (logs-hold _ (generated row11) _ tt)
 
 pub logs11-spec : {M : Type 1} → statement M

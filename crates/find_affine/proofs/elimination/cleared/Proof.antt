@@ -4,14 +4,14 @@ use Prim.Native.Nat.{◌-◌}
 use mathlib.Core.List.{[]}
 use native.Mathlib.Omega.{arith}
 use Rattle.input.specs.Limit.{widest}
-use Rattle.find_affine.specs.Systems.{sweptBy}
+use Rattle.find_affine.specs.Systems.{swept_by}
 use Rattle.find_affine.proofs.RowLoops.{Mapping, mapping-from, mapping-on, mapping-end}
 use borrow.Author.Rules.{rules}
 use Rattle.find_affine.proofs.elimination.cleared.Statement.{statement}
 use Rattle.find_affine.proofs.elimination.cleared.Tie as tie
 
 abbrev invariant-loop : tie.invariant-loop
-invariant-loop by p out₀ k₀ out k = Mapping (sweptBy p by) [] out₀ out k
+invariant-loop by p out₀ k₀ out k = Mapping (swept_by p by) [] out₀ out k
 
 abbrev decreases-loop : tie.decreases-loop
 decreases-loop by p out₀ k₀ out k = widest - k

@@ -3,7 +3,7 @@
 use mathlib.Core.Path.{◌≡◌, ap, ◌∙◌}
 use Prim.Native.Nat.{ℕ, ◌-◌, ◌≤◌}
 use native.Mathlib.Omega.{arith}
-use Rattle.find_affine.specs.Systems.{vectorsAfter}
+use Rattle.find_affine.specs.Systems.{vectors_after}
 use Rattle.find_affine.proofs.RowLoops.{Eliminating, eliminating-from, eliminating-on}
 use borrow.Author.Rules.{rules}
 use Rattle.find_affine.proofs.elimination.kernel.Statement.{statement}
@@ -49,7 +49,7 @@ returns c =
     let l = c.before.loop in
     let a = c.before.before.args in
     let e : l.i ≡ a.n = omega arith in
-    l.invariant.1.vectors-are ∙ ap (λ (k : ℕ). vectorsAfter k a.rows a.vectors) e
+    l.invariant.1.vectors-are ∙ ap (λ (k : ℕ). vectors_after k a.rows a.vectors) e
 
 pub kernel-spec : {M : Type 1} → statement M
 kernel-spec =

@@ -5,14 +5,14 @@ use Prim.Native.Nat.{ℕ, ◌-◌, ◌^◌, ◌≤◌, ◌<◌}
 use native.Mathlib.Omega.{arith}
 use lib.Pow.{pow-lt, pow_pos}
 use Rattle.field.proofs.Known.{listed}
-use Rattle.find_affine.specs.Affine.{termsAt}
+use Rattle.find_affine.specs.Affine.{terms_at}
 use Rattle.find_affine.proofs.RowLoops.{Filling, filling-from, filling-on, next_power, power-fits, images-end, degree-widest}
 use borrow.Author.Rules.{rules}
 use Rattle.find_affine.proofs.images.images_lent.Statement.{statement}
 use Rattle.find_affine.proofs.images.images_lent.Tie as tie
 
 abbrev invariant-loop : tie.invariant-loop
-invariant-loop m logs antilogs coeffs constant n out₀ x₀ j₀ out x j = (j ≤ n) × (x ≡ 2 ^ j) × Filling (λ (i : ℕ). termsAt m coeffs (2 ^ i)) out j
+invariant-loop m logs antilogs coeffs constant n out₀ x₀ j₀ out x j = (j ≤ n) × (x ≡ 2 ^ j) × Filling (λ (i : ℕ). terms_at m coeffs (2 ^ i)) out j
 
 abbrev decreases-loop : tie.decreases-loop
 decreases-loop m logs antilogs coeffs constant n out₀ x₀ j₀ out x j = n - j
@@ -50,7 +50,7 @@ loop-again c =
     let s = c.before.before.before.before.before.before in
     let h = degree-widest (listed _ s.requires.0.degree) in
     let l = c.before.before.loop in
-    (omega arith, next_power l.j l.invariant.1, filling-on l.invariant.2 (omega arith) (c.terms.ensures ∙ ap (termsAt s.args.m s.args.coeffs.now) l.invariant.1))
+    (omega arith, next_power l.j l.invariant.1, filling-on l.invariant.2 (omega arith) (c.terms.ensures ∙ ap (terms_at s.args.m s.args.coeffs.now) l.invariant.1))
 
 mul-out-2 : tie.Need-overflow-mul-out-2 invariant-loop decreases-loop
 mul-out-2 c = let h = degree-widest (listed _ c.before.before.before.before.before.requires.0.degree) in omega arith

@@ -4,7 +4,7 @@ use mathlib.Core.Path.{ap, ◌≡◌, ◌∙◌}
 use mathlib.Core.Logic.{⊎_elim}
 use Prim.Native.Nat.{ℕ, ◌-◌, ◌≤◌}
 use native.Mathlib.Omega.{arith}
-use Rattle.find_affine.specs.Spaces.{dimensionBelow}
+use Rattle.find_affine.specs.Spaces.{dimension_below}
 use Rattle.find_affine.proofs.ListLoops.{Counting, counting-from, counting-yes, counting-no}
 use borrow.Author.Rules.{rules}
 use Rattle.find_affine.proofs.listing.dimension.Statement.{statement}
@@ -47,7 +47,7 @@ returns c =
     let l = c.before.loop in
     let a = c.before.before.args in
     let e : l.j ≡ a.n = omega arith in
-    l.invariant.1.count ∙ ap (λ (i : ℕ). dimensionBelow i a.t2) e
+    l.invariant.1.count ∙ ap (λ (i : ℕ). dimension_below i a.t2) e
 
 pub dimension-spec : {M : Type 1} → statement M
 dimension-spec =

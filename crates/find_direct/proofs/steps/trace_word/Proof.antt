@@ -2,7 +2,7 @@
 -- Assumes nothing.
 use mathlib.Core.Path.{refl}
 use borrow.Author.Rules.{rules}
-use Rattle.find_direct.specs.Steps.{traceWord}
+use Rattle.find_direct.specs.Steps.{trace_word}
 use Rattle.find_direct.proofs.steps.trace_word.Statement.{statement}
 use Rattle.find_direct.proofs.steps.trace_word.Tie as tie
 
@@ -13,7 +13,7 @@ mul-result-2 : tie.Need-overflow-mul-result-2
 mul-result-2 c = search rules
 
 returns : tie.Need-returns
-unfolding traceWord
+unfolding trace_word
 returns c = refl
 
 pub trace-word-spec : {M : Type 1} → statement M

@@ -1,16 +1,16 @@
 -- `job_lists::words::is_digit` meets its contract.
 -- Assumes nothing.
 use borrow.Author.Tests.{lt-leb, le-leb}
-use Rattle.job_lists.specs.Lines.{isDigit}
+use Rattle.job_lists.specs.Lines.{is_digit}
 use Rattle.job_lists.proofs.words.is_digit.Statement.{statement}
 use Rattle.job_lists.proofs.words.is_digit.Tie as tie
 
 returns : tie.Need-returns
-unfolding isDigit
+unfolding is_digit
 returns c = rw (lt-leb _ _ c.if1.true)
 
 returns-2 : tie.Need-returns-2
-unfolding isDigit
+unfolding is_digit
 returns-2 c = rw (le-leb _ _ c.if1.false)
 
 pub is-digit-spec : {M : Type 1} → statement M

@@ -42,7 +42,7 @@ use denote.Triple.Table.{cited}
 use denote.Triple.Walked.{says, Stays, stay_none, walk_of, Goes-none, Walks, ends_at, walked, walk_Meets}
 use denote.Exit.{yes}
 use denote.Triple.Clauses.{ensured, lasts}
-use Rattle.job_records.specs.Reading.{Outcome, toldRead, readAt}
+use Rattle.job_records.specs.Reading.{Outcome, told_read, read_at}
 use Rattle.job_records.specs.declared.held.Reader.{Reader}
 use Rattle.job_records.specs.declared.Read.{Read}
 use Rattle.job_records.proofs.Closing.{entered-in}
@@ -79,7 +79,7 @@ module _ {M : Type 1} {𝓤 : Ura M} (𝓛 : Logic 𝓤) (mem : Memory → SProp
   v = slice_val d.file.ref_ptr (length d.file.now)
 
   abbrev found : Outcome
-  found = readAt d.file.now d.at
+  found = read_at d.file.now d.at
 
   abbrev Post : Val → SProp 𝓤
   Post = (walk_of 𝓛 next.ended stayed (next.clauses 𝓛 mem run)).post (((κ, tt), (q, tt), tt, (d, tt), (mach ∷ [], tt)), tt)
@@ -105,10 +105,10 @@ module _ {M : Type 1} {𝓤 : Ura M} (𝓛 : Logic 𝓤) (mem : Memory → SProp
       move ! (2 ∷ 0 ∷ []) $ use2 𝓛 (raw ((ReadRecord 𝓛 mem run).pre to)) asked $ frame ! $ done !)
 
   -- of the callee's `ensured`, the clause alone: it has no `&mut`, so what is said of last values is dropped
-  said : (r : Read) → ent 𝓤 (ensured 𝓛 step.ended (step.clauses 𝓛 mem run) (κ, tt) (d.file, (d.at, tt)) tt r) (fact 𝓤 (toldRead r ≡ found))
-  said r = ex_e 𝓤 _ (λ ws. snd∗ 𝓤 (sem 𝓛 (lasts step.ended (κ, tt) (d.file, (d.at, tt)) ws)) (fact 𝓤 (toldRead r ≡ found)))
+  said : (r : Read) → ent 𝓤 (ensured 𝓛 step.ended (step.clauses 𝓛 mem run) (κ, tt) (d.file, (d.at, tt)) tt r) (fact 𝓤 (told_read r ≡ found))
+  said r = ex_e 𝓤 _ (λ ws. snd∗ 𝓤 (sem 𝓛 (lasts step.ended (κ, tt) (d.file, (d.at, tt)) ws)) (fact 𝓤 (told_read r ≡ found)))
 
-  exits : (r : Read) (u : Val) → toldRead r ≡ found → ent 𝓤 (⋆ 𝓛 (‵ ((S.the_row).own_val r (u ∷ [])) ∷ (‵ (flft κ q) ⊛ ‵ ftrue) ∷ ‵ (Own κ d) ∷ [])) (Post u)
+  exits : (r : Read) (u : Val) → told_read r ≡ found → ent 𝓤 (⋆ 𝓛 (‵ ((S.the_row).own_val r (u ∷ [])) ∷ (‵ (flft κ q) ⊛ ‵ ftrue) ∷ ‵ (Own κ d) ∷ [])) (Post u)
   exits r u e =
       qed 𝓛 (‵ ((S.the_row).own_val r (u ∷ [])) ∷ (‵ (flft κ q) ⊛ ‵ ftrue) ∷ ‵ (Own κ d) ∷ []) ∵
       suffices ! _ (ends_at 𝓛 next.ended stayed (next.clauses 𝓛 mem run) (((κ, tt), (q, tt), tt, (d, tt), (mach ∷ [], tt)), tt) u r (tt, tt) (tt, tt)) $ says ! e $
@@ -124,7 +124,7 @@ module _ {M : Type 1} {𝓤 : Ura M} (𝓛 : Logic 𝓤) (mem : Memory → SProp
         move ! (8 ∷ []) $ use1 𝓛 (raw ((ReadRecord 𝓛 mem run).pre to) ⊛ ‵ (Own κ d)) (apart wt.1.1.0.fits) $ split ! $
         calls_at ! fm (ReadRecord 𝓛 mem run) known to (and_then ! (load ! (from ! (stop !)) (look ! 4 refl)) (and_then ! (load ! (from ! (stop !)) (look ! 2 refl)) (no_more !))) (λ u.
         use1 𝓛 (later (some (λ (r : Read). ((‵ (flft κ q) ⊛ ‵ ftrue) ⊛ ‵ ((S.the_row).own_val r (u ∷ []))) ⊛ raw (ensured 𝓛 step.ended (step.clauses 𝓛 mem run) (κ, tt) (d.file, (d.at, tt)) tt r)))) (id⊢ 𝓤 _) $ await ! tt $ pick ! (λ r.
-        split ! $ move ! (1 ∷ []) $ use1 𝓛 (raw (fact 𝓤 (toldRead r ≡ found))) (said r) $ heard ! (toldRead r ≡ found) (λ e. split ! $ move ! (1 ∷ []) $
+        split ! $ move ! (1 ∷ []) $ use1 𝓛 (raw (fact 𝓤 (told_read r ≡ found))) (said r) $ heard ! (told_read r ≡ found) (λ e. split ! $ move ! (1 ∷ []) $
         -- [the result; the token; what the struct owns; _3; …; _2; …; _1; …; room for _0; …]
         peeks ! S.the_row (Is S.the_row) (shows 𝓛 S.the_row) r (u ∷ []) (λ is.
         land ! (from ! (stop !)) (init ! 9 refl ((EL.lawful S.the_type S'.the_laws 𝓛 tt).typed r _ is).0) $

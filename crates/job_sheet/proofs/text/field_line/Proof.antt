@@ -3,7 +3,7 @@
 -- Assumes nothing.
 use Rattle.std.proofs.Common.{◌≡◌, ◌^◌, ◌<◌, ◌≤◌, length, ◌∙◌, arith, rules}
 use Rattle.job_text.proofs.Writing.{five-digits, twenty-digits, spaced-long}
-use Rattle.job_sheet.specs.Calls.{toldField}
+use Rattle.job_sheet.specs.Calls.{told_field}
 use Rattle.job_sheet.proofs.Texts.{one_word, field-wrote}
 use Rattle.job_sheet.proofs.text.field_line.Statement.{statement}
 use Rattle.job_sheet.proofs.text.field_line.Tie as tie
@@ -112,7 +112,7 @@ returns c =
     let p = q.before.before.before.before in
     let a = from_first p in
     let steps = rw (one_word a.args.line.steps a.pre.1.word) at u.put-spaced3.ensures in (
-      field-wrote a.args.m (toldField a.args.line) p.decimal.ensures q.put-spaced.ensures
+      field-wrote a.args.m (told_field a.args.line) p.decimal.ensures q.put-spaced.ensures
           r.put-numbers.ensures.0 t.put-spaced2.ensures steps v.put-highest.ensures.0 w.put_byte.ensures,
       omega (arith, (sixth v).0, w.put_byte.ensures.ended),
     )

@@ -1,6 +1,6 @@
 -- `job_sheet::text::put_highest` meets its contract: three dashes, or the three numbers.
 -- Assumes nothing.
-use Rattle.job_sheet.specs.Calls.{toldHighest}
+use Rattle.job_sheet.specs.Calls.{told_highest}
 use Rattle.job_sheet.proofs.Texts.{none-wrote, highest-wrote}
 use Rattle.std.proofs.Common.{rules}
 use Rattle.job_sheet.proofs.text.put_highest.Statement.{statement}
@@ -20,7 +20,7 @@ returns : tie.Need-returns
 returns c =
     let p = c.before.before in
     let b = p.before.before.before in
-    none-wrote (toldHighest b.before.before.before.args.highest) b.if1.true p.put-bytes.ensures
+    none-wrote (told_highest b.before.before.before.args.highest) b.if1.true p.put-bytes.ensures
 
 cast-t11 : tie.Need-overflow-cast-t11
 cast-t11 c = search rules
@@ -41,7 +41,7 @@ returns-2 : tie.Need-returns-2
 returns-2 c =
     let p = c.before.before in
     let b = p.before.before.before.before.before in
-    highest-wrote (toldHighest b.before.before.before.args.highest) b.if1.false p.put-numbers.ensures
+    highest-wrote (told_highest b.before.before.before.args.highest) b.if1.false p.put-numbers.ensures
 
 pub put-highest-spec : {M : Type 1} → statement M
 put-highest-spec =

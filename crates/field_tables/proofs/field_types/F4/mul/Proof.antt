@@ -2,7 +2,7 @@
 -- Assumes nothing.
 use mathlib.Core.Path.{refl}
 use lib.Dec.{lit<}
-use Rattle.field.specs.Rows.{polyIn}
+use Rattle.field.specs.Rows.{poly_in}
 use Rattle.field_tables.proofs.field_types.F4.mul.Statement.{statement}
 use Rattle.field_tables.proofs.field_types.F4.mul.Tie as tie
 
@@ -10,7 +10,7 @@ product-of-requires : tie.Need-product-of-requires
 product-of-requires c κs = (lit< tt, refl, c.requires)
 
 returns : tie.Need-returns
-unfolding polyIn
+unfolding poly_in
 returns c = c.product-of.ensures
 
 pub mul-spec : {M : Type 1} → statement M

@@ -1,7 +1,7 @@
 -- `field_tables::field_types::F4::position` meets its contract: the table is the log table.
 -- Assumes nothing.
 use borrow.Author.Rules.{rules}
-use Rattle.field.specs.Rows.{polyIn}
+use Rattle.field.specs.Rows.{poly_in}
 use Rattle.field_tables.proofs.field_types.F4.position.Statement.{statement}
 use Rattle.field_tables.proofs.field_types.F4.position.Tie as tie
 
@@ -12,11 +12,11 @@ slice-aggregate-position-of : tie.Need-slice-aggregate-position-of
 slice-aggregate-position-of c = search rules
 
 position-of-requires : tie.Need-position-of-requires
-unfolding polyIn
+unfolding poly_in
 position-of-requires c κs = (c.before.logs4.ensures, c.before.before.requires.0, c.before.before.requires.1)
 
 returns : tie.Need-returns
-unfolding polyIn
+unfolding poly_in
 returns c = c.position-of.ensures
 
 pub position-spec : {M : Type 1} → statement M

@@ -1,7 +1,7 @@
 -- `field_tables::field_types::F4::roots` meets its contract: the table is the quadratic table.
 -- Assumes nothing.
 use borrow.Author.Rules.{rules}
-use Rattle.field.specs.Rows.{polyIn}
+use Rattle.field.specs.Rows.{poly_in}
 use Rattle.field.proofs.Known.{row4}
 use Rattle.field_tables.proofs.field_types.F4.roots.Statement.{statement}
 use Rattle.field_tables.proofs.field_types.F4.roots.Tie as tie
@@ -13,11 +13,11 @@ slice-aggregate-quadratic-of : tie.Need-slice-aggregate-quadratic-of
 slice-aggregate-quadratic-of c = search rules
 
 quadratic-of-requires : tie.Need-quadratic-of-requires
-unfolding polyIn
+unfolding poly_in
 quadratic-of-requires c κs = (row4, c.before.halves4.ensures, c.before.before.requires.0, c.before.before.requires.1)
 
 returns : tie.Need-returns
-unfolding polyIn
+unfolding poly_in
 returns c = c.quadratic-of.ensures
 
 pub roots-spec : {M : Type 1} → statement M

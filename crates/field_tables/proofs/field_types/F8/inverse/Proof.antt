@@ -1,6 +1,6 @@
 -- `field_tables::field_types::F8::inverse` meets its contract: the field is known.
 -- Assumes nothing.
-use Rattle.field.specs.Rows.{polyIn}
+use Rattle.field.specs.Rows.{poly_in}
 use Rattle.field.proofs.Known.{row8}
 use Rattle.field_tables.proofs.field_types.F8.inverse.Statement.{statement}
 use Rattle.field_tables.proofs.field_types.F8.inverse.Tie as tie
@@ -9,7 +9,7 @@ inverse-of-requires : tie.Need-inverse-of-requires
 inverse-of-requires c κs = (row8, c.requires.0, c.requires.1)
 
 returns : tie.Need-returns
-unfolding polyIn
+unfolding poly_in
 returns c = c.inverse-of.ensures
 
 pub inverse-spec : {M : Type 1} → statement M
