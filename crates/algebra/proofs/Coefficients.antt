@@ -24,7 +24,7 @@ module _ {K : Type 0} {F : Ops K} (L : Laws F) where
 
   pub coef-cons : (c : K) (p : List K) → coef F (c ∷ p) ≡ starting_with c (coef F p)
   unfolding starting_with
-  coef-cons c p = fun_ext λ k. elim k [ zero ↦ refl | suc k ↦ refl ]
+  coef-cons c p = fun_ext λ k. elim k as (λ k. coef F (c ∷ p) k ≡ starting_with c (coef F p) k) [ zero ↦ refl | suc k ↦ refl ]
 
   pub coef-add : (p q : List K) → coef F (add F p q) ≡ coef F p ⊞ coef F q
   unfolding add

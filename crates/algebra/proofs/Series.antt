@@ -179,15 +179,15 @@ module _ {K : Type 0} {F : Ops K} (L : Laws F) where
 
   pub starting_with-plus : (c d : K) (f g : Series K) → starting_with c f ⊞ starting_with d g ≡ starting_with (c ⊕ d) (f ⊞ g)
   unfolding starting_with plus
-  starting_with-plus c d f g = fun_ext λ k. elim k [ zero ↦ refl | suc k ↦ refl ]
+  starting_with-plus c d f g = fun_ext λ k. elim k as (λ k. (starting_with c f ⊞ starting_with d g) k ≡ starting_with (c ⊕ d) (f ⊞ g) k) [ zero ↦ refl | suc k ↦ refl ]
 
   pub starting_with-times : (c : K) (f g : Series K) → starting_with c f ⊠ g ≡ scale F c g ⊞ starting_with 0# (f ⊠ g)
   unfolding starting_with plus times scale
-  starting_with-times c f g = fun_ext λ k. elim k [ zero ↦ sym (add-zero L (c ⊗ g 0)) | suc k ↦ refl ]
+  starting_with-times c f g = fun_ext λ k. elim k as (λ k. (starting_with c f ⊠ g) k ≡ (scale F c g ⊞ starting_with 0# (f ⊠ g)) k) [ zero ↦ sym (add-zero L (c ⊗ g 0)) | suc k ↦ refl ]
 
   pub starting_with-scale : (c d : K) (f : Series K) → scale F c (starting_with d f) ≡ starting_with (c ⊗ d) (scale F c f)
   unfolding starting_with scale
-  starting_with-scale c d f = fun_ext λ k. elim k [ zero ↦ refl | suc k ↦ refl ]
+  starting_with-scale c d f = fun_ext λ k. elim k as (λ k. scale F c (starting_with d f) k ≡ starting_with (c ⊗ d) (scale F c f) k) [ zero ↦ refl | suc k ↦ refl ]
 
   -- (c + z f)^2 = c^2 + z^2 f^2: the middle terms cancel
   pub starting_with-square : (c : K) (f : Series K) → starting_with c f ⊠ starting_with c f ≡ starting_with (c ⊗ c) (starting_with 0# (f ⊠ f))

@@ -16,7 +16,7 @@
 --   gcd            the same, in as many divisions as it takes
 -- Assumes nothing.
 use Rattle.std.specs.Prelude.{cond, List, [], ◌∷◌, ◌++◌, map, get_or, length, take, replicate}
-use Rattle.std.proofs.Math.Option.{Option, none, some, Option·elim}
+use Rattle.std.proofs.Math.Option.{Option, none, some, Option-elim}
 use Prim.Native.Nat.{ℕ, zero, suc, ◌-◌}
 use Rattle.algebra.specs.Field.{Ops}
 use Rattle.algebra.specs.Polynomial.{add, from_roots}
@@ -63,9 +63,9 @@ module _ {K : Type 0} (F : Ops K) where
   monic_roots s = take (length s) (from_roots F s)
 
   unfoldable pub euclid : ℕ → List K → List K → List K
-  unfolding Option·elim
+  unfolding Option-elim
   euclid zero p f = p
-  euclid (suc n) p f = Option·elim (norm (length p) (rem p f)) p (λ r. euclid n r (monic p))
+  euclid (suc n) p f = Option-elim (norm (length p) (rem p f)) p (λ r. euclid n r (monic p))
 
   unfoldable pub gcd : List K → List K → List K
   gcd p f = euclid (length p) p f

@@ -1,5 +1,7 @@
 // Data into words that stand up to wrong bits, and back (docs/RULES.md section 7.4): `blocks encode T` and
 // `blocks correct T` go from standard input to standard output, word by word, however long the input is.
+#![tactic(auto)]
+
 use arguments::Asked;
 
 mod arguments; // what the command line asks for

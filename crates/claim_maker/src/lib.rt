@@ -5,6 +5,8 @@
 // divisor and the remainder, so that one product a division gives both u and v. It gives the v of the lowest degree,
 // below that of h. Where f splits, h is a constant, v is 0 and u the inverse of h, by the same way. The engine has
 // squared z m - 1 times modulo f, and h divides f: w takes one squaring more, and a division.
+#![tactic(auto)]
+
 ghost use Rattle.std.specs.Prelude.{◌≡◌, map, ◌≤◌, ◌*◌, length, take};
 ghost use Rattle.algebra.specs.Multiplicity.{total};
 ghost use Rattle.algebra.specs.Routines.{quo};

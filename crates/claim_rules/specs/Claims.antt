@@ -14,7 +14,7 @@
 -- Polynomials are equal where all coefficients are: zeros at the top are ignored.
 -- Assumes nothing.
 use Rattle.std.specs.Prelude.{◌≡◌, ◌≢◌, List, [], ◌∷◌, ◌++◌, ℕ, ◌^◌, ◌≤◌, length, replicate}
-use Rattle.std.proofs.Math.Option.{Option·elim}
+use Rattle.std.proofs.Math.Option.{Option-elim}
 use Rattle.algebra.specs.Trial.{All, Ascending}
 use Rattle.algebra.specs.Polynomial.{DividesBelow, coef, add, mul, from_roots, field_poly}
 use Rattle.algebra.specs.Routines.{norm, rem}
@@ -43,8 +43,8 @@ claimed m c = mul (G m) (from_roots (G m) (spread_out c.roots c.times)) c.cofact
 
 -- `norm` is the monic multiple without its leading 1: empty where h is a nonzero constant, and nothing where h is 0
 unfoldable pub field_remainder : ℕ → List ℕ → List ℕ
-unfolding Option·elim
-field_remainder m h = Option·elim (norm (G m) (length h) h) [] (λ p. rem (G m) p (field_poly (G m) m))
+unfolding Option-elim
+field_remainder m h = Option-elim (norm (G m) (length h) h) [] (λ p. rem (G m) p (field_poly (G m) m))
 
 -- what that means: w has no coefficient from some place of h on, and h divides z^(2^m) + z + w
 pub record IsFieldRemainder (m : ℕ) (h w : List ℕ) : Type 0 where

@@ -4,6 +4,8 @@
 // last equation shows that h has no root: at a root of h both sides would be 0. So an accepted list is complete, and
 // nothing is searched: the check multiplies, and squares z m times modulo h. Degrees are compared first, so that the
 // work is bounded by the limit, however long the lists are and whatever the multiplicities say.
+#![tactic(auto)]
+
 ghost use Rattle.std.specs.Prelude.{◌≡◌, [], ◌∷◌, ◌≤◌, suc, ◌^◌, eqb, ltb, length, replicate};
 ghost use Rattle.refusals.specs.Admitting.{Admits};
 ghost use Rattle.slices.specs.Bounded.{any_from};

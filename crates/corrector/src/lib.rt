@@ -5,6 +5,8 @@
 // there are at most t of them and their odd power sums are the syndromes, wherever they came from. The polynomial of
 // one to four wrong bits is guessed by closed formulas, without a table. Where the guess fails Berlekamp's register
 // gives it, and its places decide exactly whether a codeword lies within t bits.
+#![tactic(auto)]
+
 ghost use Rattle.std.specs.Prelude.{◌≡◌, true, false, ◌+◌, ◌/◌, ◌%◌, ◌<◌, ◌≤◌, ◌^◌, get_or, length};
 ghost use Rattle.field.specs.Field.{field_at, roots_at};
 ghost use Rattle.field.specs.Tables.{Antilogs};

@@ -1,5 +1,6 @@
 // The numbers of the recorders' codes (docs/RULES.md section 7); the crate is else the theory that contracts and proofs
 // cite.
+#![tactic(auto)]
 
 // The bytes of a word of 2047 bits.
 pub const WORD: usize = 256;

@@ -1,6 +1,8 @@
 // The block encoder (docs/RULES.md section 7): the check bits of a word of 2047 bits in 256 bytes. A word and its
 // remainder at strength t have the same values at a, a^3, .., a^(2t-1), so that their sum is a codeword; the remainder
 // has 11 t digits, so that the bits from 11 t on stay.
+#![tactic(auto)]
+
 ghost use Rattle.std.specs.Prelude.{◌≡◌, [], ◌∷◌, ◌+◌, ◌*◌, ◌≤◌, length};
 ghost use Rattle.corrector.specs.Correcting.{IsBlock, IsStrength};
 ghost use Rattle.corrector_encoder.specs.Bytes.{add_bytes};

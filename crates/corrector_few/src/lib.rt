@@ -7,6 +7,8 @@
 //     D b + s d = A,    E b + s3 d = B
 // with D = s^3 + s3, E = s^5 + s5, A = s^2 s3 + s5 and B = s s3^2 + s^4 D + s7. With D = 0 there is one locator; where
 // the determinant V = D s3 + s E is 0 there are two, and with d = 0 three.
+#![tactic(auto)]
+
 ghost use Rattle.std.specs.Prelude.{◌≤◌, ◌<◌};
 ghost use Rattle.corrector_few.specs.Locators.{LowLocator};
 

@@ -1,4 +1,5 @@
 // The key equation: Berlekamp's register for a binary code, on arrays of nine coefficients.
+#![tactic(auto)]
 
 ghost use Rattle.std.specs.Prelude.{◌≡◌, ◌+◌, ◌*◌, ◌<◌, length, get_or};
 ghost use Rattle.field.specs.Field.{field_at, mul, inverse};

@@ -2,6 +2,8 @@
 // a^(2t-1). A word is divided by the generator of strength 5 or 8, four bytes at a time: the 32 digits that leave the
 // register at the top come back by the rows of corrector_generator. By that of strength 5 the remainder has 55 digits,
 // in one number, at two thirds of the cost. Its digits from 11 t on are then cut one by one.
+#![tactic(auto)]
+
 ghost use Rattle.std.specs.Prelude.{◌≡◌, ◌+◌, ◌-◌, ◌*◌, ◌/◌, ◌^◌, ◌≤◌, ◌<◌, leb, length};
 ghost use Rattle.field.specs.Field.{reduce};
 ghost use Rattle.corrector_code.specs.Digits.{bytes_number};

@@ -1,6 +1,8 @@
 // A word of a stream of data (docs/RULES.md section 7.4): data and a mark into a word of 256 bytes, which is then
 // encoded, and back: corrected and taken apart. Data stand in whole bytes behind the check bits. Byte 255 is 0 in a
 // word that is full, and 1 in the last one of a stream, whose data end in front of its last byte 80 (hex).
+#![tactic(auto)]
+
 ghost use Rattle.std.specs.Prelude.{◌≡◌, ◌+◌, ◌-◌, ◌*◌, ◌^◌, ◌≤◌, length};
 ghost use Rattle.corrector.specs.Correcting.{IsBlock, IsStrength};
 ghost use Rattle.corrector.specs.Places.{Tells};

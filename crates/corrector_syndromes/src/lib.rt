@@ -1,5 +1,7 @@
 // The odd syndromes: the values of a remainder at a, a^3, .., a^15, of which the first t are those of the word at
 // strength t. Each digit of the remainder adds its row of powers.
+#![tactic(auto)]
+
 ghost use Rattle.std.specs.Prelude.{◌*◌, ◌^◌, ◌<◌};
 ghost use Rattle.corrector_remainder.specs.Remainder.{rest_of};
 ghost use Rattle.corrector_syndromes.specs.Syndromes.{RowTable, RowAdded, ValuesAdded, OddValues};

@@ -1,4 +1,6 @@
 // The public element calls: product, inverse, position, quadratic (docs/RULES.md section 2). Each answers every input.
+#![tactic(auto)]
+
 ghost use Rattle.field_elements.specs.Calls.{TellsProduct, TellsInverse, TellsPosition, TellsQuadratic};
 ghost use Rattle.field_elements.specs.Calls.{pair_tests, nonzero_tests, position_tests};
 ghost use Rattle.refusals.specs.Admitting.{Admits};

@@ -4,6 +4,8 @@
 // Elimination takes the pivot of each row at its lowest column, and sweeps a vector for each column along: those that
 // are left are one root, marked by the digit 2^m, and a reduced basis of the differences between roots. Doubling lists
 // the roots ascending; no element is tried.
+#![tactic(auto)]
+
 ghost use Rattle.std.specs.Prelude.{◌≡◌};
 ghost use Rattle.refusals.specs.Admitting.{Admits};
 ghost use Rattle.find_affine.specs.Calls.{affine_tests, Spans, Spannable, SpannedOut};

@@ -1,5 +1,7 @@
 // Degrees 1 to 4 in field 11 without a table that is lent: the products are made over the tables in place, so that a
 // call builds nothing. A polynomial that a recorder's word gives mostly has degree 1 or 2.
+#![tactic(auto)]
+
 ghost use Rattle.std.specs.Prelude.{◌≤◌, ◌<◌, length};
 ghost use Rattle.field.specs.Field.{field_at, roots_at};
 ghost use Rattle.field.specs.Quadratics.{roots_of_quadratic};

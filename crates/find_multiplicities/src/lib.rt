@@ -1,6 +1,8 @@
 // Beside each root its multiplicity (docs/RULES.md section 3.3): the largest e for which (z + r)^e divides the
 // polynomial. Where there are as many roots as the degree each is simple, and nothing is divided. Otherwise z + r is
 // taken out by division (Ruffini), root after root, as often as the value there is 0.
+#![tactic(auto)]
+
 ghost use Rattle.std.specs.Prelude.{◌≡◌, ◌≤◌, length, replicate};
 ghost use Rattle.algebra.specs.Multiplicity.{multiplicities_in};
 ghost use Rattle.field.specs.Field.{G, multiplicities_at};

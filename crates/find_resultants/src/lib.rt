@@ -2,6 +2,8 @@
 // the plain search's contract. A polynomial goes up a chain of maps y = x^2 + b x; each halves the elements that can
 // still be roots, and the few that are left are tried; on the way down each root y gives the roots x above it. Nothing
 // has to split, and no polynomial is divided.
+#![tactic(auto)]
+
 ghost use Rattle.std.specs.Prelude.{◌≤◌, length};
 ghost use Rattle.input.specs.Limit.{limit};
 ghost use Rattle.input.specs.Polynomials.{PolynomialIn};

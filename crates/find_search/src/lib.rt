@@ -1,6 +1,8 @@
 // The plain search (docs/RULES.md section 3.5): the value of the polynomial at every element. In field 11 the values
 // are found on bit planes by an additive transform (poly_values); in the small fields the polynomial is evaluated at
 // four elements side by side, so that their chains of table loads overlap.
+#![tactic(auto)]
+
 ghost use Rattle.std.specs.Prelude.{◌≡◌, ◌+◌, ◌≤◌, ◌<◌, length};
 ghost use Rattle.field_tables.specs.Naming.{LastField};
 ghost use Rattle.input.specs.Limit.{limit};

@@ -11,6 +11,8 @@
 // on begin's way to z^(2^m) are kept, and Tr(a^i z) is a sum of their multiples, taken once a level.
 // In field 11 degrees 1 to 4 take no table and no lent memory (crate find_direct): a quotient, the quadratic's formula,
 // or a guess that is tried. The steps that a table would take are then counted from the roots' trace bits.
+#![tactic(auto)]
+
 ghost use Rattle.std.specs.Prelude.{◌≤◌, length};
 ghost use Rattle.input.specs.Cutoff.{highest_cutoff};
 ghost use Rattle.input.specs.Limit.{limit};

@@ -1,6 +1,8 @@
 // What calls take: the house's numbers, which polynomials and cutoffs are let in, and which cutoff is in force
 // (docs/RULES.md sections 3.1, 3.2 and 8.3). Every call that takes a polynomial begins here, and so does the reader of
 // records.
+#![tactic(auto)]
+
 ghost use Rattle.std.specs.Prelude.{◌≡◌, [], ◌∷◌, ltb, length};
 ghost use Rattle.refusals.specs.Admitting.{Admits};
 ghost use Rattle.input.specs.Cutoff.{highest_cutoff, in_force};

@@ -1,5 +1,7 @@
 // The lines of job records (docs/RULES.md section 6): from what the reader gives, the text of the record's line, and
 // where reading goes on.
+#![tactic(auto)]
+
 ghost use Rattle.std.specs.Prelude.{◌≤◌, length};
 ghost use Rattle.refusals.specs.Numbers.{number_of};
 ghost use Rattle.job_records.specs.Layout.{words};

@@ -1,4 +1,6 @@
 // Lists of jobs as text: where a line ends, whether it is whole, and the record that it asks for.
+#![tactic(auto)]
+
 ghost use Rattle.std.specs.Prelude.{◌≡◌, ◌≤◌, length};
 ghost use Rattle.job_lists.specs.Lines.{line_end, ends_whole};
 ghost use Rattle.job_lists.specs.Calls.{Lists, ListsAt};

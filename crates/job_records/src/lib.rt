@@ -1,5 +1,7 @@
 // Job records (docs/RULES.md section 5): a place by value over a lent file, an enum for what stands there, and a part
 // of the file handed back.
+#![tactic(auto)]
+
 ghost use Rattle.std.specs.Prelude.{◌≡◌, ◌+◌, ◌*◌, ◌≤◌, ◌<◌, ◌^◌, length, drop};
 ghost use Rattle.refusals.specs.Admitting.{Admits};
 ghost use Rattle.input.specs.Values.{Measured};

@@ -1,5 +1,7 @@
 // Salvage of a damaged job file (docs/RULES.md section 11): at each place a record is kept if the reader accepts it
 // there, and else one byte is dropped; behind a kept record it goes on.
+#![tactic(auto)]
+
 ghost use Rattle.job_salvage.specs.Calls.{NextIs, Salvages};
 
 use job_records::{Read, read_record};

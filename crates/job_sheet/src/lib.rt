@@ -1,5 +1,7 @@
 // The monthly sheet of a job file in exact figures (docs/RULES.md section 13): for each field the records accepted and
 // refused, their roots and steps, and the record whose steps stand highest against their limit.
+#![tactic(auto)]
+
 ghost use Rattle.std.specs.Prelude.{◌≡◌, ◌+◌, ◌*◌, ◌^◌, ◌<◌, true};
 ghost use Rattle.field.specs.Rows.{known};
 ghost use Rattle.job_sheet.specs.Figures.{better};

@@ -1,5 +1,7 @@
 // An accepted job record is solved (docs/RULES.md sections 3.4 and 5.3): its coefficients are spelled, its cutoff is
 // resolved, and the engine of the whole call finds its roots. The lines of records and the sheet come from here.
+#![tactic(auto)]
+
 ghost use Rattle.std.specs.Prelude.{◌≡◌, ◌≤◌, length};
 ghost use Rattle.input.specs.Cutoff.{in_force};
 ghost use Rattle.input.specs.Limit.{limit};

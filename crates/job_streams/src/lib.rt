@@ -1,5 +1,7 @@
 // Command line, standard input and standard output of the programs: what is wrong with them is said on standard error.
 // Each function is given the program's name, as b"roots", and puts it ahead of what it says.
+#![tactic(auto)]
+
 ghost use Rattle.std.specs.Prelude.{◌≤◌};
 ghost use Rattle.io.specs.Counts.{IsPrefixLen};
 

@@ -1,4 +1,6 @@
 // The text of a line (docs/RULES.md section 6.2): numbers in decimal with one space between, ended by a line feed.
+#![tactic(auto)]
+
 ghost use Rattle.std.specs.Prelude.{◌+◌, ◌*◌, ◌≤◌, [], ◌∷◌, length, take};
 ghost use Rattle.job_text.specs.Lines.{decimal, spaced, line_of, line_room, Wrote};
 

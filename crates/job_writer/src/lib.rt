@@ -1,6 +1,8 @@
 // Writing records from roots (docs/RULES.md section 12): the record of the monic polynomial that has exactly the given
 // simple roots. The polynomial is the product of z + r over the roots; of no root it is 1 and of one root z + r, and
 // no table is made. The head and the coefficients then go to the front of the room, two bytes a coefficient.
+#![tactic(auto)]
+
 ghost use Rattle.std.specs.Prelude.{◌≡◌, ◌+◌, ◌*◌, ◌≤◌, length};
 ghost use Rattle.refusals.specs.Admitting.{Admits};
 ghost use Rattle.slices.specs.Lists.{copied};

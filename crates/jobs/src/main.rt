@@ -2,6 +2,8 @@
 // from standard input, and writes the record of each line to standard output, so that `jobs <list | roots` shows the
 // roots again. Of a line that asks for no record, or that is cut off, nothing is written; standard error says which line
 // it is, and why.
+#![tactic(auto)]
+
 ghost use Rattle.std.specs.Prelude.{◌≡◌, ◌≤◌, length};
 ghost use Rattle.job_lists.specs.Lines.{line_end};
 

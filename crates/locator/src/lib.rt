@@ -2,6 +2,8 @@
 // step and finish, the block corrector and encoder, salvage, the writer, the check and the making of a claim, as
 // include/locator.h declares them. A slice is a pointer, then a count. Each call answers every input; it neither
 // allocates nor calls out, and keeps no state.
+#![tactic(auto)]
+
 ghost use Rattle.locator.specs.Calls.{ProductAs, InverseAs, PositionAs, QuadraticAs};
 ghost use Rattle.locator.specs.Calls.{SolvesAs, SearchesAs, SpansAs, BeginsAs, StepsAs, FinishesAs, CorrectsAs};
 ghost use Rattle.claim_rules.specs.Claims.{claim_of};

@@ -1,6 +1,8 @@
 // The inner routines on polynomials as C calls them, to be tested (tests/c/routines.c) and timed (bench/c/routines.c).
 // Not part of the product's face: each asks what its routine asks, and the C side sees to it. ls and ts are the log
 // and antilog tables of the field of degree m.
+#![tactic(auto)]
+
 ghost use Rattle.std.specs.Prelude.{◌≡◌, [], ◌∷◌, ◌^◌, ◌<◌};
 ghost use Rattle.algebra.specs.Polynomial.{eval, Below};
 ghost use Rattle.algebra.specs.Routines.{rem, frobenius_mod, trace_mod, cofactor};

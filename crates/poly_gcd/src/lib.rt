@@ -1,5 +1,7 @@
 // The monic greatest common divisor of a monic polynomial and another by Euclid's loop, whose two slices change roles
 // at each division, so that none copies; and the cofactor. The work is here, for degrees up to the house's limit.
+#![tactic(auto)]
+
 ghost use Rattle.std.specs.Prelude.{◌≡◌, ◌≤◌, length, take};
 ghost use Rattle.algebra.specs.Routines.{cofactor};
 ghost use Rattle.field.specs.Field.{G};

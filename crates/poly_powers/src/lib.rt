@@ -1,5 +1,7 @@
 // Squares modulo a monic polynomial, and what is made of them: z^(2^k), and the sum Tr(bz), which needs the powers of
 // z once for all b. The work is here, for degrees up to the house's limit.
+#![tactic(auto)]
+
 ghost use Rattle.std.specs.Prelude.{◌≡◌, ◌+◌, ◌*◌, ◌≤◌, ◌<◌, ◌^◌, [], ◌∷◌, length};
 ghost use Rattle.algebra.specs.Polynomial.{add};
 ghost use Rattle.algebra.specs.Routines.{rem, square, frobenius_mod, trace_mod};

@@ -1,6 +1,8 @@
 // The roots of polynomials of degree at most 3 over a known field, without trying the elements. A quadratic is solved
 // by the half-table. Of a cubic three roots are guessed and tried; where that fails, its part that splits is taken and
 // parted by traces into degrees 1 and 2. No polynomial need split, and roots may repeat: each is listed once.
+#![tactic(auto)]
+
 ghost use Rattle.poly_small.specs.Roots.{SmallSolvable, RootsOut};
 
 use crate::checked::guessed_roots;

@@ -13,6 +13,8 @@
 //               coefficient
 //   start       the levels while the coefficients are still the same in every lane, and nothing for those that are 0
 //   run         the other levels, each butterfly a product of two vectors
+#![tactic(auto)]
+
 ghost use Rattle.std.specs.Prelude.{◌≡◌, ◌+◌, ◌*◌, ◌^◌, ◌≤◌, ◌<◌, [], ◌∷◌, ◌++◌, map, get_or, length, take, replicate};
 ghost use Rattle.std.proofs.Math.Seq.{paste};
 ghost use Rattle.std.specs.Int.Bits.{bit_and};

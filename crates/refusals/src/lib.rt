@@ -1,4 +1,6 @@
 // What is turned away, under which number (docs/RULES.md section 8).
+#![tactic(auto)]
+
 ghost use Rattle.std.specs.Prelude.{◌≡◌};
 ghost use Rattle.refusals.specs.Numbers.{number_of};
 ghost use Rattle.refusals.specs.Admitting.{with_test};

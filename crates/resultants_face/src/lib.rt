@@ -1,5 +1,7 @@
 // Roots by resultants as C calls them, to be tested and counted. Not part of the product's face: it asks what the
 // routine asks, and the C side sees to it.
+#![tactic(auto)]
+
 ghost use Rattle.std.specs.Prelude.{◌≤◌, length};
 ghost use Rattle.input.specs.Limit.{limit};
 ghost use Rattle.input.specs.Polynomials.{PolynomialIn};

@@ -1,6 +1,8 @@
 // Reads job records from standard input, at most 65,536 bytes, and prints the line of each (docs/RULES.md section 6).
 // Where a read or a write fails, standard error says so and the program stops; at which record reading stopped, and that
 // there is input past the limit, is said there too.
+#![tactic(auto)]
+
 ghost use Rattle.std.specs.Prelude.{◌≤◌, length};
 ghost use Rattle.job_records.specs.Reading.{Stands};
 ghost use Rattle.job_lines.specs.Printing.{Ahead};

@@ -1,6 +1,8 @@
 // Keeps what can be kept of a damaged job file (docs/RULES.md section 11.3): reads standard input as `roots` does,
 // puts the records that are kept into the file kept.lr of the folder that it runs in, and prints the dropped
 // stretches and how many records are kept. A kept.lr that is there already gives way, and is not lost.
+#![tactic(auto)]
+
 ghost use Rattle.std.specs.Prelude.{◌≡◌, ◌≤◌, length};
 
 use job_salvage::Salvaged;

@@ -1,6 +1,8 @@
 // Prints the monthly sheet of a job file (docs/RULES.md section 13.4): reads standard input as `roots` does, and
 // prints the names of the columns, a line for each field, and how many outcomes were 1, 11 and 12. Standard error says
 // what `roots` says there.
+#![tactic(auto)]
+
 ghost use Rattle.std.specs.Prelude.{◌≤◌, length};
 ghost use Rattle.algebra.specs.Trial.{All};
 ghost use Rattle.job_sheet.specs.Text.{FitsLine};

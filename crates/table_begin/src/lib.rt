@@ -1,6 +1,8 @@
 // Begin (docs/RULES.md section 4.2): the tests, the part of the polynomial that splits, and the table that is written.
 // The part of f that splits into distinct factors is its greatest common divisor with z^(2^m) + z. The power is taken
 // by m squarings modulo f, so that no element is tried. The powers on the way are kept for the trace sums.
+#![tactic(auto)]
+
 ghost use Rattle.std.specs.Prelude.{◌≡◌, [], ◌∷◌, ◌*◌, ◌≤◌, length, take};
 ghost use Rattle.algebra.specs.Routines.{rem};
 ghost use Rattle.field.specs.Field.{G};

@@ -1,5 +1,7 @@
 // Finish (docs/RULES.md section 4.4): the roots of each factor of a done table, merged into the front of the list,
 // ascending and once each.
+#![tactic(auto)]
+
 ghost use Rattle.refusals.specs.Admitting.{Admits};
 ghost use Rattle.field.specs.Field.{field_at};
 ghost use Rattle.field.specs.Tables.{Halves};

@@ -2,6 +2,8 @@
 // cutoff in force, the number of factors and that of the steps taken; then each factor in turn has its level, its
 // degree and its coefficients below the leading 1; all remaining slots are 0. A factor is named by the place of its
 // first slot.
+#![tactic(auto)]
+
 ghost use Rattle.std.specs.Prelude.{◌≡◌, suc, ◌+◌, ◌-◌, ◌*◌, ◌/◌, ◌^◌, ◌≤◌, ◌<◌, length};
 ghost use Rattle.input.specs.Limit.{limit};
 ghost use Rattle.table_rules.specs.Layout.{factor_slots, by_factor};

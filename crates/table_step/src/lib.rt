@@ -1,5 +1,7 @@
 // A step (docs/RULES.md section 4.3): the first factor P above the cutoff, at its level i, gives way to the monic
 // greatest common divisor g of P and Tr(a^i z), and to h = P/g.
+#![tactic(auto)]
+
 ghost use Rattle.std.specs.Prelude.{◌≡◌, [], ◌∷◌, ◌≤◌, length};
 ghost use Rattle.algebra.specs.Field.{power};
 ghost use Rattle.algebra.specs.Routines.{rem, trace_mod};
