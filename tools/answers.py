@@ -30,7 +30,13 @@ def blocks(text):
         cur.append(line)
     if cur:
         out.append(cur)
-    return out
+    joined = []
+    for block in out:
+        if joined and block[0].startswith(" "):
+            joined[-1] += [""] + block
+        else:
+            joined.append(block)
+    return joined
 
 
 def head_of(block):
@@ -81,6 +87,7 @@ class Function:
         self.needs = dict((o, n) for o, n in names["needs"])
         self.loops = {l[0][0]: (l[0][1], l[1], c) for l, c in zip(names["loops"], names["changed"])}
         self.odd = []
+        self.imports = set()
 
     def path_of(self, m):
         var, rest = m.group(1), m.group(2)[1:].split(".")
@@ -108,7 +115,15 @@ class Function:
             if not more:
                 break
             self.vars |= more
-        return PATH.sub(self.path_of, text)
+        text = PATH.sub(self.path_of, text)
+        return re.sub(r"⊎_elim \(λ (\w+)\. ((?:[^()]|\([^()]*\))*)\) \(λ (\w+)\. ((?:[^()]|\([^()]*\))*)\) (\w+)\.if-([\w'-]+)\.branch", self.cases, text)
+
+    def cases(self, m):
+        v, a, w, b, c, name = m.groups()
+        self.imports |= {"then-" + name, "else-" + name}
+        a = re.sub(r"\b%s\.0\.(taken|true)\b" % v, "%s.if-%s.true" % (v, name), a)
+        b = re.sub(r"\b%s\.0\.(left|false)\b" % w, "%s.if-%s.false" % (w, name), b)
+        return "elim %s.if-%s.branch [ then-%s %s ↦ %s | else-%s %s ↦ %s ]" % (c, name, name, v, a, name, w, b)
 
     def invariant(self, kind, loop, lines):
         new, params, changed = self.loops[loop]
@@ -172,7 +187,7 @@ class Function:
             if not rest:
                 comments += comment
                 continue
-            if rest[0].startswith("use ") or rest[0].startswith("module"):
+            if rest[0].startswith("use "):
                 if first:
                     comments += comment
                 for l in rest:
@@ -204,7 +219,7 @@ class Function:
                     self.odd.append("definition of " + m.group(1))
                     answers.append(comment + rest)
                     continue
-                if defn[d.end():].strip() == "search rules":
+                if defn[d.end():].strip() == "search rules" and not lead:
                     continue
                 answers.append(comment + ["pub %s : goal.%s" % (need, need)] + (lead.rstrip("\n").split("\n") if lead else [])
                                + [need + re.sub(r" κ\S*", "", d.group(1)) + " =" + self.turned(defn[d.end() - 1:])])
@@ -223,7 +238,8 @@ class Function:
         if helped:
             uses = uses + ["use %s.Invariants.{%s}" % (module, ", ".join(name_of(h) for h in helped))]
         if answers:
-            write(os.path.join(folder, "Answers.antt"), comments, uses + ["use %s.Goals as goal" % module], rest + answers)
+            more = ["use %s.Goals.{%s}" % (module, ", ".join(sorted(self.imports)))] if self.imports else []
+            write(os.path.join(folder, "Answers.antt"), comments, uses + ["use %s.Goals as goal" % module] + more, rest + answers)
         elif rest:
             self.odd.append("helpers without answers: " + ", ".join(name_of(h) for h in rest))
         os.remove(self.path)

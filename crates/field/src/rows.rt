@@ -3,7 +3,7 @@ ghost use Rattle.std.specs.Prelude.{◌≡◌, true, ◌^◌};
 ghost use Rattle.field.specs.Rows.{row_at, known, poly_of, IsRow};
 
 // A field's row: its degree, its polynomial and its size.
-#[derive(Drop)]
+#[derive(Clone, Copy)]
 pub struct Row {
     pub degree: u16,
     pub poly: u16,

@@ -17,11 +17,10 @@ use Rattle.field.proofs.Raising.{raised_by-lt, raised-squared}
 use Rattle.field.proofs.Solutions.{answer-none, answer-up, answer-down, solution}
 use Rattle.field.proofs.Doubles.{solved-none, solved-double, solved-two}
 use borrow.Author.Rules.{rules}
-use Rattle.field.proofs.solver.quadratic_of.Statement.{statement}
-use Rattle.field.proofs.solver.quadratic_of.Tie as tie
 use Rattle.field.proofs.arithmetic.product_of.Reads as product-of-reads
 use Rattle.field.proofs.arithmetic.root_of.Reads as root-of-reads
 use Rattle.field.proofs.powers.raised.Reads as raised-reads
+use Rattle.field.proofs.solver.quadratic_of.Goals as goal
 
 -- the square root of b, divided by a, is an element
 quotient-lt : {m p : ℕ} (a b : ℕ) {q : ℕ} → ListedRow m p → b < 2 ^ m → q ≡ raised_by (field_of m p) a (m - 1) b → q < 2 ^ m
@@ -54,60 +53,33 @@ module _ {m p a b q j : ℕ} (l : ListedRow m p) (n : a ≡ 0 → ⊥) (ha : a <
       solved-two _ (generated l) ha hb
       (answer-down _ (generated l) _ _ _ ha hb inverse-times _ q-lt squared (entry q-lt) k ex (omega arith) (λ u. let z : ⊥ = omega arith in z))
 
-root-of-requires : tie.Need-root-of-requires
-root-of-requires c κs = search rules
+pub returns-then-a-eq0 : goal.returns-then-a-eq0
+returns-then-a-eq0 c = solved-double _ (generated c.requires.0) c.if-a-eq0.true c.requires.3 c.root_of.ensures.0 c.root_of.ensures.1
 
-returns : tie.Need-returns
-returns c = solved-double _ (generated c.before.before.before.requires.0) c.before.if1.true c.before.before.before.requires.3 c.root-of.ensures.0 c.root-of.ensures.1
+pub bounds-halves-q : goal.bounds-halves-q
+bounds-halves-q c =
+    let p = c.requires in
+    let h = quotient-lt _ _ p.0 p.3 c.raised-q.ensures in omega (arith, p.1.entries)
 
-raised-requires : tie.Need-raised-requires
-raised-requires c κs = search rules
+pub returns-then-j : goal.returns-then-j
+returns-then-j c =
+    let p = c.requires in
+    none p.0 c.if-a-eq0.false p.2 p.3 c.raised-q.ensures (p.1.entry _) c.if-j.true
 
-cast-j : tie.Need-overflow-cast-j
-cast-j c = search rules
+pub product_of-x-requires : goal.product_of-x-requires
+product_of-x-requires c =
+    let p = c.requires in
+    let h = quotient-lt _ _ p.0 p.3 c.raised-q.ensures in
+    product-asks p.0 (xor_lt _ _ _ (solution _ (generated p.0) (p.1.entry _ h) c.if-j.false).0 h)
 
-mul-j : tie.Need-overflow-mul-j
-mul-j c = search rules
+pub returns-then-x-y : goal.returns-then-x-y
+returns-then-x-y c =
+    let p = c.requires in
+    upward p.0 c.if-a-eq0.false p.2 p.3 c.raised-q.ensures
+    (p.1.entry _) c.if-j.false c.product_of-x.ensures c.if-x-y.true
 
-shared-slice-read-j : tie.Need-shared-slice-read-j
-shared-slice-read-j c =
-    let p = c.before.before.before.before.requires in
-    let h = quotient-lt _ _ p.0 p.3 c.before.raised.ensures in omega (arith, p.1.entries)
-
-returns-2 : tie.Need-returns-2
-returns-2 c =
-    let p = c.before.before.before.before.before.requires in
-    none p.0 c.before.before.before.if1.false p.2 p.3 c.before.before.raised.ensures (p.1.entry _) c.if2.true
-
-product-of-requires : tie.Need-product-of-requires
-product-of-requires c κs =
-    let p = c.before.before.before.before.before.requires in
-    let h = quotient-lt _ _ p.0 p.3 c.before.before.raised.ensures in
-    product-asks p.0 (xor_lt _ _ _ (solution _ (generated p.0) (p.1.entry _ h) c.if2.false).0 h)
-
-returns-3 : tie.Need-returns-3
-returns-3 c =
-    let p = c.before.before.before.before.before.before.before.requires in
-    upward p.0 c.before.before.before.before.before.if1.false p.2 p.3 c.before.before.before.before.raised.ensures
-    (p.1.entry _) c.before.before.if2.false c.before.product-of.ensures c.if3.true
-
-returns-4 : tie.Need-returns-4
-returns-4 c =
-    let p = c.before.before.before.before.before.before.before.requires in
-    downward p.0 c.before.before.before.before.before.if1.false p.2 p.3 c.before.before.before.before.raised.ensures
-    (p.1.entry _) c.before.before.if2.false c.before.product-of.ensures c.if3.false
-
-pub quadratic-of-spec : {M : Type 1} → statement M
-quadratic-of-spec =
-    tie.close
-    (tie.spec
-    root-of-requires
-    returns
-    raised-requires
-    cast-j
-    mul-j
-    shared-slice-read-j
-    returns-2
-    product-of-requires
-    returns-3
-    returns-4)
+pub returns : goal.returns
+returns c =
+    let p = c.requires in
+    downward p.0 c.if-a-eq0.false p.2 p.3 c.raised-q.ensures
+    (p.1.entry _) c.if-j.false c.product_of-x.ensures c.if-x-y.false
