@@ -165,6 +165,12 @@ class Function:
         uses, invs, answers, helpers, comments = [], [], [], [], []
         said = {}
         order = [o for o, _ in self.names["needs"]]
+        self.by_place = {}
+        m = re.search(r"tie\.spec\b(.*)", " ".join(l.strip() for l in text.split("\n")))
+        if m:
+            args = [a for a in args_of(m.group(1)) if not re.match(r"(invariant|decreases)", a)]
+            if len(args) == len(order):
+                self.by_place = dict(zip(args, (n for _, n in self.names["needs"])))
         module = None
         first = True
         for block in blocks(text):
@@ -175,7 +181,8 @@ class Function:
                     self.odd.append("no tie.spec")
                     continue
                 args = args_of(m.group(1))
-                args = args[len(args) - len(order):] if len(args) >= len(order) else args
+                extra = sum(1 for a in args if re.match(r"(invariant|decreases)", a))
+                args = args[extra:]
                 if len(args) != len(order):
                     self.odd.append("spec has %d answers for %d goals" % (len(args), len(order)))
                 for need, arg in zip(order, args):
@@ -207,7 +214,7 @@ class Function:
                 continue
             m = re.match(r"(?:abbrev )?(?:pub )?(\S+) : tie\.Need-(\S+)", sig)
             if m:
-                need = self.find_need(m.group(2))
+                need = self.by_place.get(m.group(1)) or self.find_need(m.group(2))
                 if need is None:
                     self.odd.append("no goal for " + m.group(2))
                     need = m.group(2)

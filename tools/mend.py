@@ -9,7 +9,7 @@ import subprocess
 import sys
 
 NEAREST = re.compile(r"^\./(proofs/\S+\.antt):(\d+):(\d+): error: .*?has no field `([^`]+)` \(nearest: \.([^) ,]+)[^)]*\)")
-ONLY = re.compile(r"^\./(proofs/\S+\.antt):(\d+):(\d+): error: .*?has no field `(\d+)` — the fields? that can be named here (?:are|is) `([^`]+)`$")
+ONLY = re.compile(r"^\./(proofs/\S+\.antt):(\d+):(\d+): error: .*?has no field `(\d+)` — the fields? that can be named here (?:are|is) (`.+`)$")
 
 
 def check(crate):
@@ -25,7 +25,13 @@ def main():
         for line in said.split("\n"):
             m = NEAREST.match(line) or ONLY.match(line)
             if m:
-                todo[m.group(1)].append((int(m.group(2)), int(m.group(3)), m.group(4), m.group(5)))
+                new = m.group(5)
+                if new.startswith("`"):
+                    fields = re.findall(r"`([^`]+)`", new)
+                    if int(m.group(4)) >= len(fields):
+                        continue
+                    new = fields[int(m.group(4))]
+                todo[m.group(1)].append((int(m.group(2)), int(m.group(3)), m.group(4), new))
         if not todo:
             break
         for path, places in todo.items():

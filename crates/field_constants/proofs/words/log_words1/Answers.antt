@@ -1,0 +1,266 @@
+-- `field_constants::words::log_words1` meets its contract: each arm is the word at its key.
+-- Written by tools/constant_words.py. Assumes nothing.
+use mathlib.Core.Path.{refl}
+use Rattle.field_constants.specs.Words.{log_words}
+use Rattle.field_constants.proofs.Arms.{NotBelow, none_left, arm}
+use Rattle.field_constants.proofs.words.log_words1.Goals as goal
+
+pub returns-in-0 : goal.returns-in-0
+unfolding log_words
+returns-in-0 c = arm log_words 64 c.in-0.is refl
+
+pub returns-in-1 : goal.returns-in-1
+unfolding log_words
+returns-in-1 c = arm log_words 64 c.in-1.is refl
+
+pub returns-in-2 : goal.returns-in-2
+unfolding log_words
+returns-in-2 c = arm log_words 64 c.in-2.is refl
+
+pub returns-in-3 : goal.returns-in-3
+unfolding log_words
+returns-in-3 c = arm log_words 64 c.in-3.is refl
+
+pub returns-in-4 : goal.returns-in-4
+unfolding log_words
+returns-in-4 c = arm log_words 64 c.in-4.is refl
+
+pub returns-in-5 : goal.returns-in-5
+unfolding log_words
+returns-in-5 c = arm log_words 64 c.in-5.is refl
+
+pub returns-in-6 : goal.returns-in-6
+unfolding log_words
+returns-in-6 c = arm log_words 64 c.in-6.is refl
+
+pub returns-in-7 : goal.returns-in-7
+unfolding log_words
+returns-in-7 c = arm log_words 64 c.in-7.is refl
+
+pub returns-in-8 : goal.returns-in-8
+unfolding log_words
+returns-in-8 c = arm log_words 64 c.in-8.is refl
+
+pub returns-in-9 : goal.returns-in-9
+unfolding log_words
+returns-in-9 c = arm log_words 64 c.in-9.is refl
+
+pub returns-in-10 : goal.returns-in-10
+unfolding log_words
+returns-in-10 c = arm log_words 64 c.in-10.is refl
+
+pub returns-in-11 : goal.returns-in-11
+unfolding log_words
+returns-in-11 c = arm log_words 64 c.in-11.is refl
+
+pub returns-in-12 : goal.returns-in-12
+unfolding log_words
+returns-in-12 c = arm log_words 64 c.in-12.is refl
+
+pub returns-in-13 : goal.returns-in-13
+unfolding log_words
+returns-in-13 c = arm log_words 64 c.in-13.is refl
+
+pub returns-in-14 : goal.returns-in-14
+unfolding log_words
+returns-in-14 c = arm log_words 64 c.in-14.is refl
+
+pub returns-in-15 : goal.returns-in-15
+unfolding log_words
+returns-in-15 c = arm log_words 64 c.in-15.is refl
+
+pub returns-in-16 : goal.returns-in-16
+unfolding log_words
+returns-in-16 c = arm log_words 64 c.in-16.is refl
+
+pub returns-in-17 : goal.returns-in-17
+unfolding log_words
+returns-in-17 c = arm log_words 64 c.in-17.is refl
+
+pub returns-in-18 : goal.returns-in-18
+unfolding log_words
+returns-in-18 c = arm log_words 64 c.in-18.is refl
+
+pub returns-in-19 : goal.returns-in-19
+unfolding log_words
+returns-in-19 c = arm log_words 64 c.in-19.is refl
+
+pub returns-in-20 : goal.returns-in-20
+unfolding log_words
+returns-in-20 c = arm log_words 64 c.in-20.is refl
+
+pub returns-in-21 : goal.returns-in-21
+unfolding log_words
+returns-in-21 c = arm log_words 64 c.in-21.is refl
+
+pub returns-in-22 : goal.returns-in-22
+unfolding log_words
+returns-in-22 c = arm log_words 64 c.in-22.is refl
+
+pub returns-in-23 : goal.returns-in-23
+unfolding log_words
+returns-in-23 c = arm log_words 64 c.in-23.is refl
+
+pub returns-in-24 : goal.returns-in-24
+unfolding log_words
+returns-in-24 c = arm log_words 64 c.in-24.is refl
+
+pub returns-in-25 : goal.returns-in-25
+unfolding log_words
+returns-in-25 c = arm log_words 64 c.in-25.is refl
+
+pub returns-in-26 : goal.returns-in-26
+unfolding log_words
+returns-in-26 c = arm log_words 64 c.in-26.is refl
+
+pub returns-in-27 : goal.returns-in-27
+unfolding log_words
+returns-in-27 c = arm log_words 64 c.in-27.is refl
+
+pub returns-in-28 : goal.returns-in-28
+unfolding log_words
+returns-in-28 c = arm log_words 64 c.in-28.is refl
+
+pub returns-in-29 : goal.returns-in-29
+unfolding log_words
+returns-in-29 c = arm log_words 64 c.in-29.is refl
+
+pub returns-in-30 : goal.returns-in-30
+unfolding log_words
+returns-in-30 c = arm log_words 64 c.in-30.is refl
+
+pub returns-in-31 : goal.returns-in-31
+unfolding log_words
+returns-in-31 c = arm log_words 64 c.in-31.is refl
+
+pub returns-in-32 : goal.returns-in-32
+unfolding log_words
+returns-in-32 c = arm log_words 64 c.in-32.is refl
+
+pub returns-in-33 : goal.returns-in-33
+unfolding log_words
+returns-in-33 c = arm log_words 64 c.in-33.is refl
+
+pub returns-in-34 : goal.returns-in-34
+unfolding log_words
+returns-in-34 c = arm log_words 64 c.in-34.is refl
+
+pub returns-in-35 : goal.returns-in-35
+unfolding log_words
+returns-in-35 c = arm log_words 64 c.in-35.is refl
+
+pub returns-in-36 : goal.returns-in-36
+unfolding log_words
+returns-in-36 c = arm log_words 64 c.in-36.is refl
+
+pub returns-in-37 : goal.returns-in-37
+unfolding log_words
+returns-in-37 c = arm log_words 64 c.in-37.is refl
+
+pub returns-in-38 : goal.returns-in-38
+unfolding log_words
+returns-in-38 c = arm log_words 64 c.in-38.is refl
+
+pub returns-in-39 : goal.returns-in-39
+unfolding log_words
+returns-in-39 c = arm log_words 64 c.in-39.is refl
+
+pub returns-in-40 : goal.returns-in-40
+unfolding log_words
+returns-in-40 c = arm log_words 64 c.in-40.is refl
+
+pub returns-in-41 : goal.returns-in-41
+unfolding log_words
+returns-in-41 c = arm log_words 64 c.in-41.is refl
+
+pub returns-in-42 : goal.returns-in-42
+unfolding log_words
+returns-in-42 c = arm log_words 64 c.in-42.is refl
+
+pub returns-in-43 : goal.returns-in-43
+unfolding log_words
+returns-in-43 c = arm log_words 64 c.in-43.is refl
+
+pub returns-in-44 : goal.returns-in-44
+unfolding log_words
+returns-in-44 c = arm log_words 64 c.in-44.is refl
+
+pub returns-in-45 : goal.returns-in-45
+unfolding log_words
+returns-in-45 c = arm log_words 64 c.in-45.is refl
+
+pub returns-in-46 : goal.returns-in-46
+unfolding log_words
+returns-in-46 c = arm log_words 64 c.in-46.is refl
+
+pub returns-in-47 : goal.returns-in-47
+unfolding log_words
+returns-in-47 c = arm log_words 64 c.in-47.is refl
+
+pub returns-in-48 : goal.returns-in-48
+unfolding log_words
+returns-in-48 c = arm log_words 64 c.in-48.is refl
+
+pub returns-in-49 : goal.returns-in-49
+unfolding log_words
+returns-in-49 c = arm log_words 64 c.in-49.is refl
+
+pub returns-in-50 : goal.returns-in-50
+unfolding log_words
+returns-in-50 c = arm log_words 64 c.in-50.is refl
+
+pub returns-in-51 : goal.returns-in-51
+unfolding log_words
+returns-in-51 c = arm log_words 64 c.in-51.is refl
+
+pub returns-in-52 : goal.returns-in-52
+unfolding log_words
+returns-in-52 c = arm log_words 64 c.in-52.is refl
+
+pub returns-in-53 : goal.returns-in-53
+unfolding log_words
+returns-in-53 c = arm log_words 64 c.in-53.is refl
+
+pub returns-in-54 : goal.returns-in-54
+unfolding log_words
+returns-in-54 c = arm log_words 64 c.in-54.is refl
+
+pub returns-in-55 : goal.returns-in-55
+unfolding log_words
+returns-in-55 c = arm log_words 64 c.in-55.is refl
+
+pub returns-in-56 : goal.returns-in-56
+unfolding log_words
+returns-in-56 c = arm log_words 64 c.in-56.is refl
+
+pub returns-in-57 : goal.returns-in-57
+unfolding log_words
+returns-in-57 c = arm log_words 64 c.in-57.is refl
+
+pub returns-in-58 : goal.returns-in-58
+unfolding log_words
+returns-in-58 c = arm log_words 64 c.in-58.is refl
+
+pub returns-in-59 : goal.returns-in-59
+unfolding log_words
+returns-in-59 c = arm log_words 64 c.in-59.is refl
+
+pub returns-in-60 : goal.returns-in-60
+unfolding log_words
+returns-in-60 c = arm log_words 64 c.in-60.is refl
+
+pub returns-in-61 : goal.returns-in-61
+unfolding log_words
+returns-in-61 c = arm log_words 64 c.in-61.is refl
+
+pub returns-in-62 : goal.returns-in-62
+unfolding log_words
+returns-in-62 c = arm log_words 64 c.in-62.is refl
+
+pub returns-in-63 : goal.returns-in-63
+unfolding log_words
+returns-in-63 c = arm log_words 64 c.in-63.is refl
+
+pub returns-in_default : goal.returns-in_default
+unfolding NotBelow
+returns-in_default c = none_left 64 c.args.l c.in_default.rest c.requires
