@@ -6,14 +6,13 @@ use mathlib.Core.Path.{◌≡◌, refl, sym, ap, ◌∙◌, subst}
 use mathlib.Core.Logic.{◌↔◌}
 use mathlib.Core.Bool.{Bool}
 use mathlib.Core.List.{List}
-use Prim.Native.Nat.{ℕ, zero, suc, ◌*◌, ◌≤◌, ◌<◌}
+use Prim.Native.Nat.{ℕ, zero, suc, ◌*◌, ◌≤◌}
 use native.Mathlib.Omega.{arith}
 use lib.ListN.{length, length-map}
 use Rattle.algebra.specs.Field.{Ops, Laws, power}
 use Rattle.algebra.specs.Trial.{up_from}
-use Rattle.algebra.proofs.Series as S
 use Rattle.algebra.proofs.Elements as E
-use Rattle.corrector_code.specs.Word.{difference, places, bit_distance, word_value, Codeword, CodewordWithin, DistinctPowers}
+use Rattle.corrector_code.specs.Word.{difference, places, word_value, CodewordWithin, DistinctPowers}
 use Rattle.corrector_code.specs.Correct.{marked_at, flips, candidate, Passes}
 use Rattle.corrector_code.proofs.Words.{length-difference}
 use Rattle.corrector_code.proofs.Words as X

@@ -11,9 +11,9 @@ use mathlib.Core.Bool.{Bool, true, false, cond}
 use mathlib.Core.List.{List, [], ◌∷◌, map}
 use Prim.Native.Nat.{ℕ, zero, suc, ◌*◌}
 use lib.Dec.{ltb}
-use lib.ListN.{length, take, replicate, get_or, length-map}
+use lib.ListN.{length, take, replicate, length-map}
 use Rattle.algebra.specs.Field.{Ops, power}
-use Rattle.algebra.specs.Polynomial.{coef, eval, add, is_root}
+use Rattle.algebra.specs.Polynomial.{coef, eval, add}
 use Rattle.algebra.specs.Trial.{up_from}
 use Rattle.corrector_code.specs.Word.{places, total, bit, word_value, locators}
 use Rattle.corrector_code.specs.Key.{Register, conv, shift, plus_times, mend, turn, register}

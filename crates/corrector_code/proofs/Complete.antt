@@ -10,21 +10,19 @@ use mathlib.Core.Logic.{◌≢◌, ◌↔◌}
 use mathlib.Core.Bool.{Bool, true, false}
 use mathlib.Core.List.{List, [], ◌∷◌, map}
 use Prim.Native.Nat.{ℕ, zero, suc, ◌+◌, ◌*◌, ◌≤◌, ◌<◌}
-use native.Mathlib.Nat.{not-suc-le-zero, zero-add as nat-zero-add, suc-add, add-zero}
+use native.Mathlib.Nat.{not-suc-le-zero, add-zero}
 use native.Mathlib.Omega.{arith}
 use lib.Dec.{T}
 use lib.ListN.{length, get_or, length-map}
 use Rattle.algebra.specs.Field.{Ops, Laws, power}
 use Rattle.algebra.specs.Polynomial.{coef, eval, is_root}
 use Rattle.algebra.specs.Trial.{up_from}
-use Rattle.algebra.proofs.Series.{Series, starting_with}
-use Rattle.algebra.proofs.Series as S
+use Rattle.algebra.proofs.Series.{starting_with}
 use Rattle.algebra.proofs.Elements as E
-use Rattle.algebra.proofs.Coefficients as P
 use Rattle.algebra.proofs.Evaluation as I
-use Rattle.algebra.specs.Trial.{All, Distinct}
-use Rattle.corrector_code.specs.Word.{differs, difference, places, bit_distance, total, word_value, Codeword, CodewordWithin, locators, DistinctPowers}
-use Rattle.corrector_code.specs.Key.{register, from_locators}
+use Rattle.algebra.specs.Trial.{All}
+use Rattle.corrector_code.specs.Word.{differs, difference, places, word_value, Codeword, CodewordWithin, locators, DistinctPowers}
+use Rattle.corrector_code.specs.Key.{from_locators}
 use Rattle.corrector_code.specs.Correct.{syndromes, locator_of, marked_at, flips, candidate}
 use Rattle.algebra.proofs.Trial.{all_map}
 use Rattle.corrector_code.proofs.Words.{length-difference}

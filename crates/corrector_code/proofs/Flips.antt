@@ -3,12 +3,12 @@
 --   flip-number   byte q changed by x changes the number by x 256^q
 -- Assumes nothing.
 use mathlib.Core.Path.{◌≡◌, refl, sym, ap, ap₂, ◌∙◌}
-use mathlib.Core.Bool.{Bool, true, false}
+use mathlib.Core.Bool.{true}
 use mathlib.Core.List.{List, [], ◌∷◌}
-use Prim.Native.Nat.{ℕ, zero, suc, ◌+◌, ◌*◌, ◌/◌, ◌%◌, ◌^◌, ◌≤◌, ◌<◌}
+use Prim.Native.Nat.{ℕ, zero, suc, ◌+◌, ◌*◌, ◌/◌, ◌%◌, ◌^◌, ◌<◌}
 use native.Mathlib.Nat.{mul-one, pow-suc, mul_assoc, add-zero, not-suc-le-zero, le_of_suc-le-suc}
 use native.Mathlib.Omega.{arith}
-use lib.Bits.{bit_xor, xor_block, xor_zero_r, differ, xor_mod}
+use lib.Bits.{bit_xor, xor_block, xor_zero_r, xor_mod}
 use lib.Dec.{eqb}
 use lib.ListN.{length, get_or, set}
 use Rattle.field.proofs.Digits.{bit-cases}

@@ -14,7 +14,7 @@ use native.Mathlib.Decide.{dec_le}
 use native.Mathlib.Omega.{arith}
 use lib.ListN.{length, length-map, get_or-eq_default}
 use Rattle.algebra.specs.Field.{Ops, Laws, power}
-use Rattle.algebra.specs.Polynomial.{coef, eval, add, mul}
+use Rattle.algebra.specs.Polynomial.{coef, eval, add}
 use Rattle.algebra.proofs.Series.{Series, starting_with, plus, times, nought}
 use Rattle.algebra.proofs.Series as S
 use Rattle.algebra.proofs.Elements as E

@@ -6,17 +6,17 @@
 use mathlib.Core.Path.{◌≡◌, refl, sym, ap, ap₂, ◌∙◌, subst}
 use mathlib.Core.Logic.{◌↔◌}
 use mathlib.Core.Bool.{Bool}
-use mathlib.Core.List.{List, [], ◌∷◌, map}
-use Prim.Native.Nat.{ℕ, zero, suc, ◌-◌, ◌*◌, ◌≤◌, ◌<◌}
+use mathlib.Core.List.{List}
+use Prim.Native.Nat.{ℕ, suc, ◌*◌, ◌≤◌}
 use native.Mathlib.Omega.{arith}
 use lib.ListN.{length}
-use Rattle.algebra.specs.Field.{Ops, OnNumbers, Laws, power}
+use Rattle.algebra.specs.Field.{Ops, OnNumbers, power}
 use Rattle.algebra.proofs.Crossing.{Elem, elem-equal, elems, low-power}
 use Rattle.algebra.proofs.Crossing as G
 use Rattle.field.specs.Field.{Field, size, order, mul, numbers}
 use Rattle.field.proofs.Generator.{Generated, position-unique}
 use Rattle.field.proofs.Instance.{on-numbers}
-use Rattle.corrector_code.specs.Word.{difference, places, total, word_value, Codeword, CodewordWithin, locators, DistinctPowers}
+use Rattle.corrector_code.specs.Word.{difference, word_value, Codeword, CodewordWithin, DistinctPowers}
 use Rattle.corrector_code.specs.Correct.{flips, Passes}
 use Rattle.corrector_code.proofs.Carry.{Carries}
 use Rattle.corrector_code.proofs.Carry as C

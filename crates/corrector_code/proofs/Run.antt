@@ -15,12 +15,11 @@ use lib.Dec.{T, ltb}
 use lib.ListN.{length, take, replicate, length-map, length-take, length-replicate}
 use borrow.Author.Tests.{ltb-true, ltb-false}
 use Rattle.algebra.specs.Field.{Ops, Laws}
-use Rattle.algebra.specs.Polynomial.{coef, add}
+use Rattle.algebra.specs.Polynomial.{coef}
 use Rattle.algebra.proofs.Series.{Series, starting_with, plus, scale, times, nought}
 use Rattle.algebra.proofs.Series as S
 use Rattle.algebra.proofs.Elements as E
 use Rattle.algebra.proofs.Coefficients as P
-use Rattle.algebra.proofs.Evaluation as I
 use Rattle.algebra.proofs.Lengths.{length-add}
 use Rattle.corrector_code.specs.Key.{Register, conv, shift, plus_times, mend, turn, register}
 use Rattle.corrector_code.proofs.Massey.{ShortFor}

@@ -7,16 +7,13 @@
 --   value-digits          the value of a word
 -- Assumes nothing.
 use mathlib.Core.Path.{◌≡◌, refl, sym, ap, ap₂, ◌∙◌, subst}
-use mathlib.Core.Logic.{⊎_elim}
-use mathlib.Core.Bool.{Bool, true, false}
-use mathlib.Core.List.{List, [], ◌∷◌, map}
-use Prim.Native.Nat.{ℕ, zero, suc, ◌+◌, ◌*◌, ◌/◌, ◌%◌, ◌^◌, ◌≤◌, ◌<◌}
-use native.Mathlib.Nat.{eq-or-lt_of_le, not-suc-le-zero, zero-mul, one-mul, mod-lt, zero-lt-suc, add-zero, pow-suc, div-lt_iff_lt-mul}
+use Prim.Native.Nat.{ℕ, zero, suc, ◌+◌, ◌*◌, ◌/◌, ◌%◌, ◌^◌, ◌<◌}
+use native.Mathlib.Nat.{zero-mul, one-mul, zero-lt-suc, pow-suc, div-lt_iff_lt-mul}
 use native.Mathlib.Omega.{arith}
 use lib.Arith.{bin_ind, lt-one}
 use lib.Bits.{bit_xor, xor_mod, xor_lt}
 use lib.Pow.{pow_pos}
-use lib.Dec.{T, eqb, eqb→eq}
+use lib.Dec.{eqb}
 use Rattle.algebra.specs.Polynomial.{eval}
 use Rattle.field.specs.Field.{Field, size, horner, cut, reduce, mul, numbers}
 use Rattle.field.proofs.Digits.{bit-cases, horner-step}

@@ -16,12 +16,10 @@ use native.Mathlib.Omega.{arith}
 use lib.ListN.{length, length-map}
 use Rattle.algebra.specs.Field.{Ops, Laws, power}
 use Rattle.algebra.specs.Polynomial.{eval, add}
-use Rattle.algebra.proofs.Series as S
 use Rattle.algebra.proofs.Elements as E
-use Rattle.algebra.proofs.Coefficients as P
 use Rattle.algebra.proofs.Evaluation as I
 use Rattle.algebra.specs.Trial.{All, Distinct}
-use Rattle.corrector_code.specs.Word.{differs, difference, places, bit_distance, total, bit, word_value, Codeword, CodewordWithin, locators, DistinctPowers}
+use Rattle.corrector_code.specs.Word.{differs, difference, places, total, bit, word_value, Codeword, CodewordWithin, locators, DistinctPowers}
 use Rattle.corrector_code.proofs.Sums as Y
 
 -- ---- distance

@@ -13,7 +13,7 @@
 --   register t s m    the register of t + 1 coefficients after the power sums s_1 to s_2m
 --   from_locators X    the product of 1 + x z over the locators x
 -- Assumes nothing.
-use Rattle.std.specs.Prelude.{Bool, true, false, cond, List, [], ◌∷◌, map, ℕ, zero, suc, ◌*◌, length, take, replicate, ltb}
+use Rattle.std.specs.Prelude.{cond, List, [], ◌∷◌, map, ℕ, zero, suc, ◌*◌, length, take, replicate, ltb}
 use Rattle.algebra.specs.Field.{Ops}
 use Rattle.algebra.specs.Polynomial.{add, mul}
 

@@ -12,7 +12,7 @@
 --   locators a w              a^j for each place j with bit 1
 --   DistinctPowers a n        a^0 to a^(n-1) are distinct and not 0
 -- Assumes nothing.
-use Rattle.std.specs.Prelude.{◌≡◌, ◌≢◌, Bool, true, false, cond, List, [], ◌∷◌, map, ℕ, zero, suc, ◌*◌, ◌≤◌, ◌<◌, length}
+use Rattle.std.specs.Prelude.{◌≡◌, ◌≢◌, Bool, true, false, List, [], ◌∷◌, map, ℕ, suc, ◌*◌, ◌≤◌, ◌<◌, length}
 use Rattle.algebra.specs.Field.{Ops, power}
 use Rattle.algebra.specs.Polynomial.{eval}
 
