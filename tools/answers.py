@@ -146,6 +146,7 @@ class Function:
             return w
 
         body = TOKEN.sub(word, body)
+        body = re.sub(r"((?:record \{|;)\s*)l\.(?:initial\.)?(\w+) =", r"\1\2 =", body)
         name = "%s-%s" % (kind, new)
         return ["abbrev pub %s : goal.%s" % (name, name), "%s l =%s" % (name, body)]
 

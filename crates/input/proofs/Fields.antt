@@ -14,7 +14,7 @@ use Rattle.algebra.specs.Field.{Ops, OnNumbers, power, squared}
 use Rattle.algebra.proofs.StaysBelow.{power_below}
 use Rattle.field.specs.Rows.{known, ListedRow, poly_of}
 use Rattle.field.proofs.Known.{by_row, listed}
-use Rattle.field.specs.Field.{numbers, field_at, G}
+use Rattle.field.specs.Field.{field_at, G}
 use Rattle.field.proofs.Generator.{Generated, generated, small}
 use Rattle.field.proofs.Instance.{on-numbers, squared-size}
 use Rattle.field.proofs.Trace.{power-low}

@@ -19,7 +19,7 @@ use Rattle.algebra.specs.Polynomial.{add, Below}
 use Rattle.algebra.specs.Routines.{rem, quo, quotient_digit, shift_in}
 use Rattle.algebra.proofs.Lengths.{length-rem, length-quo}
 use Rattle.algebra.proofs.StaysBelow.{append-below, take_below, drop-below, rem_below, quo-below, below_at}
-use Rattle.field.specs.Field.{mul, field_at, G}
+use Rattle.field.specs.Field.{field_at, G}
 use Rattle.field.proofs.Ring.{ring}
 use Rattle.poly.specs.Lent.{Lent, Addable, held}
 use Rattle.poly.specs.Division.{divided, Divisible}

@@ -13,7 +13,7 @@ use lib.Bits.{bit_xor}
 use lib.ListN.{length, get_or, drop, set, length-map}
 use Rattle.algebra.specs.Polynomial.{add}
 use Rattle.algebra.proofs.StaysBelow.{below_at}
-use Rattle.field.specs.Field.{mul, field_at, G}
+use Rattle.field.specs.Field.{field_at, G}
 use Rattle.field.specs.Tables.{log_of, antilog_of}
 use Rattle.field.proofs.Ring.{ring}
 use Rattle.poly.specs.Lent.{log_row, held, Addable, Loggable}

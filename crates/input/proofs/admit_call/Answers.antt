@@ -6,9 +6,6 @@ use Rattle.input.specs.Cutoff.{highest_cutoff}
 use Rattle.refusals.proofs.Admitting.{admits-also}
 use Rattle.refusals.specs.declared.Refusal.TheVariants.{Cutoff}
 use Rattle.input.specs.Values.{value_tests}
-use borrow.Author.Rules.{rules}
-use Rattle.input.proofs.admit_values.Reads as admit-values-reads
-use Rattle.refusals.proofs.also.Reads as also-reads
 use Rattle.input.proofs.admit_call.Goals as goal
 
 pub returns : goal.returns

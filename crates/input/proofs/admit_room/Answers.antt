@@ -6,10 +6,6 @@ use Rattle.refusals.proofs.Admitting.{admits-also}
 use Rattle.refusals.specs.declared.Refusal.TheVariants.{Room}
 use Rattle.input.specs.Values.{value_tests}
 use Rattle.input.proofs.PolynomialTests.{values-admit}
-use borrow.Author.Rules.{rules}
-use Rattle.input.proofs.admit_values.Reads as admit-values-reads
-use Rattle.input.proofs.largest.Reads as largest-reads
-use Rattle.refusals.proofs.also.Reads as also-reads
 use Rattle.input.proofs.admit_room.Goals as goal
 
 pub returns : goal.returns

@@ -2,13 +2,10 @@
 -- are.
 -- Assumes nothing.
 use mathlib.Core.Path.{refl}
-use mathlib.Core.Logic.{⊎_elim}
-use Prim.Native.Nat.{◌-◌}
 use native.Mathlib.Omega.{arith}
-use lib.ListN.{length}
-use Rattle.input.proofs.Seeking.{SeekingTop, seek-top-from, seek-top-raise, seek-top-keep, seek-top-end}
-use borrow.Author.Rules.{rules}
+use Rattle.input.proofs.Seeking.{seek-top-from, seek-top-raise, seek-top-keep, seek-top-end}
 use Rattle.input.proofs.largest.Goals as goal
+use Rattle.input.proofs.largest.Goals.{then-top-c, else-top-c}
 
 pub returns-then-coeffs-gt-COEFFICIENTS : goal.returns-then-coeffs-gt-COEFFICIENTS
 returns-then-coeffs-gt-COEFFICIENTS c = record { count = refl; largest = λ h. absurd (omega arith) }
@@ -19,10 +16,10 @@ loop-k-init c = seek-top-from _
 pub loop-k-preserved : goal.loop-k-preserved
 loop-k-preserved c =
     let s = c.loop-k.invariant in
-    ⊎_elim
-    (λ w. rw w.1 (seek-top-raise s (omega arith) refl w.0.taken))
-    (λ w. rw w.1 (seek-top-keep s (omega arith) refl w.0.left))
-    c.if-top-c.branch
+    elim c.if-top-c.branch [
+      | then-top-c w ↦ rw w.top-is (seek-top-raise s (omega arith) refl w.if-top-c.true)
+      | else-top-c w ↦ rw w.top-is (seek-top-keep s (omega arith) refl w.if-top-c.false)
+    ]
 
 pub returns : goal.returns
 returns c = record { count = refl; largest = λ h. seek-top-end c.loop-k.invariant (omega arith) }

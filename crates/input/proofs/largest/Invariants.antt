@@ -1,13 +1,9 @@
 -- `input::largest` meets its contract: at each turn all coefficients are below a bound if `top` and those ahead
 -- are.
 -- Assumes nothing.
-use mathlib.Core.Path.{refl}
-use mathlib.Core.Logic.{⊎_elim}
 use Prim.Native.Nat.{◌-◌}
-use native.Mathlib.Omega.{arith}
 use lib.ListN.{length}
-use Rattle.input.proofs.Seeking.{SeekingTop, seek-top-from, seek-top-raise, seek-top-keep, seek-top-end}
-use borrow.Author.Rules.{rules}
+use Rattle.input.proofs.Seeking.{SeekingTop}
 use Rattle.input.proofs.largest.Given as goal
 
 abbrev pub invariant-loop-k : goal.invariant-loop-k

@@ -1,9 +1,7 @@
 -- `poly::division::divide` meets its contract. The loop's invariant: from k on the division is done.
 -- Assumes nothing.
 use native.Mathlib.Omega.{arith}
-use Rattle.poly.proofs.Divisions.{Dividing, dividing-from, dividing-asks, dividing-on, dividing-end}
-use borrow.Author.Rules.{rules}
-use Rattle.poly.proofs.rows.add_row.Reads as add-row-reads
+use Rattle.poly.proofs.Divisions.{dividing-from, dividing-asks, dividing-on, dividing-end}
 use Rattle.poly.proofs.division.divide.Goals as goal
 
 pub overflow_sub-k : goal.overflow_sub-k

@@ -1,9 +1,6 @@
 -- `poly::division::divide` meets its contract. The loop's invariant: from k on the division is done.
 -- Assumes nothing.
-use native.Mathlib.Omega.{arith}
-use Rattle.poly.proofs.Divisions.{Dividing, dividing-from, dividing-asks, dividing-on, dividing-end}
-use borrow.Author.Rules.{rules}
-use Rattle.poly.proofs.rows.add_row.Reads as add-row-reads
+use Rattle.poly.proofs.Divisions.{Dividing}
 use Rattle.poly.proofs.division.divide.Given as goal
 
 abbrev pub invariant-loop-k : goal.invariant-loop-k

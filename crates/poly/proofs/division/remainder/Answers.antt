@@ -5,10 +5,6 @@ use native.Mathlib.Omega.{arith}
 use lib.Seq.{length-take-le}
 use lib.ListN.{length-take}
 use Rattle.poly.proofs.Remainders.{remainder-short, remainder-asks, remainder-long}
-use borrow.Author.Rules.{rules}
-use Rattle.poly.proofs.division.divide.Reads as divide-reads
-use Rattle.slices.proofs.clear.Reads as clear_reads
-use Rattle.slices.proofs.copy.Reads as copy-reads
 use Rattle.poly.proofs.division.remainder.Goals as goal
 
 pub slice_bounds-copy-end-then-n-row : goal.slice_bounds-copy-end-then-n-row

@@ -2,7 +2,6 @@
 -- Assumes nothing.
 use native.Mathlib.Omega.{arith}
 use Rattle.poly.proofs.Logs.{logs-fit, product-fits, product_at}
-use borrow.Author.Rules.{rules}
 use Rattle.poly.proofs.elements.product_by_logs.Goals as goal
 
 pub bounds-logs-x : goal.bounds-logs-x

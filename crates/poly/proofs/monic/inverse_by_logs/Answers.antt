@@ -2,7 +2,6 @@
 -- Assumes nothing.
 use native.Mathlib.Omega.{arith}
 use Rattle.poly.proofs.Logs.{small_of, logs-fit, inverse-fits, inverse-at}
-use borrow.Author.Rules.{rules}
 use Rattle.poly.proofs.monic.inverse_by_logs.Goals as goal
 
 pub overflow_mul-result : goal.overflow_mul-result

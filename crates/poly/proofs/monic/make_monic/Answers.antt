@@ -4,10 +4,6 @@ use mathlib.Core.Path.{sym}
 use native.Mathlib.Omega.{arith}
 use lib.Seq.{length-take-le}
 use Rattle.poly.proofs.Monics.{made_none, made_some, made_asks, lead-pos, lead-small}
-use borrow.Author.Rules.{rules}
-use Rattle.poly.proofs.monic.inverse_by_logs.Reads as inverse-by-logs-reads
-use Rattle.poly.proofs.monic.scale.Reads as scale-reads
-use Rattle.poly.proofs.monic.top.Reads as top-reads
 use Rattle.poly.proofs.monic.make_monic.Goals as goal
 
 pub returns-then-j-eq0 : goal.returns-then-j-eq0

@@ -1,11 +1,8 @@
 -- `poly::monic::scale` meets its contract. The loop's invariant: the first i coefficients are multiplied.
 -- Assumes nothing.
-use Prim.Native.Nat.{◌-◌}
 use native.Mathlib.Omega.{arith}
-use lib.ListN.{length}
 use Rattle.poly.proofs.Logs.{logs-fit}
-use Rattle.poly.proofs.Monics.{Scaling, scale-from, scale-on, scale-logs, scale-fits, scale-end}
-use borrow.Author.Rules.{rules}
+use Rattle.poly.proofs.Monics.{scale-from, scale-on, scale-logs, scale-fits, scale-end}
 use Rattle.poly.proofs.monic.scale.Goals as goal
 
 pub bounds-logs-v : goal.bounds-logs-v

@@ -1,8 +1,7 @@
 -- `poly::monic::top` meets its contract. The loop's invariant: nothing stands at k or above.
 -- Assumes nothing.
 use native.Mathlib.Omega.{arith}
-use Rattle.poly.proofs.Monics.{Searching, search-from, search-on, search-hit, search-miss}
-use borrow.Author.Rules.{rules}
+use Rattle.poly.proofs.Monics.{search-from, search-on, search-hit, search-miss}
 use Rattle.poly.proofs.monic.top.Goals as goal
 
 pub loop-k-init : goal.loop-k-init

@@ -1,8 +1,6 @@
 -- `poly::monic::top` meets its contract. The loop's invariant: nothing stands at k or above.
 -- Assumes nothing.
-use native.Mathlib.Omega.{arith}
-use Rattle.poly.proofs.Monics.{Searching, search-from, search-on, search-hit, search-miss}
-use borrow.Author.Rules.{rules}
+use Rattle.poly.proofs.Monics.{Searching}
 use Rattle.poly.proofs.monic.top.Given as goal
 
 abbrev pub invariant-loop-k : goal.invariant-loop-k

@@ -2,10 +2,8 @@
 -- from place i on.
 -- Assumes nothing.
 use native.Mathlib.Omega.{arith}
-use Rattle.poly.proofs.Multiplying.{Multiplying, multiply-from, multiply-lent}
+use Rattle.poly.proofs.Multiplying.{multiply-from, multiply-lent}
 use Rattle.poly.proofs.Multiplying.{multiply-on, multiply-long, multiply-whole}
-use borrow.Author.Rules.{rules}
-use Rattle.poly.proofs.product.times_linear.Reads as times-linear-reads
 use Rattle.poly.proofs.product.product_over.Goals as goal
 
 pub bounds-f-n : goal.bounds-f-n

@@ -1,12 +1,7 @@
 -- `poly::product::times_linear` meets its contract. The loop's invariant: the first i coefficients are the product's.
 -- Assumes nothing.
-use Prim.Native.Nat.{◌+◌, ◌-◌}
-use native.Mathlib.Omega.{arith}
-use lib.ListN.{length-set}
-use Rattle.poly.proofs.Logs.{logs-fit}
-use Rattle.poly.proofs.Stretching.{Stretching, stretch-from, stretch-skipped, stretch-logs}
-use Rattle.poly.proofs.Stretching.{stretch-fits, stretch-on, stretch-room, stretch-whole}
-use borrow.Author.Rules.{rules}
+use Prim.Native.Nat.{◌-◌}
+use Rattle.poly.proofs.Stretching.{Stretching}
 use Rattle.poly.proofs.product.times_linear.Given as goal
 
 abbrev pub invariant-loop-i : goal.invariant-loop-i

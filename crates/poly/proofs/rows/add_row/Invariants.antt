@@ -1,11 +1,8 @@
 -- `poly::rows::add_row` meets its contract. The loop's invariant: the multiple is added to the first i elements.
 -- Assumes nothing.
 use Prim.Native.Nat.{◌-◌}
-use native.Mathlib.Omega.{arith}
 use lib.ListN.{length}
-use Rattle.poly.proofs.Logs.{logs-fit}
-use Rattle.poly.proofs.RowLoops.{Adding, adding-from, adding-on, adding-fits, adding-end, row-skipped}
-use borrow.Author.Rules.{rules}
+use Rattle.poly.proofs.RowLoops.{Adding}
 use Rattle.poly.proofs.rows.add_row.Given as goal
 
 abbrev pub invariant-loop-i : goal.invariant-loop-i

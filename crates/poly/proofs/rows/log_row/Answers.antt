@@ -1,10 +1,7 @@
 -- `poly::rows::log_row` meets its contract. The loop's invariant: the first i logs are written.
 -- Assumes nothing.
-use Prim.Native.Nat.{◌-◌}
 use native.Mathlib.Omega.{arith}
-use lib.ListN.{length}
-use Rattle.poly.proofs.RowLoops.{Writing, write-from, write-on, write-fits, write-end}
-use borrow.Author.Rules.{rules}
+use Rattle.poly.proofs.RowLoops.{write-from, write-on, write-fits, write-end}
 use Rattle.poly.proofs.rows.log_row.Goals as goal
 
 pub loop-i-init : goal.loop-i-init

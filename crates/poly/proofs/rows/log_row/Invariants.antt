@@ -1,10 +1,8 @@
 -- `poly::rows::log_row` meets its contract. The loop's invariant: the first i logs are written.
 -- Assumes nothing.
 use Prim.Native.Nat.{◌-◌}
-use native.Mathlib.Omega.{arith}
 use lib.ListN.{length}
-use Rattle.poly.proofs.RowLoops.{Writing, write-from, write-on, write-fits, write-end}
-use borrow.Author.Rules.{rules}
+use Rattle.poly.proofs.RowLoops.{Writing}
 use Rattle.poly.proofs.rows.log_row.Given as goal
 
 abbrev pub invariant-loop-i : goal.invariant-loop-i

@@ -2,8 +2,7 @@
 -- Assumes nothing.
 use native.Mathlib.Omega.{arith}
 use Rattle.poly.proofs.Logs.{logs-fit}
-use Rattle.poly.proofs.Horner.{value_none, value-zero, Valuing, value-from, value-logs, value-fits, value_on, value-end}
-use borrow.Author.Rules.{rules}
+use Rattle.poly.proofs.Horner.{value_none, value-zero, value-from, value-logs, value-fits, value_on, value-end}
 use Rattle.poly.proofs.values.evaluate.Goals as goal
 
 pub returns-then-k-eq0 : goal.returns-then-k-eq0

@@ -3,9 +3,8 @@
 -- Assumes nothing.
 use Prim.Native.Nat.{◌+◌}
 use native.Mathlib.Omega.{arith}
-use borrow.Author.Rules.{rules}
 use Rattle.poly.proofs.Horner.{value-logs, value-fits}
-use Rattle.poly.proofs.HornerFour.{FourValuing, four-from, four-on, four-end}
+use Rattle.poly.proofs.HornerFour.{four-from, four-on, four-end}
 use Rattle.poly.proofs.Logs.{logs-fit}
 use Rattle.poly.proofs.values.evaluate_four.Goals as goal
 
