@@ -8,7 +8,7 @@
 --   half_at      the quadratic table at i: 65535 where the trace is 1, else an additive map, by its low and high digits;
 --               half_if  the same by whether the trace is 0
 -- Assumes nothing.
-use Rattle.std.specs.Prelude.{Bool, true, false, ℕ, ◌+◌, ◌*◌, ◌/◌, ◌%◌, ◌^◌, eqb, get_or}
+use Rattle.std.specs.Prelude.{Bool, true, false, ℕ, ◌*◌, ◌/◌, ◌%◌, ◌^◌, eqb, get_or}
 use Rattle.std.specs.Int.Bits.{bit_xor}
 use Rattle.field_constants.specs.Words.{log_words, power_words, low_words, high_words}
 

@@ -1,6 +1,5 @@
 -- `field_constants::arithmetic::inverse11` meets its contract: the power at the order less the log is the inverse.
 -- Assumes nothing.
-use borrow.Author.Rules.{rules}
 use native.Mathlib.Omega.{arith}
 use Rattle.field_constants.proofs.Field11.{log-bound, inverse-is}
 use Rattle.field_constants.proofs.arithmetic.inverse11.Goals as goal

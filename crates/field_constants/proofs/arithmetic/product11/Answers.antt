@@ -1,6 +1,5 @@
 -- `field_constants::arithmetic::product11` meets its contract: logs are added.
 -- Assumes nothing.
-use borrow.Author.Rules.{rules}
 use native.Mathlib.Omega.{arith}
 use Rattle.field_constants.proofs.Field11.{log-bound, product-zero, product_is}
 use Rattle.field_constants.proofs.arithmetic.product11.Goals as goal

@@ -1,6 +1,5 @@
 -- `field_constants::arithmetic::quotient11` meets its contract: one log is added to what the other is short of.
 -- Assumes nothing.
-use borrow.Author.Rules.{rules}
 use native.Mathlib.Omega.{arith}
 use Rattle.field_constants.proofs.Field11.{log-bound, quotient_is}
 use Rattle.field_constants.proofs.arithmetic.quotient11.Goals as goal

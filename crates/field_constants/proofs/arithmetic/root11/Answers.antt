@@ -1,6 +1,5 @@
 -- `field_constants::arithmetic::root11` meets its contract: the log is halved, modulo the order.
 -- Assumes nothing.
-use borrow.Author.Rules.{rules}
 use native.Mathlib.Omega.{arith}
 use Rattle.field_constants.proofs.Field11.{log-bound, root-zero, root_is}
 use Rattle.field_constants.proofs.arithmetic.root11.Goals as goal

@@ -1,6 +1,5 @@
 -- `field_constants::arithmetic::roots11` meets its contract: the half-root gives both roots, or there is none.
 -- Assumes nothing.
-use borrow.Author.Rules.{rules}
 use Rattle.field_constants.proofs.Field11.{element-product, element-inverse, only-root, solution-lt, none_found, two_up, two_down}
 use Rattle.field_constants.proofs.arithmetic.roots11.Goals as goal
 

@@ -1,6 +1,5 @@
 -- `field_constants::tables::antilog11` meets its contract: a power from the table, shifted and folded.
 -- Assumes nothing.
-use borrow.Author.Rules.{rules}
 use native.Mathlib.Omega.{arith}
 use Rattle.field_constants.proofs.Reading.{odd-read, even-read, lane-lt, shift-exact, shift-lt}
 use Rattle.field_constants.proofs.tables.antilog11.Goals as goal

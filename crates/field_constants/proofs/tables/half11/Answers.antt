@@ -1,6 +1,5 @@
 -- `field_constants::tables::half11` meets its contract: none where the trace is 1, else two look-ups.
 -- Assumes nothing.
-use borrow.Author.Rules.{rules}
 use Rattle.field_constants.proofs.Reading.{half-none, half-some}
 use Rattle.field_constants.proofs.tables.half11.Goals as goal
 

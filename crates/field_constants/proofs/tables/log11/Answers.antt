@@ -1,6 +1,5 @@
 -- `field_constants::tables::log11` meets its contract: an entry of a word.
 -- Assumes nothing.
-use borrow.Author.Rules.{rules}
 use Rattle.field_constants.proofs.Reading.{log-read}
 use Rattle.field_constants.proofs.tables.log11.Goals as goal
 

@@ -1,6 +1,5 @@
 -- `field_constants::tables::log_word` meets its contract: the high digits say in which 64 words to look.
 -- Assumes nothing.
-use borrow.Author.Rules.{rules}
 use native.Mathlib.Omega.{arith}
 use Rattle.field_constants.specs.Words.{log_words}
 use Rattle.field_constants.proofs.Arms.{NotBelow, none_left}
@@ -33,4 +32,4 @@ returns-in-7 c = at-word log_words c.log_words7.ensures (omega arith)
 
 pub returns-in_default : goal.returns-in_default
 unfolding NotBelow
-returns-in_default c = none_left 8 _ c.in_default.rest (omega arith)
+returns-in_default c = none_left 8 _ c.in_default.in_default-own.rest (omega arith)

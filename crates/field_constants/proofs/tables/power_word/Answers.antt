@@ -1,6 +1,5 @@
 -- `field_constants::tables::power_word` meets its contract: the highest digit says in which 64 words to look.
 -- Assumes nothing.
-use borrow.Author.Rules.{rules}
 use native.Mathlib.Omega.{arith}
 use Rattle.field_constants.specs.Words.{power_words}
 use Rattle.field_constants.proofs.Reading.{at-word}

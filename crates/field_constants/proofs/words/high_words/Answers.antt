@@ -39,4 +39,4 @@ returns-in-7 c = arm high_words 0 c.in-7.is refl
 
 pub returns-in_default : goal.returns-in_default
 unfolding NotBelow
-returns-in_default c = none_left 8 c.args.l c.in_default.rest c.requires
+returns-in_default c = none_left 8 c.args.l c.in_default.in_default-own.rest c.requires

@@ -263,4 +263,4 @@ returns-in-63 c = arm log_words 384 c.in-63.is refl
 
 pub returns-in_default : goal.returns-in_default
 unfolding NotBelow
-returns-in_default c = none_left 64 c.args.l c.in_default.rest c.requires
+returns-in_default c = none_left 64 c.args.l c.in_default.in_default-own.rest c.requires

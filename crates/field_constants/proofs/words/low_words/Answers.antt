@@ -71,4 +71,4 @@ returns-in-15 c = arm low_words 0 c.in-15.is refl
 
 pub returns-in_default : goal.returns-in_default
 unfolding NotBelow
-returns-in_default c = none_left 16 c.args.l c.in_default.rest c.requires
+returns-in_default c = none_left 16 c.args.l c.in_default.in_default-own.rest c.requires
