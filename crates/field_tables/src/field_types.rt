@@ -23,28 +23,28 @@ impl F4 {
     pub const SIZE: u16 = ROWS[0].size;
 
     pub fn mul(a: u16, b: u16) -> u16
-        requires* { do ⌜ b < (← ⟦F4::SIZE⟧) ⌝ }
+        requires { b < F4.SIZE }
         ensures { result ≡ mul (field_at 4) a b }
     {
         product_of(F4::DEGREE, F4::POLY, a, b)
     }
 
     pub fn inverse(a: u16) -> u16
-        requires* { do ⌜ (0 < a) × (a < (← ⟦F4::SIZE⟧)) ⌝ }
+        requires { (0 < a) × (a < F4.SIZE) }
         ensures { result ≡ inverse (field_at 4) a }
     {
         inverse_of(F4::DEGREE, F4::POLY, a)
     }
 
     pub fn position(r: u16) -> u16
-        requires* { do ⌜ (0 < r) × (r < (← ⟦F4::SIZE⟧)) ⌝ }
+        requires { (0 < r) × (r < F4.SIZE) }
         ensures { result ≡ position (field_at 4) r }
     {
         position_of(F4::DEGREE, F4::POLY, &logs4(F4::DEGREE), r)
     }
 
     pub fn roots(a: u16, b: u16) -> Quadratic
-        requires* { do ⌜ (a < (← ⟦F4::SIZE⟧)) × (b < (← ⟦F4::SIZE⟧)) ⌝ }
+        requires { (a < F4.SIZE) × (b < F4.SIZE) }
         ensures { SolvesQuadratic (field_at 4) a b result }
     {
         quadratic_of(F4::DEGREE, F4::POLY, &halves4(F4::DEGREE), a, b)
@@ -63,28 +63,28 @@ impl F8 {
     pub const SIZE: u16 = ROWS[1].size;
 
     pub fn mul(a: u16, b: u16) -> u16
-        requires* { do ⌜ b < (← ⟦F8::SIZE⟧) ⌝ }
+        requires { b < F8.SIZE }
         ensures { result ≡ mul (field_at 8) a b }
     {
         product_of(F8::DEGREE, F8::POLY, a, b)
     }
 
     pub fn inverse(a: u16) -> u16
-        requires* { do ⌜ (0 < a) × (a < (← ⟦F8::SIZE⟧)) ⌝ }
+        requires { (0 < a) × (a < F8.SIZE) }
         ensures { result ≡ inverse (field_at 8) a }
     {
         inverse_of(F8::DEGREE, F8::POLY, a)
     }
 
     pub fn position(r: u16) -> u16
-        requires* { do ⌜ (0 < r) × (r < (← ⟦F8::SIZE⟧)) ⌝ }
+        requires { (0 < r) × (r < F8.SIZE) }
         ensures { result ≡ position (field_at 8) r }
     {
         position_of(F8::DEGREE, F8::POLY, &logs8(F8::DEGREE), r)
     }
 
     pub fn roots(a: u16, b: u16) -> Quadratic
-        requires* { do ⌜ (a < (← ⟦F8::SIZE⟧)) × (b < (← ⟦F8::SIZE⟧)) ⌝ }
+        requires { (a < F8.SIZE) × (b < F8.SIZE) }
         ensures { SolvesQuadratic (field_at 8) a b result }
     {
         quadratic_of(F8::DEGREE, F8::POLY, &halves8(F8::DEGREE), a, b)
@@ -103,28 +103,28 @@ impl F11 {
     pub const SIZE: u16 = ROWS[2].size;
 
     pub fn mul(a: u16, b: u16) -> u16
-        requires* { do ⌜ b < (← ⟦F11::SIZE⟧) ⌝ }
+        requires { b < F11.SIZE }
         ensures { result ≡ mul (field_at 11) a b }
     {
         product_of(F11::DEGREE, F11::POLY, a, b)
     }
 
     pub fn inverse(a: u16) -> u16
-        requires* { do ⌜ (0 < a) × (a < (← ⟦F11::SIZE⟧)) ⌝ }
+        requires { (0 < a) × (a < F11.SIZE) }
         ensures { result ≡ inverse (field_at 11) a }
     {
         inverse_of(F11::DEGREE, F11::POLY, a)
     }
 
     pub fn position(r: u16) -> u16
-        requires* { do ⌜ (0 < r) × (r < (← ⟦F11::SIZE⟧)) ⌝ }
+        requires { (0 < r) × (r < F11.SIZE) }
         ensures { result ≡ position (field_at 11) r }
     {
         position_of(F11::DEGREE, F11::POLY, &logs11(F11::DEGREE), r)
     }
 
     pub fn roots(a: u16, b: u16) -> Quadratic
-        requires* { do ⌜ (a < (← ⟦F11::SIZE⟧)) × (b < (← ⟦F11::SIZE⟧)) ⌝ }
+        requires { (a < F11.SIZE) × (b < F11.SIZE) }
         ensures { SolvesQuadratic (field_at 11) a b result }
     {
         quadratic_of(F11::DEGREE, F11::POLY, &halves11(F11::DEGREE), a, b)

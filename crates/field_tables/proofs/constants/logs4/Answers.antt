@@ -5,12 +5,8 @@ use Rattle.field.proofs.Known.{row4}
 use Rattle.field.proofs.Generator.{generated}
 use Rattle.field.proofs.Logarithms.{log_test, logs-hold}
 use Rattle.field_tables.proofs.Naming.{logs_at}
-use Rattle.field_tables.proofs.constants.logs4.Statement.{statement}
-use Rattle.field_tables.proofs.constants.logs4.Tie as tie
+use Rattle.field_tables.proofs.constants.logs4.Goals as goal
 
-returns : tie.Need-returns
+pub returns : goal.returns
 unfolding poly_in log_test
 returns c = logs_at c.requires (logs-hold _ (generated row4) _ tt)
-
-pub logs4-spec : {M : Type 1} → statement M
-logs4-spec = tie.close (tie.spec returns)

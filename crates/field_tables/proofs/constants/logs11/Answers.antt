@@ -5,12 +5,8 @@ use Rattle.field.proofs.Known.{row11}
 use Rattle.field.proofs.Generator.{generated}
 use Rattle.field.proofs.Logarithms.{log_test, logs-hold}
 use Rattle.field_tables.proofs.Naming.{last-is, logs_at}
-use Rattle.field_tables.proofs.constants.logs11.Statement.{statement}
-use Rattle.field_tables.proofs.constants.logs11.Tie as tie
+use Rattle.field_tables.proofs.constants.logs11.Goals as goal
 
-returns : tie.Need-returns
+pub returns : goal.returns
 unfolding poly_in log_test
 returns c = logs_at (last-is c.requires) (logs-hold _ (generated row11) _ tt)
-
-pub logs11-spec : {M : Type 1} → statement M
-logs11-spec = tie.close (tie.spec returns)

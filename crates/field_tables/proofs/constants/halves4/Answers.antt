@@ -5,12 +5,8 @@ use Rattle.field.proofs.Known.{row4}
 use Rattle.field.proofs.Generator.{generated}
 use Rattle.field.proofs.HalfRoots.{half_roots, halves-hold}
 use Rattle.field_tables.proofs.Naming.{halves-at}
-use Rattle.field_tables.proofs.constants.halves4.Statement.{statement}
-use Rattle.field_tables.proofs.constants.halves4.Tie as tie
+use Rattle.field_tables.proofs.constants.halves4.Goals as goal
 
-returns : tie.Need-returns
+pub returns : goal.returns
 unfolding poly_in half_roots
 returns c = halves-at c.requires (halves-hold _ (generated row4) _ tt)
-
-pub halves4-spec : {M : Type 1} → statement M
-halves4-spec = tie.close (tie.spec returns)

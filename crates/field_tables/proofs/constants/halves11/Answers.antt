@@ -5,12 +5,8 @@ use Rattle.field.proofs.Known.{row11}
 use Rattle.field.proofs.Generator.{generated}
 use Rattle.field.proofs.HalfRoots.{half_roots, halves-hold}
 use Rattle.field_tables.proofs.Naming.{last-is, halves-at}
-use Rattle.field_tables.proofs.constants.halves11.Statement.{statement}
-use Rattle.field_tables.proofs.constants.halves11.Tie as tie
+use Rattle.field_tables.proofs.constants.halves11.Goals as goal
 
-returns : tie.Need-returns
+pub returns : goal.returns
 unfolding poly_in half_roots
 returns c = halves-at (last-is c.requires) (halves-hold _ (generated row11) _ tt)
-
-pub halves11-spec : {M : Type 1} → statement M
-halves11-spec = tie.close (tie.spec returns)

@@ -5,12 +5,8 @@ use Rattle.field.proofs.Known.{row8}
 use Rattle.field.proofs.Generator.{generated}
 use Rattle.field.proofs.Logarithms.{antilog_test, antilogs-hold}
 use Rattle.field_tables.proofs.Naming.{antilogs-at}
-use Rattle.field_tables.proofs.constants.antilogs8.Statement.{statement}
-use Rattle.field_tables.proofs.constants.antilogs8.Tie as tie
+use Rattle.field_tables.proofs.constants.antilogs8.Goals as goal
 
-returns : tie.Need-returns
+pub returns : goal.returns
 unfolding poly_in antilog_test
 returns c = antilogs-at c.requires (antilogs-hold _ (generated row8) _ tt)
-
-pub antilogs8-spec : {M : Type 1} → statement M
-antilogs8-spec = tie.close (tie.spec returns)

@@ -5,12 +5,8 @@ use Rattle.field.proofs.Known.{row8}
 use Rattle.field.proofs.Generator.{generated}
 use Rattle.field.proofs.HalfRoots.{half_roots, halves-hold}
 use Rattle.field_tables.proofs.Naming.{halves-at}
-use Rattle.field_tables.proofs.constants.halves8.Statement.{statement}
-use Rattle.field_tables.proofs.constants.halves8.Tie as tie
+use Rattle.field_tables.proofs.constants.halves8.Goals as goal
 
-returns : tie.Need-returns
+pub returns : goal.returns
 unfolding poly_in half_roots
 returns c = halves-at c.requires (halves-hold _ (generated row8) _ tt)
-
-pub halves8-spec : {M : Type 1} → statement M
-halves8-spec = tie.close (tie.spec returns)

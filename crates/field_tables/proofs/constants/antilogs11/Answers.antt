@@ -5,12 +5,8 @@ use Rattle.field.proofs.Known.{row11}
 use Rattle.field.proofs.Generator.{generated}
 use Rattle.field.proofs.Logarithms.{antilog_test, antilogs-hold}
 use Rattle.field_tables.proofs.Naming.{last-is, antilogs-at}
-use Rattle.field_tables.proofs.constants.antilogs11.Statement.{statement}
-use Rattle.field_tables.proofs.constants.antilogs11.Tie as tie
+use Rattle.field_tables.proofs.constants.antilogs11.Goals as goal
 
-returns : tie.Need-returns
+pub returns : goal.returns
 unfolding poly_in antilog_test
 returns c = antilogs-at (last-is c.requires) (antilogs-hold _ (generated row11) _ tt)
-
-pub antilogs11-spec : {M : Type 1} → statement M
-antilogs11-spec = tie.close (tie.spec returns)
