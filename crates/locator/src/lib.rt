@@ -29,7 +29,7 @@ mod answers; // the structs that several calls answer
 
 // An element call's answer.
 #[repr(C)]
-#[derive(Drop)]
+#[derive(Clone, Copy)]
 pub struct LocatorValue {
     pub outcome: u16,
     pub value: u16,
@@ -37,7 +37,7 @@ pub struct LocatorValue {
 
 // The quadratic's answer: how many roots, the lower first, and 1 where the one root is double.
 #[repr(C)]
-#[derive(Drop)]
+#[derive(Clone, Copy)]
 pub struct LocatorPair {
     pub outcome: u16,
     pub count: u16,
@@ -48,7 +48,7 @@ pub struct LocatorPair {
 
 // What was found: how many roots, and in how many steps.
 #[repr(C)]
-#[derive(Drop)]
+#[derive(Clone, Copy)]
 pub struct LocatorFound {
     pub outcome: u16,
     pub count: u16,
@@ -57,7 +57,7 @@ pub struct LocatorFound {
 
 // The roots of an affine polynomial: how many, and the dimension.
 #[repr(C)]
-#[derive(Drop)]
+#[derive(Clone, Copy)]
 pub struct LocatorSpace {
     pub outcome: u16,
     pub count: u16,
@@ -66,7 +66,7 @@ pub struct LocatorSpace {
 
 // A step's answer: 1 where there was nothing to split.
 #[repr(C)]
-#[derive(Drop)]
+#[derive(Clone, Copy)]
 pub struct LocatorStepped {
     pub outcome: u16,
     pub done: u16,
@@ -74,7 +74,7 @@ pub struct LocatorStepped {
 
 // The corrector's answer: how many bits were flipped.
 #[repr(C)]
-#[derive(Drop)]
+#[derive(Clone, Copy)]
 pub struct LocatorCorrected {
     pub outcome: u16,
     pub flips: u16,
@@ -82,7 +82,7 @@ pub struct LocatorCorrected {
 
 // The encoder's answer: how many check bits the word has.
 #[repr(C)]
-#[derive(Drop)]
+#[derive(Clone, Copy)]
 pub struct LocatorEncoded {
     pub outcome: u16,
     pub checks: u16,
@@ -90,7 +90,7 @@ pub struct LocatorEncoded {
 
 // What salvage kept: how many bytes.
 #[repr(C)]
-#[derive(Drop)]
+#[derive(Clone, Copy)]
 pub struct LocatorSalvaged {
     pub outcome: u16,
     pub length: usize,
@@ -98,7 +98,7 @@ pub struct LocatorSalvaged {
 
 // What the writer wrote: how many bytes.
 #[repr(C)]
-#[derive(Drop)]
+#[derive(Clone, Copy)]
 pub struct LocatorWritten {
     pub outcome: u16,
     pub length: u16,
@@ -106,7 +106,7 @@ pub struct LocatorWritten {
 
 // The check's answer: 1 where the claim is accepted, 0 for a plain "no".
 #[repr(C)]
-#[derive(Drop)]
+#[derive(Clone, Copy)]
 pub struct LocatorClaim {
     pub outcome: u16,
     pub accepted: u16,
@@ -114,7 +114,7 @@ pub struct LocatorClaim {
 
 // What was made: how many roots the claim has.
 #[repr(C)]
-#[derive(Drop)]
+#[derive(Clone, Copy)]
 pub struct LocatorProved {
     pub outcome: u16,
     pub count: u16,

@@ -34,8 +34,8 @@ fn lend(m: u16, ls: &[u16], ts: &[u16], logs: &mut [u16], antilogs: &mut [u16])
 // Writes the tables of the field of degree m, each to the front of its room.
 #[unsafe(no_mangle)]
 pub extern "C" fn poly_tables(m: u16, logs: Written, antilogs: Written)
-    requires { Roomy m logs.now antilogs.now }
-    ensures { LentIn m logs.entry.now antilogs.entry.now logs.exit.now antilogs.exit.now }
+    requires { Roomy m logs.old antilogs.old }
+    ensures { LentIn m logs.old antilogs.old logs.new antilogs.new }
 {
     match m {
         4 => lend(m, &logs4(m), &antilogs4(m), logs, antilogs),
@@ -47,8 +47,8 @@ pub extern "C" fn poly_tables(m: u16, logs: Written, antilogs: Written)
 // Writes the row of p.
 #[unsafe(no_mangle)]
 pub extern "C" fn poly_log_row(m: u16, ls: Read, ts: Read, p: Read, row: Written)
-    requires { Loggable m ls.now ts.now p.now row.now }
-    ensures { row.exit.now ≡ log_row m p.entry.now }
+    requires { Loggable m ls.now ts.now p.now row.old }
+    ensures { row.new ≡ log_row m p.now }
 {
     rows::log_row(m, ls, ts, p, row);
 }
@@ -56,8 +56,8 @@ pub extern "C" fn poly_log_row(m: u16, ls: Read, ts: Read, p: Read, row: Written
 // Writes the remainder of f by the polynomial that the row holds to r. What stands in f is used up.
 #[unsafe(no_mangle)]
 pub extern "C" fn poly_remainder(m: u16, ls: Read, ts: Read, row: Read, f: Written, r: Written)
-    requires { Reducible m ls.now ts.now row.now f.now r.now }
-    ensures { r.exit.now ≡ rem (G m) (held m row.entry.now) f.entry.now }
+    requires { Reducible m ls.now ts.now row.now f.old r.old }
+    ensures { r.new ≡ rem (G m) (held m row.now) f.old }
 {
     division::remainder(m, ls, ts, row, f, r);
 }
@@ -66,7 +66,7 @@ pub extern "C" fn poly_remainder(m: u16, ls: Read, ts: Read, row: Read, f: Writt
 #[unsafe(no_mangle)]
 pub extern "C" fn poly_evaluate(m: u16, ls: Read, ts: Read, f: Read, x: u16) -> u16
     requires { Lent m ls.now ts.now × Below (2 ^ m) f.now × (x < 2 ^ m) }
-    ensures { result ≡ eval (G m) f.entry.now x }
+    ensures { result ≡ eval (G m) f.now x }
 {
     values::evaluate(m, ls, ts, f, x)
 }
@@ -74,7 +74,7 @@ pub extern "C" fn poly_evaluate(m: u16, ls: Read, ts: Read, f: Read, x: u16) -> 
 // The place behind the highest coefficient that is not 0; 0 where there is none.
 #[unsafe(no_mangle)]
 pub extern "C" fn poly_top(r: Read) -> usize
-    ensures { TopIs r.entry.now result }
+    ensures { TopIs r.now result }
 {
     monic::top(r)
 }
@@ -82,8 +82,8 @@ pub extern "C" fn poly_top(r: Read) -> usize
 // Divides r by its leading coefficient. Returns how many coefficients it has up to that one, 0 where all are 0.
 #[unsafe(no_mangle)]
 pub extern "C" fn poly_make_monic(m: u16, ls: Read, ts: Read, r: Written) -> usize
-    requires { Lent m ls.now ts.now × Below (2 ^ m) r.now }
-    ensures { MadeMonic m r.entry.now result r.exit.now }
+    requires { Lent m ls.now ts.now × Below (2 ^ m) r.old }
+    ensures { MadeMonic m r.old result r.new }
 {
     monic::make_monic(m, ls, ts, r)
 }
@@ -91,8 +91,8 @@ pub extern "C" fn poly_make_monic(m: u16, ls: Read, ts: Read, r: Written) -> usi
 // Squares w k times, modulo the polynomial that the row holds.
 #[unsafe(no_mangle)]
 pub extern "C" fn poly_power_mod(m: u16, ls: Read, ts: Read, row: Read, k: u16, w: Written)
-    requires { Squarable m ls.now ts.now row.now w.now }
-    ensures { w.exit.now ≡ frobenius_mod (G m) (held m row.entry.now) k w.entry.now }
+    requires { Squarable m ls.now ts.now row.now w.old }
+    ensures { w.new ≡ frobenius_mod (G m) (held m row.now) k w.old }
 {
     poly_powers::power_mod(m, ls, ts, row, k, w);
 }
@@ -100,9 +100,9 @@ pub extern "C" fn poly_power_mod(m: u16, ls: Read, ts: Read, row: Read, k: u16, 
 // Writes z^(2^k) modulo the monic polynomial with the low coefficients p to w.
 #[unsafe(no_mangle)]
 pub extern "C" fn poly_z_power(m: u16, ls: Read, ts: Read, p: Read, k: u16, w: Written)
-    requires { Startable m ls.now ts.now p.now w.now }
-    ensures { w.exit.now
-        ≡ frobenius_mod (G m) p.entry.now k (rem (G m) p.entry.now (0 ∷ 1 ∷ [])) }
+    requires { Startable m ls.now ts.now p.now w.old }
+    ensures { w.new
+        ≡ frobenius_mod (G m) p.now k (rem (G m) p.now (0 ∷ 1 ∷ [])) }
 {
     poly_powers::z_power(m, ls, ts, p, k, w);
 }
@@ -110,8 +110,8 @@ pub extern "C" fn poly_z_power(m: u16, ls: Read, ts: Read, p: Read, k: u16, w: W
 // Writes Tr(bz) modulo the monic polynomial with the low coefficients p to t.
 #[unsafe(no_mangle)]
 pub extern "C" fn poly_trace_of(m: u16, ls: Read, ts: Read, p: Read, b: u16, t: Written)
-    requires { Startable m ls.now ts.now p.now t.now × (b < 2 ^ m) }
-    ensures { t.exit.now ≡ trace_mod (G m) p.entry.now m (rem (G m) p.entry.now (0 ∷ b ∷ [])) }
+    requires { Startable m ls.now ts.now p.now t.old × (b < 2 ^ m) }
+    ensures { t.new ≡ trace_mod (G m) p.now m (rem (G m) p.now (0 ∷ b ∷ [])) }
 {
     poly_powers::trace_of(m, ls, ts, p, b, t);
 }
@@ -120,8 +120,8 @@ pub extern "C" fn poly_trace_of(m: u16, ls: Read, ts: Read, p: Read, b: u16, t: 
 // g. Returns its degree.
 #[unsafe(no_mangle)]
 pub extern "C" fn poly_gcd(m: u16, ls: Read, ts: Read, p: Read, f: Read, g: Written) -> usize
-    requires { Commonable m ls.now ts.now p.now f.now g.now }
-    ensures { GcdIs m p.entry.now f.entry.now result g.exit.now }
+    requires { Commonable m ls.now ts.now p.now f.now g.old }
+    ensures { GcdIs m p.now f.now result g.new }
 {
     poly_gcd::gcd(m, ls, ts, p, f, g)
 }
@@ -129,8 +129,8 @@ pub extern "C" fn poly_gcd(m: u16, ls: Read, ts: Read, p: Read, f: Read, g: Writ
 // Writes the monic polynomial with the low coefficients p, divided by the monic one with the low coefficients g, to h.
 #[unsafe(no_mangle)]
 pub extern "C" fn poly_cofactor(m: u16, ls: Read, ts: Read, p: Read, g: Read, h: Written)
-    requires { Cofactorable m ls.now ts.now p.now g.now h.now }
-    ensures { h.exit.now ≡ cofactor (G m) p.entry.now g.entry.now }
+    requires { Cofactorable m ls.now ts.now p.now g.now h.old }
+    ensures { h.new ≡ cofactor (G m) p.now g.now }
 {
     poly_gcd::cofactor(m, ls, ts, p, g, h);
 }

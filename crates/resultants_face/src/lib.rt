@@ -17,8 +17,8 @@ type Written<'a> = &'a mut [u16];
 // Lists the roots of f in the field of degree m at the front of roots, ascending. Returns how many there are.
 #[unsafe(no_mangle)]
 pub extern "C" fn resultants_find(m: u16, f: Read, roots: Written) -> u16
-    requires { PolynomialIn m f.now × (limit ≤ length roots.now) }
-    ensures { SearchedOut m f.entry.now roots.entry.now result roots.exit.now }
+    requires { PolynomialIn m f.now × (limit ≤ length roots.old) }
+    ensures { SearchedOut m f.now roots.old result roots.new }
 {
     find_in(m, f, roots)
 }
