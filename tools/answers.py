@@ -75,7 +75,11 @@ def args_of(text):
 class Function:
     def __init__(self, crate, path, names):
         self.crate, self.path, self.names = crate, path, names
-        self.steps = {}
+        self.steps, callee = {}, {}
+        for place in names["places"]:
+            if place[3] in names["params"]:
+                callee[place[2][0]] = names["params"][place[3]]
+        self.callee = callee
         for place in names["places"]:
             old, new = place[2]
             self.steps.setdefault(old, new)
@@ -102,6 +106,12 @@ class Function:
                 arm, field = self.arms[key]
                 return ".".join([var, arm, field] + parts[n:])
         step = parts[0]
+        if len(parts) > 2 and parts[1] == "auto" and parts[2].isdigit():
+            params = self.callee.get(step) or self.callee.get(step.replace("-", "_"))
+            if params and int(parts[2]) < len(params):
+                parts[2] = params[int(parts[2])]
+                if len(parts) == 4 and parts[3] == "0":
+                    del parts[3]
         if step in self.steps:
             parts[0] = self.steps[step]
         elif step.replace("-", "_") in self.steps:
