@@ -1,14 +1,18 @@
 // Command line, standard input and standard output of the programs: what is wrong with them is said on standard error.
-// Each function is given the program's name, as b"roots", and puts it ahead of what it says.
+// Each function is given the runtime and the program's name, as b"roots", and puts that name ahead of what it says.
 #![tactic(auto)]
 
-ghost use Rattle.std.specs.Prelude.{◌≤◌};
-ghost use Rattle.io.specs.Counts.{IsPrefixLen};
+ghost use Rattle.std.specs.Prelude.{◌≡◌, ◌≤◌, length, take};
 
-use libc::{STDERR_FILENO, STDIN_FILENO, STDOUT_FILENO};
+use std::env::{Env, FillError};
+use std::io;
+use std::io::Read;
 
-// The most bytes that a program reads: those of `io::large_buffer`.
+// The most bytes that a program reads.
 pub const MOST: usize = 65536;
+
+// The bytes of a word of the command line that are looked at.
+const WORD: usize = 4096;
 
 // The version of the programs.
 const VERSION: [u8; 5] = *b"0.1.0";
@@ -39,11 +43,52 @@ pub struct Input {
     pub bytes: usize,
 }
 
+// Says a text on standard error. That it cannot be said can be told nowhere.
+pub fn say(rt: &HostRuntime, text: &[u8]) {
+    let _ = rt.stderr().write_all(text);
+}
+
+// Says a number in decimal on standard error.
+pub fn say_number(rt: &HostRuntime, n: u64) {
+    let _ = rt.stderr().print(n);
+}
+
+// A text of an error in front of the system's number for it.
+fn front(text: &str) -> &str {
+    match text.split_once(" (os error ") {
+        Some((front, _)) => front,
+        None => text,
+    }
+}
+
+// Says the system's text for an error, without its number. Where there is no memory for that, the number is said too.
+fn say_error(rt: &HostRuntime, error: io::Error) {
+    match error.to_string(rt.alloc()) {
+        Ok(text) => say(rt, front(text.as_str()).as_bytes()),
+        Err(_) => {
+            let _ = rt.stderr().print(error);
+        }
+    }
+}
+
+// Says that something failed: what, as b"salvage: kept.lr", and the system's text for the error.
+pub fn tell_error(rt: &HostRuntime, what: &[u8], error: io::Error) {
+    say(rt, what);
+    say(rt, b": ");
+    say_error(rt, error);
+    say(rt, b"\n");
+}
+
 // Tells that a stream of the program failed: its name, then the stream, as b": standard input", and the system's text
-// for the error. That is the error of the call that failed: a write that succeeds leaves errno alone.
-fn fail(program: &[u8], stream: &[u8]) {
-    io::write_all(STDERR_FILENO, program);
-    os::fail(stream);
+// for the error.
+fn fail(rt: &HostRuntime, program: &[u8], stream: &[u8], error: io::Error) {
+    say(rt, program);
+    tell_error(rt, stream, error);
+}
+
+// Are these the same bytes?
+pub fn same(a: &[u8], b: &[u8]) -> bool {
+    a == b
 }
 
 // How much of a room of n bytes is filled: no more than MOST.
@@ -55,10 +100,10 @@ fn at_most(n: usize) -> usize
 
 // What a word asks for.
 fn word_of(word: &[u8]) -> Word {
-    if check::same(word, b"--help") {
+    if same(word, b"--help") {
         return Word::Help;
     }
-    if check::same(word, b"--version") {
+    if same(word, b"--version") {
         return Word::Version;
     }
     Word::Unknown
@@ -74,77 +119,99 @@ fn first_unknown(word: &[u8]) -> usize {
 }
 
 // Says that a program does not know a word, and how to use the program.
-fn refuse(program: &[u8], word: &[u8], usage: &[u8]) {
-    io::write_all(STDERR_FILENO, program);
-    io::write_all(STDERR_FILENO, b": unknown word '");
-    io::write_all(STDERR_FILENO, word);
-    io::write_all(STDERR_FILENO, b"'; usage: ");
-    io::write_all(STDERR_FILENO, usage);
-    io::write_all(STDERR_FILENO, b"\n");
+fn refuse(rt: &HostRuntime, program: &[u8], word: &[u8], usage: &[u8]) {
+    say(rt, program);
+    say(rt, b": unknown word '");
+    say(rt, word);
+    say(rt, b"'; usage: ");
+    say(rt, usage);
+    say(rt, b"\n");
 }
 
 // Prints the program's name and version.
-pub fn print_version(program: &[u8]) {
-    print(program, program);
-    print(program, b" ");
-    print(program, &VERSION);
-    print(program, b"\n");
+pub fn print_version(rt: &HostRuntime, program: &[u8]) {
+    print(rt, program, program);
+    print(rt, program, b" ");
+    print(rt, program, &VERSION);
+    print(rt, program, b"\n");
 }
 
 // Does what the one word of a command line asks for; what is not known is refused.
-fn obey(program: &[u8], word: &[u8], usage: &[u8], help: &[u8]) {
+fn obey(rt: &HostRuntime, program: &[u8], word: &[u8], usage: &[u8], help: &[u8]) {
     match word_of(word) {
         Word::Help => {
-            print(program, b"usage: ");
-            print(program, usage);
-            print(program, b"\n");
-            print(program, help);
+            print(rt, program, b"usage: ");
+            print(rt, program, usage);
+            print(rt, program, b"\n");
+            print(rt, program, help);
         }
-        Word::Version => print_version(program),
-        Word::Unknown => refuse(program, word, usage),
+        Word::Version => print_version(rt, program),
+        Word::Unknown => refuse(rt, program, word, usage),
+    }
+}
+
+// Is there a word at a place of the command line? The program's name stands at place 0.
+pub fn has_word(rt: &HostRuntime, i: usize) -> bool {
+    let mut one = [0u8; 1];
+    match rt.arg(i, &mut one) {
+        Ok(_) => true,
+        Err(FillError::TooLong) => true,
+        Err(FillError::NotPresent) => false,
+    }
+}
+
+// Puts the word at a place of the command line into the room, and tells its length: 0 where it is missing or longer than
+// the room.
+pub fn word_at(rt: &HostRuntime, i: usize, room: &mut [u8]) -> usize
+    ensures { (result ≤ length room.new) × (result ≡ length (take result room.new)) }
+{
+    match rt.arg(i, room) {
+        Ok(n) => n,
+        Err(_) => 0,
     }
 }
 
 // Is a program to go on? It is where its command line has no word. `--help` and `--version` are obeyed, and any other
 // word is refused, before anything is read or written.
-pub fn starts(program: &[u8], usage: &[u8], help: &[u8]) -> bool {
-    let words = os::arg_count();
-    if words < 2 {
+pub fn starts(rt: &HostRuntime, program: &[u8], usage: &[u8], help: &[u8]) -> bool {
+    if !has_word(rt, 1) {
         return true;
     }
-    let mut room = io::buffer();
-    let n = os::arg(1, &mut room);
-    if words == 2 {
-        obey(program, &room[..n], usage, help);
+    let mut room = [0u8; WORD];
+    let n = word_at(rt, 1, &mut room);
+    if !has_word(rt, 2) {
+        obey(rt, program, &room[..n], usage, help);
         return false;
     }
-    let m = os::arg(first_unknown(&room[..n]), &mut room);
-    refuse(program, &room[..m], usage);
+    let m = word_at(rt, first_unknown(&room[..n]), &mut room);
+    refuse(rt, program, &room[..m], usage);
     false
 }
 
 // Reads until MOST bytes came, the room is full or the input ends. A read that fails is told.
-pub fn read_all(program: &[u8], room: &mut [u8]) -> Input
-    ensures prefix_len { IsPrefixLen result.bytes room.new }
+pub fn read_all(rt: &HostRuntime, program: &[u8], room: &mut [u8]) -> Input
+    ensures prefix_len { (result.bytes ≤ length room.new) × (result.bytes ≡ length (take result.bytes room.new)) }
     ensures bytes_bound { result.bytes ≤ 65536 }
 {
     let most = at_most(room.len());
+    let mut stdin = rt.stdin();
     let mut done = 0;
     while done < most {
-        let rest = &mut room[done..most];
-        let got = libc::read(STDIN_FILENO, rest);
-        if got < 0 {
-            fail(program, b": standard input");
-            return Input {
-                failed: true,
-                bytes: 0,
-            };
+        match stdin.read(&mut room[done..most]) {
+            Err(error) => {
+                fail(rt, program, b": standard input", error);
+                return Input {
+                    failed: true,
+                    bytes: 0,
+                };
+            }
+            Ok(more) => {
+                if more == 0 {
+                    break;
+                }
+                done += more;
+            }
         }
-        let more = io::count(got, rest);
-        if more == 0 {
-            break;
-        }
-        done += more;
     }
     Input {
         failed: false,
@@ -153,42 +220,43 @@ pub fn read_all(program: &[u8], room: &mut [u8]) -> Input
 }
 
 // Prints a text; false where that fails, which is told.
-pub fn print(program: &[u8], text: &[u8]) -> bool {
-    let written = io::write_all(STDOUT_FILENO, text);
-    if !written {
-        fail(program, b": standard output");
+pub fn print(rt: &HostRuntime, program: &[u8], text: &[u8]) -> bool {
+    match rt.stdout().write_all(text) {
+        Ok(()) => true,
+        Err(error) => {
+            fail(rt, program, b": standard output", error);
+            false
+        }
     }
-    written
 }
 
 // Asks what comes after the n bytes that were read: only where they are the most that a program reads can there be
 // more. A read that fails is told.
-pub fn ask_behind(program: &[u8], n: usize) -> Behind {
+pub fn ask_behind(rt: &HostRuntime, program: &[u8], n: usize) -> Behind {
     if n < MOST {
         return Behind::Nothing;
     }
     let mut one = [0u8; 1];
-    let got = libc::read(STDIN_FILENO, &mut one);
-    if got < 0 {
-        fail(program, b": standard input");
-        return Behind::Unknown;
+    match rt.stdin().read(&mut one) {
+        Err(error) => {
+            fail(rt, program, b": standard input", error);
+            Behind::Unknown
+        }
+        Ok(0) => Behind::Nothing,
+        Ok(_) => Behind::More,
     }
-    if got > 0 {
-        return Behind::More;
-    }
-    Behind::Nothing
 }
 
 // Says that there is input past the most that a program reads.
-pub fn tell_ignored(program: &[u8]) {
-    io::write_all(STDERR_FILENO, program);
-    io::write_all(STDERR_FILENO, b": input behind 65,536 bytes is ignored\n");
+pub fn tell_ignored(rt: &HostRuntime, program: &[u8]) {
+    say(rt, program);
+    say(rt, b": input behind 65,536 bytes is ignored\n");
 }
 
 // Where n bytes came: says so if there is input past the most that a program reads.
-pub fn tell_behind(program: &[u8], n: usize) {
-    match ask_behind(program, n) {
-        Behind::More => tell_ignored(program),
+pub fn tell_behind(rt: &HostRuntime, program: &[u8], n: usize) {
+    match ask_behind(rt, program, n) {
+        Behind::More => tell_ignored(rt, program),
         Behind::Nothing => {}
         Behind::Unknown => {}
     }
@@ -196,19 +264,19 @@ pub fn tell_behind(program: &[u8], n: usize) {
 
 // Says at which record of a job file, and at which byte, reading stopped, and why: its mark is missing (11), or it ends
 // early (12).
-pub fn tell_stop(program: &[u8], record_number: u64, at: usize, number: u16) {
-    io::write_all(STDERR_FILENO, program);
-    io::write_all(STDERR_FILENO, b": reading stopped at record ");
-    io::print_decimal(STDERR_FILENO, record_number);
-    io::write_all(STDERR_FILENO, b" (byte ");
-    io::print_decimal(STDERR_FILENO, at as u64);
+pub fn tell_stop(rt: &HostRuntime, program: &[u8], record_number: u64, at: usize, number: u16) {
+    say(rt, program);
+    say(rt, b": reading stopped at record ");
+    say_number(rt, record_number);
+    say(rt, b" (byte ");
+    say_number(rt, at as u64);
     if number == UNMARKED {
-        io::write_all(STDERR_FILENO, b"): its mark is missing");
+        say(rt, b"): its mark is missing");
     } else {
-        io::write_all(STDERR_FILENO, b"): it ends early");
+        say(rt, b"): it ends early");
     }
-    io::write_all(
-        STDERR_FILENO,
+    say(
+        rt,
         b"; the rest was not read; `salvage` keeps what can be kept\n",
     );
 }
