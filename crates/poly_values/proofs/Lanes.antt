@@ -7,16 +7,16 @@
 use mathlib.Core.Path.{◌≡◌, refl, sym, ap, ap₂, ◌∙◌}
 use mathlib.Core.List.{List, [], ◌∷◌, ◌++◌, map, map-append}
 use Prim.Native.Nat.{ℕ, zero, suc, ◌+◌, ◌*◌, ◌^◌, ◌<◌, ◌≤◌}
-use native.Mathlib.Nat.{suc-mul, zero-mul, add-mul, add-zero, pow-suc}
+use native.Mathlib.Nat.{suc-mul, zero-mul, add-mul, pow-suc}
 use native.Mathlib.Omega.{arith}
 use lib.Bits.{bit_xor, xor_zero_r}
 use lib.ListN.{get_or, length, take, drop, length-take, length-drop, length-append, length-map, take-append-drop, get_or-append}
-use lib.Seq.{get_or-append-add, get_or-drop, get_or-take, drop-drop, ext_get_or, take_at, drop_at, drop-nil, take-nil}
+use lib.Seq.{get_or-append-add, get_or-drop, get_or-take, ext_get_or, drop_at}
 use Rattle.algebra.specs.Trial.{All}
 use Rattle.algebra.specs.Polynomial.{add}
 use Rattle.field.specs.Field.{Field, mul, numbers}
-use Rattle.poly_values.specs.Transform.{Mults, leaf, node, width, scaled, lower, transform, map_mults}
-use Rattle.poly_values.specs.Planes.{lane, words_at, tabulate, lane_product, plane_ops, field_by, flat, tree_of, transform_at, lane_row}
+use Rattle.poly_values.specs.Transform.{Mults, node, width, scaled, lower, transform, map_mults}
+use Rattle.poly_values.specs.Planes.{lane, words_at, plane_ops, field_by, flat, tree_of, transform_at, lane_row}
 use Rattle.poly_values.proofs.Image.{Respects, transform-image, all-transform}
 use Rattle.poly_values.proofs.Planes.{BinaryDigits, lane-sum, lane-product, length-sum, length-lane_product}
 use Rattle.poly_values.proofs.Rows.{transform-rows, length-transform, length-flat, words-at, flat_append}

@@ -5,13 +5,13 @@
 --   start-full   the first butterflies, then the transforms of the halves
 -- Assumes nothing.
 use mathlib.Core.Path.{◌≡◌, refl, sym, ap, ap₂, ◌∙◌, subst}
-use mathlib.Core.List.{List, [], ◌∷◌, ◌++◌, map}
+use mathlib.Core.List.{List, [], ◌∷◌, ◌++◌}
 use Prim.Native.Nat.{ℕ, zero, suc, ◌+◌, ◌*◌, ◌-◌, ◌^◌, ◌<◌, ◌≤◌}
-use native.Mathlib.Nat.{suc-mul, zero-mul, add-mul, pow-suc, zero-add}
+use native.Mathlib.Nat.{suc-mul, zero-mul, add-mul, pow-suc}
 use native.Mathlib.Omega.{arith}
 use lib.Pow.{pow_pos}
 use lib.Bits.{bit_xor, xor_zero_r}
-use lib.ListN.{replicate, get_or, length, take, drop, length-take, length-drop, length-append}
+use lib.ListN.{get_or, length, take, drop, length-take, length-append}
 use lib.Seq.{paste, length-paste, get_or-take, get_or-drop, take_at, drop_at}
 use borrow.Rule.Slice.PartMut.{put_mid}
 use mathlib.Core.Bool.{true}
@@ -22,12 +22,12 @@ use Rattle.poly_values.proofs.Tail.{lent-tail, back}
 use Rattle.poly_values.proofs.Image.{all_take}
 use Rattle.field.specs.Field.{Field, mul, numbers}
 use Rattle.field.proofs.Ring.{FullDegree, mul_comm, mul-zero-r}
-use Rattle.poly_values.specs.Transform.{Mults, leaf, node, transform, map_mults}
+use Rattle.poly_values.specs.Transform.{node, transform, map_mults}
 use Rattle.poly_values.specs.Planes.{lane, words_at, sum_words, spread_words, field_by, tree_of, transform_at, halves_at, lane_row, Multiple, Spread, Firsts, RowStarted}
 use Rattle.poly_values.proofs.Planes.{BinaryDigits, lane-sum, sum-words}
 use Rattle.poly_values.proofs.Lists.{length-tabulate, get_or-zeros}
 use Rattle.poly_values.proofs.Scalars.{spread-is}
-use Rattle.poly_values.proofs.Lanes.{length-row, lane_row-at, row-append, row-run, width-tree, node_by, length_at, lower-row, upper-row, length-lower, length-upper}
+use Rattle.poly_values.proofs.Lanes.{length-row, row-append, row-run, width-tree, node_by, length_at, lower-row, upper-row, length-lower, length-upper}
 use Rattle.poly_values.proofs.Starting.{words_same, words-other}
 
 -- x in the first place of a

@@ -5,9 +5,9 @@
 --   column_test, columns-right   the columns, each z times the one before
 --   above_test, above-right      the columns, each with nothing above its own lane
 -- Assumes nothing.
-use mathlib.Core.Path.{◌≡◌, refl, sym, ap, ap₂, ◌∙◌, subst}
+use mathlib.Core.Path.{◌≡◌, refl, sym, ap, ap₂, ◌∙◌}
 use mathlib.Core.Bool.{Bool, true, false}
-use mathlib.Core.List.{List, [], ◌∷◌, ◌++◌, map}
+use mathlib.Core.List.{List, [], ◌∷◌, ◌++◌}
 use Prim.Native.Nat.{ℕ, zero, suc, ◌+◌, ◌*◌, ◌-◌, ◌^◌, ◌<◌, ◌≤◌}
 use native.Mathlib.Nat.{add-zero, suc-add, add-suc, zero-add, zero-mul}
 use native.Mathlib.Omega.{arith}
@@ -15,15 +15,13 @@ use lib.Bits.{bit_xor, xor_zero_r, xor_self, xor_comm, xor_lt}
 use lib.Pow.{pow_pos, pow_mono}
 use lib.Dec.{T, eqb, eqb→eq}
 use lib.ListN.{get_or, length, drop}
-use Rattle.algebra.specs.Field.{Ops}
 use Rattle.algebra.specs.Trial.{All}
-use Rattle.algebra.specs.Polynomial.{Below}
-use Rattle.field.specs.Field.{Field, size, mul, numbers}
+use Rattle.field.specs.Field.{Field, mul, numbers}
 use Rattle.field.proofs.Table.{both_true, both_true-left, both_true-right}
 use Rattle.field.proofs.Additive.{Additive, linear_map, basis, by-basis}
-use Rattle.field.proofs.Xor.{xor_assoc, xor-cancel, xor-swap}
+use Rattle.field.proofs.Xor.{xor_assoc, xor-swap}
 use Rattle.field.proofs.Ring.{ring, FullDegree}
-use Rattle.poly_values.specs.Transform.{Mults, leaf, node, mults, map_mults}
+use Rattle.poly_values.specs.Transform.{node, mults, map_mults}
 use Rattle.poly_values.specs.Basis.{Step, vanishing, RightSteps, levels}
 use Rattle.poly_values.specs.Blocks.{next_of, power_in, ColumnsOf}
 use Rattle.poly_values.specs.Planes.{lane, digits_number, words_at, tree_of, lanes, columns_of, field_by, taps11}

@@ -6,20 +6,20 @@
 -- Assumes nothing.
 use mathlib.Core.Path.{◌≡◌, refl, sym, ap, ap₂, ◌∙◌, subst}
 use mathlib.Core.List.{List, [], ◌∷◌, ◌++◌, map}
-use Prim.Native.Nat.{ℕ, zero, suc, ◌+◌, ◌*◌, ◌/◌, ◌%◌, ◌-◌, ◌^◌, ◌≤◌, ◌<◌}
-use native.Mathlib.Nat.{zero-mul, one-mul, mul-zero, mul-one, mul_comm, mul_assoc, mul-add, mod-lt, zero-lt-suc, div-eq_of_lt, add-zero, add-suc, pow-suc, mul-div_cancel, zero-add, mod-eq_of_lt, add-mul-div_right}
+use Prim.Native.Nat.{ℕ, zero, suc, ◌+◌, ◌*◌, ◌/◌, ◌%◌, ◌^◌, ◌≤◌, ◌<◌}
+use native.Mathlib.Nat.{zero-mul, one-mul, mul-zero, mul-one, mul_assoc, mul-add, mod-lt, zero-lt-suc, div-eq_of_lt, add-zero, add-suc, pow-suc, zero-add, mod-eq_of_lt}
 use native.Mathlib.Omega.{arith}
-use lib.Arith.{digits_lt, digits_div, digits_mod}
+use lib.Arith.{digits_div, digits_mod}
 use lib.Pow.{pow_pos}
 use mathlib.Core.Logic.{◌↔◌}
-use lib.Bits.{bit_and, bit_or, bit_xor, or_shr, or_mod, and_shr, and_mod, xor_shr, xor_mod, xor_block, xor_zero_r, xor_self, xor_comm, xor_lt, xor_shifted}
+use lib.Bits.{bit_and, bit_or, bit_xor, or_shr, or_mod, and_shr, and_mod, xor_shr, xor_mod, xor_block, xor_zero_r, xor_self, xor_comm, xor_shifted}
 use lib.ListN.{get_or, length, take, drop, replicate, length-map, length-take, length-append, length-replicate}
-use Rattle.field.specs.Field.{Field, size, cut, reduce, carry_free, mul}
+use Rattle.field.specs.Field.{Field, cut, reduce, carry_free, mul}
 use Rattle.field.proofs.Digits.{bit-cases}
 use Rattle.field.proofs.CarryFree.{carry_free-step, carry_free-zero-l}
 use Rattle.field.proofs.Reduce.{reduce-zero, reduce-step, reduce-xor, reduce-double, reduce-below}
-use lib.Seq.{drop-cons, paste}
-use Rattle.poly_values.specs.Planes.{binary_digit, lane, occupied, digits_number, sum, tapped, taps, doubled, carry_free_words, tap_word, fold_top, folded, lane_product, tabulate, sum_words, words_at, butterfly_sum, butterfly_at, butterflies_at, transform_at, field_by}
+use lib.Seq.{paste}
+use Rattle.poly_values.specs.Planes.{binary_digit, lane, occupied, digits_number, sum, tapped, taps, doubled, carry_free_words, tap_word, fold_top, folded, lane_product, tabulate, sum_words, words_at, butterfly_sum, butterfly_at, butterflies_at, field_by}
 
 -- ---- digits
 

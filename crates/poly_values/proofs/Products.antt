@@ -5,13 +5,13 @@
 -- Assumes nothing.
 use mathlib.Core.Path.{◌≡◌, refl, sym, ap, ap₂, ◌∙◌}
 use mathlib.Core.List.{List, [], ◌∷◌, ◌++◌, map}
-use Prim.Native.Nat.{ℕ, zero, suc, ◌+◌, ◌*◌, ◌-◌, ◌<◌, ◌≤◌}
-use native.Mathlib.Nat.{add-zero, zero-add}
+use Prim.Native.Nat.{ℕ, zero, suc, ◌+◌, ◌<◌}
+use native.Mathlib.Nat.{zero-add}
 use native.Mathlib.Decide.{ℕ_discrete}
 use native.Mathlib.Omega.{arith}
 use native.Mathlib.Numerals.{add-one}
 use lib.Bits.{bit_and, bit_xor, xor_zero_r, and_zero_r}
-use lib.ListN.{get_or, length, take, drop, set, replicate, length-set, length-take, length-map, drop_of_length-le}
+use lib.ListN.{get_or, length, take, drop, set, replicate, length-set, length-map, drop_of_length-le}
 use lib.Seq.{take_all, ext_get_or, get_or-take, get_or-set_same, get_or-set_other, drop-cons, length-take-le}
 use Rattle.field.proofs.Xor.{xor_assoc}
 use Rattle.poly_values.specs.Planes.{sum, pair_words, words_at, carry_free_words, tap_word, fold_top, folded, lane_product, taps11}

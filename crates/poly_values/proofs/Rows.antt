@@ -5,15 +5,15 @@
 --   length-transform, length-flat, flat_append   lengths and parts of rows
 -- Assumes nothing.
 use mathlib.Core.Path.{◌≡◌, refl, sym, ap, ap₂, ◌∙◌, subst}
-use mathlib.Core.List.{List, [], ◌∷◌, ◌++◌, map, append_assoc, append-nil}
-use Prim.Native.Nat.{ℕ, zero, suc, ◌+◌, ◌-◌, ◌*◌, ◌^◌, ◌≤◌, ◌<◌}
+use mathlib.Core.List.{List, [], ◌∷◌, ◌++◌, append_assoc, append-nil}
+use Prim.Native.Nat.{ℕ, zero, suc, ◌+◌, ◌*◌, ◌^◌, ◌≤◌}
 use native.Mathlib.Nat.{pow-suc, suc-mul, zero-mul, add-mul}
 use native.Mathlib.Omega.{arith}
 use lib.ListN.{take-append-drop, get_or, length, take, drop, length-append, length-take, length-drop, length-map, drop_of_length-le}
 use lib.Seq.{length-take-le, take_at, drop_at, take_all, take-suc, drop-cons, paste, get_or-append-add}
 use Rattle.algebra.specs.Field.{Ops}
 use Rattle.algebra.specs.Polynomial.{add}
-use Rattle.poly_values.specs.Transform.{Mults, leaf, node, width, scaled, lower, transform}
+use Rattle.poly_values.specs.Transform.{width, scaled, lower, transform}
 use Rattle.poly_values.specs.Planes.{sum, lane_product, tabulate, sum_words, words_at, butterfly_sum, butterfly_at, butterflies_at, transform_at, plane_ops, flat, tree_of}
 use Rattle.algebra.specs.Trial.{All}
 use Rattle.poly_values.proofs.Image.{all_take, all_drop}

@@ -6,21 +6,20 @@
 -- Assumes nothing.
 use mathlib.Core.Path.{◌≡◌, refl, sym, ap, ap₂, ◌∙◌, subst}
 use mathlib.Core.Bool.{Bool, true}
-use mathlib.Core.List.{List, [], ◌∷◌, map}
-use Prim.Native.Nat.{ℕ, zero, suc, ◌+◌, ◌*◌, ◌/◌, ◌%◌, ◌-◌, ◌^◌, ◌≤◌, ◌<◌}
+use mathlib.Core.List.{List, [], ◌∷◌}
+use Prim.Native.Nat.{ℕ, zero, suc, ◌+◌, ◌*◌, ◌/◌, ◌%◌, ◌^◌, ◌≤◌, ◌<◌}
 use native.Mathlib.Decide.{ℕ_discrete}
 use native.Mathlib.Nat.{zero-mul, one-mul, mul_comm, suc-mul, zero-add, pow-suc, div-div-eq-div-mul, div-one, div-eq_of_lt, add-zero}
 use native.Mathlib.Omega.{arith}
 use lib.Pow.{pow_pos}
-use lib.Bits.{bit_xor, xor_comm, xor_zero_r}
+use lib.Bits.{bit_xor, xor_zero_r}
 use lib.Dec.{T, eqb, eqb→eq}
 use lib.ListN.{get_or, length, drop, replicate, length-replicate, drop_of_length-le}
 use lib.Seq.{drop-cons, drop-drop, get_or-drop}
-use Rattle.algebra.specs.Polynomial.{Below}
-use Rattle.field.specs.Field.{Field, size, cut, mul}
+use Rattle.field.specs.Field.{Field, cut, mul}
 use Rattle.field.proofs.Digits.{bit-cases}
 use Rattle.field.proofs.Table.{both_true, both_true-left, both_true-right}
-use Rattle.poly_values.specs.Planes.{binary_digit, lane, digits_number, sum, tapped, taps, doubled, tabulate, sum_words, doubled_words, spread_words, words_at, field_by, Multiple, Spread, Mixed, mix_at, taps11}
+use Rattle.poly_values.specs.Planes.{binary_digit, lane, tapped, taps, doubled, tabulate, sum_words, doubled_words, spread_words, words_at, field_by, Multiple, Spread, Mixed, mix_at, taps11}
 use Rattle.poly_values.proofs.Lists.{length-tabulate, tabulate-same}
 use Rattle.poly_values.proofs.Planes.{BinaryDigits, lane-lt, lane-sum, lane-zero, lane-doubled, mul-step, mul-none, sum-words}
 

@@ -5,17 +5,17 @@
 --   two_from, two-turn         the vectors of two blocks, one after the other
 -- Assumes nothing.
 use mathlib.Core.Path.{◌≡◌, refl, sym, ap, ap₂, ◌∙◌, subst}
-use mathlib.Core.List.{List, [], ◌∷◌, ◌++◌, append_assoc}
-use Prim.Native.Nat.{ℕ, zero, suc, ◌+◌, ◌*◌, ◌-◌, ◌^◌, ◌<◌, ◌≤◌}
+use mathlib.Core.List.{List, ◌++◌, append_assoc}
+use Prim.Native.Nat.{ℕ, suc, ◌+◌, ◌*◌, ◌-◌, ◌^◌, ◌<◌, ◌≤◌}
 use native.Mathlib.Nat.{suc-mul, mul-le-mul_right}
 use native.Mathlib.Decide.{ℕ_discrete, dec_lt}
 use native.Mathlib.Omega.{arith}
 use lib.Bits.{bit_xor}
-use lib.ListN.{get_or, length, take, drop, length-take, get_or-append}
+use lib.ListN.{get_or, length, take, drop, get_or-append}
 use lib.Seq.{paste, length-paste, drop-paste, get_or-take, get_or-drop, length-take-le, take_all}
-use Rattle.field.specs.Field.{Field, mul}
+use Rattle.field.specs.Field.{mul}
 use Rattle.field.proofs.Ring.{FullDegree, mul_comm}
-use Rattle.poly_values.specs.Planes.{lane, words_at, tabulate, sum_words, spread_words, field_by, Multiple, Spread, First, Firsts, TwoBlocks}
+use Rattle.poly_values.specs.Planes.{lane, words_at, sum_words, spread_words, field_by, Multiple, Spread, First, Firsts, TwoBlocks}
 use Rattle.poly_values.proofs.Planes.{lane-sum, sum-words}
 use Rattle.poly_values.proofs.Rows.{words-at}
 use Rattle.poly_values.proofs.Lists.{length-tabulate, tabulate-below}

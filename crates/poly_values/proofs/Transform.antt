@@ -6,15 +6,14 @@
 -- Assumes nothing.
 use mathlib.Core.Path.{◌≡◌, refl, sym, ap, ap₂, ◌∙◌}
 use mathlib.Core.List.{List, [], ◌∷◌, ◌++◌, map, map-append}
-use Prim.Native.Nat.{ℕ, zero, suc, ◌+◌, ◌*◌, ◌^◌}
+use Prim.Native.Nat.{ℕ, zero, suc, ◌+◌, ◌^◌}
 use native.Mathlib.Omega.{arith}
 use native.Mathlib.Nat.{pow-suc}
-use lib.ListN.{get_or, length, take, drop, length-take, length-drop, length-map, length-append}
+use lib.ListN.{get_or, length, take, drop, length-take, length-drop, length-map}
 use Rattle.algebra.specs.Field.{Ops, Laws}
 use Rattle.algebra.specs.Polynomial.{add}
 use Rattle.algebra.proofs.Elements as S
-use Rattle.algebra.proofs.Evaluation as P
-use Rattle.poly_values.specs.Transform.{Level, Mults, width, Additive, Vanishes, Levels, points, value, scaled, lower, transform, mults}
+use Rattle.poly_values.specs.Transform.{Level, width, Additive, Vanishes, Levels, points, value, scaled, lower, transform, mults}
 
 module _ {K : Type 0} {F : Ops K} (laws : Laws F) where
   infixl 60 ◌⊕◌

@@ -4,13 +4,12 @@ use mathlib.Core.Path.{◌≡◌, refl, sym, ap, ◌∙◌}
 use mathlib.Core.List.{List, map}
 use native.Mathlib.Numerals.{add-one}
 use native.Mathlib.Omega.{arith}
-use Prim.Native.Nat.{ℕ, suc, ◌-◌, ◌≤◌}
+use Prim.Native.Nat.{ℕ}
 use lib.Bits.{bit_and, bit_xor}
-use lib.ListN.{get_or, length, take, set, length-set, length-map}
+use lib.ListN.{get_or, take, set, length-set, length-map}
 use lib.Seq.{take_all}
 use Rattle.poly_values.specs.Planes.{sum}
 use Rattle.poly_values.proofs.Products.{map-word, row-turn}
-use borrow.Author.Rules.{rules}
 use Rattle.poly_values.proofs.add_masked.Goals as goal
 
 pub loop-j-init : goal.loop-j-init
@@ -33,12 +32,12 @@ pub loop-j-smaller : goal.loop-j-smaller
 loop-j-smaller c = omega arith
 
 pub loop-j-preserved : goal.loop-j-preserved
-loop-j-preserved c = let l = c.loop-j in let s = c in let u = map (bit_and s.args.w) s.args.t3 in (
+loop-j-preserved c = let l = c.loop-j in let s = c in let u = map (bit_and s.args.w) s.args.b in (
   omega arith,
   simp length-set l.invariant.1,
-  ap (λ (x : List ℕ). set x l.j (bit_xor (bit_and s.args.w (get_or s.args.t3 l.j 0)) (get_or x l.j 0))) l.invariant.2
-      ∙ ap (λ (e : ℕ). set (sum (take l.j u) s.args.t.now) l.j (bit_xor e (get_or (sum (take l.j u) s.args.t.now) l.j 0))) (sym (map-word s.args.w s.args.t3 l.j (omega arith)))
-      ∙ row-turn u s.args.t.now l.j (omega (arith, length-map s.args.t3 (bit_and s.args.w))) (omega arith)
+  ap (λ (x : List ℕ). set x l.j (bit_xor (bit_and s.args.w (get_or s.args.b l.j 0)) (get_or x l.j 0))) l.invariant.2
+      ∙ ap (λ (e : ℕ). set (sum (take l.j u) s.args.t.now) l.j (bit_xor e (get_or (sum (take l.j u) s.args.t.now) l.j 0))) (sym (map-word s.args.w s.args.b l.j (omega arith)))
+      ∙ row-turn u s.args.t.now l.j (omega (arith, length-map s.args.b (bit_and s.args.w))) (omega arith)
       ∙ ap (λ (n : ℕ). sum (take n u) s.args.t.now) (sym (add-one l.j)),
 )
 
@@ -46,5 +45,5 @@ pub shape_of-t : goal.shape_of-t
 shape_of-t c = c.loop-j.invariant.1
 
 pub returns : goal.returns
-returns c = let l = c.loop-j in let s = c in let u = map (bit_and s.args.w) s.args.t3 in let done : l.j ≡ 11 = omega arith in
-    l.invariant.2 ∙ ap (λ (n : ℕ). sum (take n u) s.args.t.now) done ∙ ap (λ (x : List ℕ). sum x s.args.t.now) (take_all 11 u (omega (arith, length-map s.args.t3 (bit_and s.args.w))))
+returns c = let l = c.loop-j in let s = c in let u = map (bit_and s.args.w) s.args.b in let done : l.j ≡ 11 = omega arith in
+    l.invariant.2 ∙ ap (λ (n : ℕ). sum (take n u) s.args.t.now) done ∙ ap (λ (x : List ℕ). sum x s.args.t.now) (take_all 11 u (omega (arith, length-map s.args.b (bit_and s.args.w))))

@@ -4,11 +4,9 @@ use mathlib.Core.Path.{◌≡◌, refl, sym, ap, ◌∙◌}
 use mathlib.Core.List.{List}
 use native.Mathlib.Numerals.{add-one}
 use native.Mathlib.Omega.{arith}
-use borrow.Author.Rules.{rules}
-use Prim.Native.Nat.{ℕ, ◌+◌, ◌-◌, ◌≤◌}
+use Prim.Native.Nat.{ℕ, ◌+◌}
 use lib.Bits.{bit_and, bit_xor}
-use lib.ListN.{get_or, length, take, set, length-set}
-use lib.Seq.{take_all}
+use lib.ListN.{get_or, take, set, length-set}
 use Rattle.poly_values.specs.Planes.{sum, pair_words}
 use Rattle.poly_values.proofs.Lists.{length-tabulate, get_d_tabulate}
 use Rattle.poly_values.proofs.Products.{row-turn}
@@ -42,8 +40,8 @@ loop-j-smaller c = omega arith
 pub loop-j-preserved : goal.loop-j-preserved
 loop-j-preserved c = let l = c.loop-j in
     let s = c in
-    let at : ℕ → ℕ = λ k. bit_xor (bit_and s.args.v (get_or s.args.t4 (k + 1) 0)) (bit_and s.args.w (get_or s.args.t4 k 0)) in
-    let u = pair_words 12 s.args.v s.args.w s.args.t4 in (
+    let at : ℕ → ℕ = λ k. bit_xor (bit_and s.args.v (get_or s.args.b (k + 1) 0)) (bit_and s.args.w (get_or s.args.b k 0)) in
+    let u = pair_words 12 s.args.v s.args.w s.args.b in (
       omega arith,
       simp length-set l.invariant.1,
       ap (λ (x : List ℕ). set x l.j (bit_xor (at l.j) (get_or x l.j 0))) l.invariant.2
@@ -59,4 +57,4 @@ pub returns : goal.returns
 returns c = let l = c.loop-j in
     let s = c in
     let done : l.j ≡ 12 = omega arith in
-    l.invariant.2 ∙ ap (λ (n : ℕ). sum (take n (pair_words 12 s.args.v s.args.w s.args.t4)) s.args.t.now) done
+    l.invariant.2 ∙ ap (λ (n : ℕ). sum (take n (pair_words 12 s.args.v s.args.w s.args.b)) s.args.t.now) done

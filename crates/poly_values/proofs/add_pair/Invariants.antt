@@ -1,17 +1,9 @@
 -- `poly_values::add_pair` meets its contract: j words are added.
 -- Assumes nothing.
-use mathlib.Core.Path.{◌≡◌, refl, sym, ap, ◌∙◌}
-use mathlib.Core.List.{List}
-use native.Mathlib.Numerals.{add-one}
-use native.Mathlib.Omega.{arith}
-use borrow.Author.Rules.{rules}
-use Prim.Native.Nat.{ℕ, ◌+◌, ◌-◌, ◌≤◌}
-use lib.Bits.{bit_and, bit_xor}
-use lib.ListN.{get_or, length, take, set, length-set}
-use lib.Seq.{take_all}
+use mathlib.Core.Path.{◌≡◌}
+use Prim.Native.Nat.{◌-◌, ◌≤◌}
+use lib.ListN.{length, take}
 use Rattle.poly_values.specs.Planes.{sum, pair_words}
-use Rattle.poly_values.proofs.Lists.{length-tabulate, get_d_tabulate}
-use Rattle.poly_values.proofs.Products.{row-turn}
 use Rattle.poly_values.proofs.add_pair.Given as goal
 
 abbrev pub invariant-loop-j : goal.invariant-loop-j

@@ -1,19 +1,10 @@
 -- `poly_values::add_rows` meets its contract: the rows of the digits from i up are added.
 -- Assumes nothing.
-use mathlib.Core.Path.{◌≡◌, refl, sym, ap, ap₂, ◌∙◌}
-use mathlib.Core.List.{List, ◌++◌, map}
-use native.Mathlib.Omega.{arith}
-use native.Mathlib.Numerals.{add-one}
-use Prim.Native.Nat.{ℕ, suc, ◌+◌, ◌-◌, ◌%◌, ◌≤◌, ◌<◌}
-use lib.Bits.{bit_and}
-use lib.ListN.{get_or, length, take, drop, replicate, length-drop}
-use Rattle.poly_values.specs.Planes.{sum, pair_words, carry_free_words, words_at}
-use Rattle.poly_values.proofs.Tail.{lent-tail, back}
-use Rattle.poly_values.proofs.Products.{rows-from, rows-turn, rows-pair, vector-word-at, padded-middle}
-use borrow.Author.Rules.{rules}
-use Rattle.poly_values.proofs.add_pair.Reads as add-pair-reads
-use Rattle.poly_values.proofs.add_masked.Reads as add-masked-reads
-use Rattle.poly_values.proofs.between_zeros.Reads as between-zeros-reads
+use mathlib.Core.Path.{◌≡◌}
+use mathlib.Core.List.{◌++◌}
+use Prim.Native.Nat.{◌%◌, ◌≤◌}
+use lib.ListN.{length, take, drop, replicate}
+use Rattle.poly_values.specs.Planes.{carry_free_words, words_at}
 use Rattle.poly_values.proofs.add_rows.Given as goal
 
 abbrev pub invariant-loop-i : goal.invariant-loop-i

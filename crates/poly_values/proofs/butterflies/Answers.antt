@@ -3,16 +3,12 @@
 use mathlib.Core.Path.{◌≡◌, refl, sym, ap, ◌∙◌}
 use native.Mathlib.Numerals.{add-one}
 use native.Mathlib.Omega.{arith}
-use borrow.Author.Rules.{rules}
-use Prim.Native.Nat.{◌+◌, ◌*◌, ◌-◌, ◌≤◌}
+use Prim.Native.Nat.{◌*◌}
 use mathlib.Core.List.{◌++◌}
-use lib.ListN.{length, take, length-drop}
+use lib.ListN.{take, length-drop}
 use Rattle.poly_values.specs.Planes.{taps11, words_at, butterfly_at, butterflies_at}
 use Rattle.poly_values.proofs.Tail.{lent-tail, back}
 use Rattle.poly_values.proofs.Planes.{butterflies-turn}
-use Rattle.poly_values.proofs.butterflies.Reads as reads
-use Rattle.poly_values.proofs.butterflies.Lts as lts
-use Rattle.poly_values.proofs.butterfly.Reads as butterfly-reads
 use Rattle.poly_values.proofs.butterflies.Goals as goal
 
 pub loop-w-init : goal.loop-w-init

@@ -2,11 +2,6 @@
 -- Assumes nothing.
 use Rattle.poly_values.specs.Planes.{taps11, words_at}
 use Rattle.poly_values.proofs.Planes.{butterfly-from}
-use borrow.Author.Rules.{rules}
-use Rattle.poly_values.proofs.lane_product.Reads as lane-product-reads
-use Rattle.poly_values.proofs.put_vector.Reads as put-vector-reads
-use Rattle.poly_values.proofs.sum.Reads as sum-reads
-use Rattle.poly_values.proofs.vector.Reads as vector-reads
 use Rattle.poly_values.proofs.butterfly.Goals as goal
 
 pub returns : goal.returns

@@ -1,14 +1,8 @@
 -- `poly_values::first` meets its contract: one butterfly of two coefficients.
 -- Assumes nothing.
-use native.Mathlib.Omega.{arith}
 use Rattle.poly_values.specs.Planes.{taps11}
 use Rattle.poly_values.proofs.Multipliers.{monic11}
 use Rattle.poly_values.proofs.Starting.{first-from}
-use borrow.Author.Rules.{rules}
-use Rattle.poly_values.proofs.multiple.Reads as multiple-reads
-use Rattle.poly_values.proofs.put_vector.Reads as put-vector-reads
-use Rattle.poly_values.proofs.spread.Reads as spread-reads
-use Rattle.poly_values.proofs.sum.Reads as sum-reads
 use Rattle.poly_values.proofs.first.Goals as goal
 
 pub returns : goal.returns

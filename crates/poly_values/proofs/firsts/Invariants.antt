@@ -1,15 +1,7 @@
 -- `poly_values::firsts` meets its contract: w butterflies are done.
 -- Assumes nothing.
-use mathlib.Core.Path.{◌≡◌, refl, subst}
-use native.Mathlib.Numerals.{add-one}
-use native.Mathlib.Omega.{arith}
-use Prim.Native.Nat.{ℕ, ◌+◌, ◌*◌, ◌-◌, ◌≤◌}
-use lib.ListN.{length}
-use Rattle.algebra.proofs.StaysBelow.{below_at}
+use Prim.Native.Nat.{◌-◌, ◌≤◌}
 use Rattle.poly_values.specs.Planes.{taps11, Firsts}
-use Rattle.poly_values.proofs.Starting.{firsts-from, firsts-turn}
-use borrow.Author.Rules.{rules}
-use Rattle.poly_values.proofs.first.Reads as first_reads
 use Rattle.poly_values.proofs.firsts.Given as goal
 
 abbrev pub invariant-loop-w : goal.invariant-loop-w

@@ -3,12 +3,11 @@
 use mathlib.Core.Path.{◌≡◌, refl, sym, ap, ◌∙◌}
 use mathlib.Core.List.{List}
 use native.Mathlib.Omega.{arith}
-use Prim.Native.Nat.{ℕ, suc, ◌+◌, ◌-◌, ◌≤◌}
-use lib.ListN.{length, take, length-set}
+use Prim.Native.Nat.{ℕ, suc, ◌+◌, ◌-◌}
+use lib.ListN.{take, length-set}
 use lib.Seq.{take_all}
-use Rattle.poly_values.specs.Planes.{taps11, folded, fold_top}
+use Rattle.poly_values.specs.Planes.{taps11, folded}
 use Rattle.poly_values.proofs.Products.{fold-turn}
-use borrow.Author.Rules.{rules}
 use Rattle.poly_values.proofs.fold.Goals as goal
 
 pub loop-k-init : goal.loop-k-init

@@ -1,14 +1,9 @@
 -- `poly_values::fold` meets its contract: the words from 11 + k up are taken back.
 -- Assumes nothing.
-use mathlib.Core.Path.{◌≡◌, refl, sym, ap, ◌∙◌}
-use mathlib.Core.List.{List}
-use native.Mathlib.Omega.{arith}
-use Prim.Native.Nat.{ℕ, suc, ◌+◌, ◌-◌, ◌≤◌}
-use lib.ListN.{length, take, length-set}
-use lib.Seq.{take_all}
-use Rattle.poly_values.specs.Planes.{taps11, folded, fold_top}
-use Rattle.poly_values.proofs.Products.{fold-turn}
-use borrow.Author.Rules.{rules}
+use mathlib.Core.Path.{◌≡◌}
+use Prim.Native.Nat.{◌+◌, ◌≤◌}
+use lib.ListN.{length, take}
+use Rattle.poly_values.specs.Planes.{taps11, folded}
 use Rattle.poly_values.proofs.fold.Given as goal
 
 abbrev pub invariant-loop-k : goal.invariant-loop-k

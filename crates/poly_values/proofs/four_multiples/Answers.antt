@@ -1,15 +1,10 @@
 -- `poly_values::four_multiples` meets its contract: the multiples are stored one after the other.
 -- Assumes nothing.
-use mathlib.Core.Path.{refl}
 use native.Mathlib.Omega.{arith}
-use borrow.Author.Rules.{rules}
 use Rattle.poly_values.specs.Planes.{taps11}
 use Rattle.poly_values.proofs.Scalars.{digits11}
 use Rattle.poly_values.proofs.Multipliers.{monic11}
 use Rattle.poly_values.proofs.Windows.{four-from}
-use Rattle.poly_values.proofs.doubled.Reads as doubled-reads
-use Rattle.poly_values.proofs.put_vector.Reads as put-vector-reads
-use Rattle.poly_values.proofs.sum.Reads as sum-reads
 use Rattle.poly_values.proofs.four_multiples.Goals as goal
 
 pub returns : goal.returns

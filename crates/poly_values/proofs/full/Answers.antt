@@ -1,6 +1,6 @@
 -- `poly_values::full` meets its contract: the first butterflies, then the transforms of the halves.
 -- Assumes nothing.
-use mathlib.Core.Path.{◌≡◌, refl, sym, ap, ◌∙◌, subst}
+use mathlib.Core.Path.{refl, sym, subst}
 use native.Mathlib.Numerals.{add-one}
 use native.Mathlib.Omega.{arith}
 use Prim.Native.Nat.{ℕ}
@@ -10,14 +10,6 @@ use Rattle.poly_values.specs.Planes.{taps11, RowStarted}
 use Rattle.poly_values.proofs.Scalars.{digits11}
 use Rattle.poly_values.proofs.Multipliers.{monic11}
 use Rattle.poly_values.proofs.Levels.{pair-from, start-full}
-use borrow.Author.Rules.{rules}
-use Rattle.poly_values.proofs.firsts.Reads as firsts-reads
-use Rattle.poly_values.proofs.multiple.Reads as multiple-reads
-use Rattle.poly_values.proofs.put_vector.Reads as put-vector-reads
-use Rattle.poly_values.proofs.run_halves.Reads as run-halves-reads
-use Rattle.poly_values.proofs.spread.Reads as spread-reads
-use Rattle.poly_values.proofs.sum.Reads as sum-reads
-use Rattle.poly_values.proofs.vector.Reads as vector-reads
 use Rattle.poly_values.proofs.full.Goals as goal
 
 pub vector-e-requires : goal.vector-e-requires
@@ -36,12 +28,12 @@ pub put_vector-requires : goal.put_vector-requires
 put_vector-requires c = let s = c in let b = pow_pos s.args.k in let t = s.requires.1.room in let e = s.requires.0 in let l = c.firsts.ensures.long in omega arith
 
 pub put_vector-requires-2 : goal.put_vector-requires-2
-put_vector-requires-2 c = let s = c in let b = pow_pos s.args.k in let t = s.requires.1.room in let e = s.requires.p in let l = c.firsts.ensures.long in let r = c.put_vector.auto.p in omega arith
+put_vector-requires-2 c = let s = c in let b = pow_pos s.args.k in let t = s.requires.1.room in let e = s.requires.0 in let l = c.firsts.ensures.long in let r = c.put_vector.auto.p in omega arith
 
 pub returns : goal.returns
 returns c = let s = c in
     let b = pow_pos s.args.k in let t = s.requires.1.many in let e = s.requires.0 in
-    subst (λ (n : ℕ). RowStarted taps11 n s.args.g.now s.args.x s.args.a.now s.args.p.now c.run_halves.new.1.0) (sym (add-one s.args.k))
+    subst (λ (n : ℕ). RowStarted taps11 n s.args.g.now s.args.x s.args.a.now s.args.p.now c.run_halves.new.p) (sym (add-one s.args.k))
     (start-full taps11 digits11 monic11
     (pair-from taps11 digits11 monic11 (omega arith) (below_at _ s.args.a.now s.requires.1.small s.args.h (omega arith)) c.multiple-c.ensures c.sum-s.ensures c.spread-b.ensures c.sum-t.ensures)
     s.args.k s.args.h s.requires.0 s.requires.1.many refl c.vector-e.ensures (sym s.requires.1.room) c.firsts.ensures c.put_vector.ensures c.put_vector-2.ensures c.run_halves.ensures)

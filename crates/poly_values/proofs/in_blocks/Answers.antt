@@ -9,12 +9,6 @@ use Rattle.algebra.proofs.StaysBelow.{take_below, drop-below}
 use Rattle.poly_values.proofs.Tail.{lent-tail}
 use Rattle.poly_values.proofs.Finishing.{blocks-read}
 use borrow.Author.Rules.{rules}
-use Rattle.poly_values.proofs.coefficient.Reads as coefficient-reads
-use Rattle.poly_values.proofs.columns11.Reads as columns11-reads
-use Rattle.poly_values.proofs.mixed.Reads as mixed-reads
-use Rattle.poly_values.proofs.read_lanes.Reads as read-lanes-reads
-use Rattle.poly_values.proofs.sum.Reads as sum-reads
-use Rattle.poly_values.proofs.upper_columns11.Reads as upper-columns11-reads
 use Rattle.poly_values.proofs.in_blocks.Goals as goal
 
 pub columns11-lower-requires : goal.columns11-lower-requires

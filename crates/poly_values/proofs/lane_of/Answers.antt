@@ -1,7 +1,7 @@
 -- `poly_values::lane_of` meets its contract: the digits from word i up are read.
 -- Assumes nothing.
-use mathlib.Core.Path.{◌≡◌, refl, sym, ap, ◌∙◌}
-use Prim.Native.Nat.{suc, ◌+◌, ◌*◌, ◌-◌, ◌/◌, ◌%◌, ◌^◌, ◌≤◌, ◌<◌, ℕ}
+use mathlib.Core.Path.{◌≡◌, sym, ap, ◌∙◌}
+use Prim.Native.Nat.{suc, ◌-◌, ◌^◌, ◌≤◌, ◌<◌, ℕ}
 use mathlib.Core.List.{List}
 use lib.Pow.{pow_mono}
 use native.Mathlib.Omega.{arith}
@@ -22,25 +22,25 @@ small v l {i} {r} n h e =
 
 pub loop-i-init : goal.loop-i-init
 unfolding lane
-loop-i-init c = (omega arith, sym (ap (lane c.args.l) (drop_of_length-le c.args.t1 {i = 11} (omega arith))))
+loop-i-init c = (omega arith, sym (ap (lane c.args.l) (drop_of_length-le c.args.v {i = 11} (omega arith))))
 
 pub overflow_sub-i : goal.overflow_sub-i
 overflow_sub-i c = omega arith
 
 pub overflow_mul-r : goal.overflow_mul-r
-overflow_mul-r c = let h = small c.args.t1 c.args.l {i = c.loop-i.i} (omega arith) (omega arith) c.loop-i.invariant.1 in search rules
+overflow_mul-r c = let h = small c.args.v c.args.l {i = c.loop-i.i} (omega arith) (omega arith) c.loop-i.invariant.1 in search rules
 
 pub bounds-v-i : goal.bounds-v-i
 bounds-v-i c = omega arith
 
 pub overflow_add-r : goal.overflow_add-r
-overflow_add-r c = let h = small c.args.t1 c.args.l {i = c.loop-i.i} (omega arith) (omega arith) c.loop-i.invariant.1 in search rules
+overflow_add-r c = let h = small c.args.v c.args.l {i = c.loop-i.i} (omega arith) (omega arith) c.loop-i.invariant.1 in search rules
 
 pub loop-i-smaller : goal.loop-i-smaller
 loop-i-smaller c = omega arith
 
 pub loop-i-preserved : goal.loop-i-preserved
-loop-i-preserved c = let e : c.loop-i.i ≡ suc (c.loop-i.i - 1) = omega arith in (omega arith, lane-turn c.args.t1 c.args.l e (omega arith) c.loop-i.invariant.1)
+loop-i-preserved c = let e : c.loop-i.i ≡ suc (c.loop-i.i - 1) = omega arith in (omega arith, lane-turn c.args.v c.args.l e (omega arith) c.loop-i.invariant.1)
 
 pub returns : goal.returns
-returns c = let done : c.loop-i.i ≡ 0 = omega arith in c.loop-i.invariant.1 ∙ ap (λ (n : ℕ). lane c.args.l (drop n c.args.t1)) done
+returns c = let done : c.loop-i.i ≡ 0 = omega arith in c.loop-i.invariant.1 ∙ ap (λ (n : ℕ). lane c.args.l (drop n c.args.v)) done

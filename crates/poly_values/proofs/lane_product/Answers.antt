@@ -1,14 +1,10 @@
 -- `poly_values::lane_product` meets its contract: rows, and the upper words taken back.
 -- Assumes nothing.
-use mathlib.Core.Path.{◌≡◌, refl, sym, ap, ◌∙◌}
+use mathlib.Core.Path.{refl, ◌∙◌}
 use native.Mathlib.Omega.{arith}
 use Rattle.poly_values.specs.Planes.{words_at}
 use Rattle.poly_values.proofs.Lanes.{take_words}
 use Rattle.poly_values.proofs.Products.{product-from}
-use borrow.Author.Rules.{rules}
-use Rattle.poly_values.proofs.add_rows.Reads as add-rows-reads
-use Rattle.poly_values.proofs.fold.Reads as fold-reads
-use Rattle.poly_values.proofs.vector.Reads as vector-reads
 use Rattle.poly_values.proofs.lane_product.Goals as goal
 
 pub add_rows-requires : goal.add_rows-requires

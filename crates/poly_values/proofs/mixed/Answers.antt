@@ -1,16 +1,12 @@
 -- `poly_values::mixed` meets its contract: from coefficient j up the sum is done.
 -- Assumes nothing.
-use mathlib.Core.Path.{◌≡◌, refl, sym, ap, ◌∙◌, subst}
-use Prim.Native.Nat.{ℕ, suc, ◌+◌, ◌*◌, ◌-◌, ◌≤◌}
+use mathlib.Core.Path.{◌≡◌, refl, subst}
+use Prim.Native.Nat.{ℕ, suc, ◌*◌, ◌-◌}
 use native.Mathlib.Omega.{arith}
-use lib.ListN.{length, drop}
+use lib.ListN.{drop}
 use Rattle.algebra.proofs.StaysBelow.{below_at}
 use Rattle.poly_values.specs.Planes.{taps11, Mixed}
 use Rattle.poly_values.proofs.Scalars.{digits11, mixed-from, mixed-turn}
-use borrow.Author.Rules.{rules}
-use Rattle.poly_values.proofs.multiple_by_table.Reads as multiple-by-table-reads
-use Rattle.poly_values.proofs.sum.Reads as sum-reads
-use Rattle.poly_values.proofs.vector.Reads as vector-reads
 use Rattle.poly_values.proofs.mixed.Goals as goal
 
 pub loop-j-init : goal.loop-j-init

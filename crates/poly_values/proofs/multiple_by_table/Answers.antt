@@ -3,18 +3,13 @@
 -- Assumes nothing.
 use mathlib.Core.Path.{◌≡◌, refl, sym, ap, ◌∙◌, subst}
 use mathlib.Core.List.{List}
-use Prim.Native.Nat.{ℕ, suc, ◌-◌, ◌/◌, ◌%◌, ◌^◌, ◌≤◌, ◌<◌}
+use Prim.Native.Nat.{ℕ, suc, ◌-◌, ◌/◌, ◌%◌, ◌^◌, ◌<◌}
 use native.Mathlib.Nat.{div-one}
 use native.Mathlib.Omega.{arith}
 use Rattle.poly_values.specs.Planes.{taps11, words_at, Multiple, FourMultiples}
 use Rattle.poly_values.proofs.Scalars.{digits11}
 use Rattle.poly_values.proofs.Multipliers.{monic11}
 use Rattle.poly_values.proofs.Windows.{windows-turn, window-next}
-use borrow.Author.Rules.{rules}
-use Rattle.poly_values.proofs.doubled.Reads as doubled-reads
-use Rattle.poly_values.proofs.four_multiples.Reads as four-multiples-reads
-use Rattle.poly_values.proofs.sum.Reads as sum-reads
-use Rattle.poly_values.proofs.vector.Reads as vector-reads
 use Rattle.poly_values.proofs.multiple_by_table.Goals as goal
 
 four-own : {b t : List ℕ} → FourMultiples taps11 b t → FourMultiples taps11 (words_at 11 t 11) t

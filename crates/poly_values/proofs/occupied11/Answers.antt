@@ -4,8 +4,6 @@ use mathlib.Core.Path.{ap}
 use lib.Bits.{bit_or}
 use lib.ListN.{get_or}
 use Rattle.poly_values.specs.Planes.{occupied}
-use borrow.Author.Rules.{rules}
-use Rattle.poly_values.proofs.vector.Reads as vector-reads
 use Rattle.poly_values.proofs.occupied11.Goals as goal
 
 pub returns : goal.returns

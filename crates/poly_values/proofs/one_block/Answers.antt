@@ -9,16 +9,6 @@ use lib.Seq.{length-take-le}
 use Rattle.algebra.proofs.StaysBelow.{below_at}
 use Rattle.poly_values.proofs.Levels.{below-take}
 use Rattle.poly_values.proofs.Finishing.{lanes-read, lanes_small, lanes-long, lanes-front, first-vector, values_one}
-use borrow.Author.Rules.{rules}
-use Rattle.poly_values.proofs.columns11.Reads as columns11-reads
-use Rattle.poly_values.proofs.mixed.Reads as mixed-reads
-use Rattle.poly_values.proofs.multiple.Reads as multiple-reads
-use Rattle.poly_values.proofs.multipliers11.Reads as multipliers11-reads
-use Rattle.poly_values.proofs.read_lanes.Reads as read-lanes-reads
-use Rattle.poly_values.proofs.spread.Reads as spread-reads
-use Rattle.poly_values.proofs.start.Reads as start-reads
-use Rattle.poly_values.proofs.sum.Reads as sum-reads
-use Rattle.poly_values.proofs.top11.Reads as top11-reads
 use Rattle.poly_values.proofs.one_block.Goals as goal
 
 pub slice_bounds-read_lanes-end : goal.slice_bounds-read_lanes-end
@@ -29,18 +19,18 @@ read_lanes-requires c = omega (arith, length-take-le (length c.args.f.now) (repl
 
 pub multiple-c-requires : goal.multiple-c-requires
 multiple-c-requires c = let e = (lanes-read c.requires.2 c.columns11-columns.ensures c.mixed-v.ensures c.read_lanes.ensures) in
-    let a = (c.read_lanes.new.a.0 ++ drop (length c.args.f.now) (replicate 33 0)) in
+    let a = (c.read_lanes.new.a ++ drop (length c.args.f.now) (replicate 33 0)) in
     below_at _ a (lanes_small a c.mixed-v.result e c.mixed-v.ensures.long) 32 (omega (arith, lanes-long a c.mixed-v.result e))
 
 pub slice_bounds-a-end-2 : goal.slice_bounds-a-end-2
-slice_bounds-a-end-2 c = omega (arith, lanes-long (c.read_lanes.new.a.0 ++ drop (length c.args.f.now) (replicate 33 0)) c.mixed-v.result (lanes-read c.requires.2 c.columns11-columns.ensures c.mixed-v.ensures c.read_lanes.ensures))
+slice_bounds-a-end-2 c = omega (arith, lanes-long (c.read_lanes.new.a ++ drop (length c.args.f.now) (replicate 33 0)) c.mixed-v.result (lanes-read c.requires.2 c.columns11-columns.ensures c.mixed-v.ensures c.read_lanes.ensures))
 
 pub slice_bounds-start-end-2 : goal.slice_bounds-start-end-2
-slice_bounds-start-end-2 c = sym (lanes-front (c.read_lanes.new.a.0 ++ drop (length c.args.f.now) (replicate 33 0)) c.mixed-v.result (lanes-read c.requires.2 c.columns11-columns.ensures c.mixed-v.ensures c.read_lanes.ensures))
+slice_bounds-start-end-2 c = sym (lanes-front (c.read_lanes.new.a ++ drop (length c.args.f.now) (replicate 33 0)) c.mixed-v.result (lanes-read c.requires.2 c.columns11-columns.ensures c.mixed-v.ensures c.read_lanes.ensures))
 
 pub start-requires : goal.start-requires
 start-requires c = let e = (lanes-read c.requires.2 c.columns11-columns.ensures c.mixed-v.ensures c.read_lanes.ensures) in
-    let a = (c.read_lanes.new.a.0 ++ drop (length c.args.f.now) (replicate 33 0)) in
+    let a = (c.read_lanes.new.a ++ drop (length c.args.f.now) (replicate 33 0)) in
     record {
       size = refl;
       many = lanes-front a c.mixed-v.result e;
@@ -52,7 +42,7 @@ start-requires c = let e = (lanes-read c.requires.2 c.columns11-columns.ensures 
 pub returns : goal.returns
 returns c = let s = c in
     let e = (lanes-read c.requires.2 c.columns11-columns.ensures c.mixed-v.ensures c.read_lanes.ensures) in
-    let a = (c.read_lanes.new.a.0 ++ drop (length c.args.f.now) (replicate 33 0)) in
+    let a = (c.read_lanes.new.a ++ drop (length c.args.f.now) (replicate 33 0)) in
     values_one s.requires.0 s.requires.1 s.requires.2 c.columns11-columns.ensures c.top11-top.ensures c.multipliers11-g.ensures c.mixed-v.ensures e
     (first-vector (below_at _ a (lanes_small a c.mixed-v.result e c.mixed-v.ensures.long) 0 (omega (arith, lanes-long a c.mixed-v.result e))) c.spread-b.ensures c.multiple-c.ensures c.sum-x.ensures)
     c.start.ensures

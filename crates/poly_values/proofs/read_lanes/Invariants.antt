@@ -1,15 +1,10 @@
 -- `poly_values::read_lanes` meets its contract: the first i lanes are read.
 -- Assumes nothing.
-use mathlib.Core.Path.{◌≡◌, refl, sym, ap, ap₂, ◌∙◌}
-use mathlib.Core.List.{List, ◌++◌, append-nil}
-use native.Mathlib.Numerals.{add-one}
-use native.Mathlib.Omega.{arith}
-use Prim.Native.Nat.{ℕ, ◌-◌, ◌≤◌}
-use lib.ListN.{length, drop, set, length-set, drop_of_length-le}
-use Rattle.poly_values.specs.Planes.{lane, lanes}
-use Rattle.poly_values.proofs.Finishing.{lanes-turn}
-use borrow.Author.Rules.{rules}
-use Rattle.poly_values.proofs.lane_of.Reads as lane-of-reads
+use mathlib.Core.Path.{◌≡◌}
+use mathlib.Core.List.{◌++◌}
+use Prim.Native.Nat.{◌-◌, ◌≤◌}
+use lib.ListN.{length, drop}
+use Rattle.poly_values.specs.Planes.{lanes}
 use Rattle.poly_values.proofs.read_lanes.Given as goal
 
 abbrev pub invariant-loop-i : goal.invariant-loop-i

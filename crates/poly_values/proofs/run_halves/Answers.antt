@@ -1,13 +1,12 @@
 -- `poly_values::run_halves` meets its contract: each half is transformed by its own multipliers.
 -- Assumes nothing.
-use mathlib.Core.Path.{◌≡◌, refl, sym, ap, ◌∙◌}
+use mathlib.Core.Path.{◌∙◌}
 use native.Mathlib.Omega.{arith}
 use lib.Pow.{pow_pos}
-use lib.ListN.{length, length-take, length-drop, length-append}
+use lib.ListN.{length-take, length-drop}
 use Rattle.poly_values.specs.Planes.{taps11}
 use Rattle.poly_values.proofs.Halves.{halves-back-plain}
 use borrow.Author.Rules.{rules}
-use Rattle.poly_values.proofs.fourier.Reads as fourier-reads
 use Rattle.poly_values.proofs.run_halves.Goals as goal
 
 pub overflow_mul-mid : goal.overflow_mul-mid
@@ -29,12 +28,9 @@ pub fourier-requires : goal.fourier-requires
 fourier-requires c = let s = c in (s.requires.0, simp length-take (omega arith), simp (length-take, length-drop) (omega arith))
 
 pub fourier-requires-2 : goal.fourier-requires-2
-fourier-requires-2 c = let s = c in (s.requires.0, simp (length-take, length-drop) (omega (arith, c.p-1.given.1)), simp (length-take, length-drop) (omega arith))
-
-pub shape_of-p : goal.shape_of-p
-shape_of-p c = c.p-2-1.given.1 ∙ c.p-1.given.1
+fourier-requires-2 c = let s = c in (s.requires.0, simp (length-take, length-drop) (omega (arith, c.fourier.auto.p)), simp (length-take, length-drop) (omega arith))
 
 pub returns : goal.returns
 returns c =
     let s = c in
-    halves-back-plain taps11 s.args.g.now s.args.p.now s.args.k s.args.h (c.fourier.auto.1.0 ∙ simp length-take (omega arith)) c.fourier.ensures c.fourier-2.ensures
+    halves-back-plain taps11 s.args.g.now s.args.p.now s.args.k s.args.h (c.fourier.auto.p ∙ simp length-take (omega arith)) c.fourier.ensures c.fourier-2.ensures

@@ -5,17 +5,6 @@ use mathlib.Core.Path.{refl, sym, ◌∙◌}
 use native.Mathlib.Omega.{arith}
 use Rattle.algebra.proofs.StaysBelow.{below_at}
 use Rattle.poly_values.proofs.Finishing.{values-two}
-use borrow.Author.Rules.{rules}
-use Rattle.poly_values.proofs.fourier.Reads as fourier-reads
-use Rattle.poly_values.proofs.in_blocks.Reads as in-blocks-reads
-use Rattle.poly_values.proofs.multiple.Reads as multiple-reads
-use Rattle.poly_values.proofs.multipliers11.Reads as multipliers11-reads
-use Rattle.poly_values.proofs.put_vector.Reads as put-vector-reads
-use Rattle.poly_values.proofs.squares11.Reads as squares11-reads
-use Rattle.poly_values.proofs.sum.Reads as sum-reads
-use Rattle.poly_values.proofs.top11.Reads as top11-reads
-use Rattle.poly_values.proofs.two_rows.Reads as two-rows-reads
-use Rattle.poly_values.proofs.vector.Reads as vector-reads
 use Rattle.poly_values.proofs.two_blocks.Goals as goal
 
 pub in_blocks-a-requires : goal.in_blocks-a-requires
