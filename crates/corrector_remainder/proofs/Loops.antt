@@ -1,5 +1,5 @@
 -- The loops that cut digits: what each turn leaves is what lies ahead.
---   raised-arm             an arm of `raised8` and `raised5`;  beyond, only  the strength of the last
+--   raised-arm             an arm of `raised8` and `raised5`
 --   reaches-less, reaches_more, reaches-low   one number reaches another, by their two parts
 --   cut-taken, cut_left    what the answer says
 --   parts-xor              the sum of two numbers, by their two parts
@@ -22,13 +22,6 @@ use Rattle.corrector_remainder.specs.Remainder.{cut_at, lowered, lesser, lessene
 pub raised-arm : (n : ℕ) {t m v : ℕ} → t ≡ m → v ≡ generator_of m * 2 ^ (n - 11 * m) / 2
     → v ≡ generator_of t * 2 ^ (n - 11 * t) / 2
 raised-arm n {v = v} e f = subst (λ (m : ℕ). v ≡ generator_of m * 2 ^ (n - 11 * m) / 2) (sym e) f
-
--- a strength that is at least n and not n; the last
-pub beyond : {t n : ℕ} → n ≤ t → (t ≡ n → ⊥) → suc n ≤ t
-beyond h d = omega arith
-
-pub only : {t n : ℕ} → n ≤ t → t ≤ n → t ≡ n
-only a b = omega arith
 
 -- the sum of two numbers, by their two parts
 pub parts-xor : (a b c d : ℕ) → b < 2 ^ 64 → d < 2 ^ 64

@@ -41,7 +41,7 @@ const LEAVING8: u64 = 1 << 56;
 const UPPER: u64 = 1 << 24;
 
 // A remainder: lo + hi 2^64.
-#[derive(Drop)]
+#[derive(Clone, Copy)]
 pub struct Rest {
     pub lo: u64,
     pub hi: u32,
