@@ -3,21 +3,21 @@
 --   one-tests, one_told                the tests on one element that must not be 0
 --   place-tests, place-unnamed, place-told   the tests of a position
 -- Assumes nothing.
-use mathlib.Core.Path.{◌≡◌, refl, sym, ap, subst, ◌∙◌}
+use mathlib.Core.Path.{◌≡◌, refl, subst}
 use mathlib.Core.Bool.{Bool, true, false, not, ◌||◌}
 use mathlib.Core.List.{List, [], ◌∷◌}
 use mathlib.Core.Logic.{◌⊎◌, inl, inr}
 use Prim.Native.Nat.{ℕ, ◌≤◌, ◌<◌, ◌^◌}
 use native.Mathlib.Omega.{arith}
 use borrow.Author.Tests.{le-ltb, lt-ltb, le-leb, lt-leb, leb-false, eqb-false, not-false}
-use lib.Dec.{eqb, leb, ltb}
+use lib.Dec.{eqb}
 use Rattle.refusals.specs.Order.{Given, Passed}
 use Rattle.refusals.specs.Order.Given.{here, later}
 use Rattle.refusals.specs.Order.Passed.{none}
 use Rattle.field.specs.Rows.{known, IsRow}
 use Rattle.refusals.specs.Admitting.{Admits, with_test}
 use Rattle.field.specs.declared.rows.Row.{Row}
-use Rattle.refusals.specs.declared.Refusal.TheVariants.{Element, OfZero, Convention}
+use Rattle.refusals.specs.declared.Refusal.TheVariants.{OfZero}
 use Rattle.refusals.specs.declared.Admission.{Admission}
 use Rattle.refusals.specs.declared.Admission.TheVariants.{In, Out}
 use Rattle.refusals.proofs.Order.{holds, fails, passes, failed, others}
