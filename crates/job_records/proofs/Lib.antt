@@ -8,5 +8,3 @@ pub mod Coincide
 pub mod Whole
 pub mod Exactly
 pub mod Example
-mod Owning
-mod Closing

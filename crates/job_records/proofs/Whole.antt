@@ -149,7 +149,7 @@ reads-through {file} {at} pre tail {os} (one {r = r} {rs = rs} c cs) f a h =
     let g : file ≡ (pre ++ r) ++ (joined_file rs ++ tail) = f ∙ simp append_assoc in
     let b : at + length r ≡ length (pre ++ r) = rw (length-append, a) in
     let k : at + length (r ++ joined_file rs) ≡ at + length r + length (joined_file rs) = rw (length-append, add_assoc) in
-    on-behind c e (reads-through (pre ++ r) tail cs g b (subst (λ i. Reads file i os) k h))
+    on-behind c e (reads-through {at = at + length r} (pre ++ r) tail cs g b (subst (λ i. Reads file i os) k h))
 
 pub reads-joined : {rs : List (List ℕ)} → AllComplete rs → Reads (joined_file rs) 0 (outcomes_of 0 rs)
 unfolding read_here
