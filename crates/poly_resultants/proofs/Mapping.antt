@@ -9,7 +9,7 @@ use lib.ListN.{length, take, drop}
 use Rattle.algebra.specs.Polynomial.{Below}
 use Rattle.field.specs.Field.{G}
 use Rattle.poly.proofs.Parts.{part-rest}
-use Rattle.poly_resultants.specs.Maps.{evens, odds, digits, low, high, image, resultant}
+use Rattle.poly_resultants.specs.Maps.{evens, odds, digits, resultant}
 use Rattle.poly_resultants.specs.Lending.{Factors, Digits}
 use Rattle.poly_resultants.specs.Levels.{Maps, Mapped}
 use Rattle.poly_resultants.proofs.Shapes.{length_digits, length-halves, length-odds}

@@ -5,10 +5,10 @@
 --   image-below, led-image   the resultant is a polynomial with a leading coefficient
 -- Assumes nothing.
 use mathlib.Core.Path.{◌≡◌, ◌∙◌, refl, sym, ap, subst}
-use mathlib.Core.Logic.{◌≢◌, ◌⊎◌, ⊎_elim}
+use mathlib.Core.Logic.{◌≢◌, ⊎_elim}
 use mathlib.Core.Bool.{true}
 use mathlib.Core.List.{List, [], ◌∷◌, map}
-use Prim.Native.Nat.{ℕ, zero, suc, ◌-◌, ◌^◌, ◌≤◌, ◌<◌}
+use Prim.Native.Nat.{ℕ, zero, suc, ◌^◌, ◌≤◌, ◌<◌}
 use native.Mathlib.Nat.{pos_of_ne-zero}
 use native.Mathlib.Omega.{arith}
 use lib.Bits.{bit_xor, xor_lt, xor_self}
@@ -28,7 +28,7 @@ use Rattle.field.proofs.Generator.{Generated, generated, mul-inverse, zero-produ
 use Rattle.field.proofs.Ring.{ring}
 use Rattle.field.proofs.Xor.{xor-equal}
 use Rattle.field.proofs.Instance.{known-numbers}
-use Rattle.poly_resultants.specs.Maps.{evens, odds, quad, combine, digits, low, resultant, image, Led}
+use Rattle.poly_resultants.specs.Maps.{evens, odds, quad, combine, digits, resultant, image, Led}
 use Rattle.poly_resultants.proofs.Ring.{Ring, known-ring}
 use Rattle.poly_resultants.proofs.Values.{norm-of}
 use Rattle.poly_resultants.proofs.Shapes.{length_digits, led-digits, led-resultant}

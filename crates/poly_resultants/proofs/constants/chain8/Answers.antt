@@ -2,11 +2,7 @@
 -- Assumes nothing.
 use Rattle.field.proofs.Known.{row8}
 use Rattle.poly_resultants.proofs.Reaching.{chained-of, chained-at}
-use Rattle.poly_resultants.proofs.constants.chain8.Statement.{statement}
-use Rattle.poly_resultants.proofs.constants.chain8.Tie as tie
+use Rattle.poly_resultants.proofs.constants.chain8.Goals as goal
 
-returns : tie.Need-returns
+pub returns : goal.returns
 returns c = chained-at c.requires (chained-of 8 row8.degree)
-
-pub chain8-spec : {M : Type 1} → statement M
-chain8-spec = tie.close (tie.spec returns)

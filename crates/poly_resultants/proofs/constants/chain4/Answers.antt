@@ -2,11 +2,7 @@
 -- Assumes nothing.
 use Rattle.field.proofs.Known.{row4}
 use Rattle.poly_resultants.proofs.Reaching.{chained-of, chained-at}
-use Rattle.poly_resultants.proofs.constants.chain4.Statement.{statement}
-use Rattle.poly_resultants.proofs.constants.chain4.Tie as tie
+use Rattle.poly_resultants.proofs.constants.chain4.Goals as goal
 
-returns : tie.Need-returns
+pub returns : goal.returns
 returns c = chained-at c.requires (chained-of 4 row4.degree)
-
-pub chain4-spec : {M : Type 1} → statement M
-chain4-spec = tie.close (tie.spec returns)
