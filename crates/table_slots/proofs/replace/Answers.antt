@@ -1,0 +1,16 @@
+-- `table_slots::replace` meets its contract: the slots are spliced, and the head's two counts written.
+-- Assumes nothing.
+use mathlib.Core.Path.{ap}
+use Prim.Native.Nat.{◌+◌, ◌-◌, ◌/◌}
+use lib.ListN.{length, length-set, set}
+use Rattle.table_slots.specs.Slots.{count_of, taken_of, degree_at}
+use borrow.Author.Rules.{rules}
+use Rattle.table_slots.proofs.replace.Goals as goal
+
+pub bounds-table-3-2 : goal.bounds-table-3-2
+bounds-table-3-2 c = simp length-set (search rules)
+
+pub returns : goal.returns
+returns c = let k = c in
+    let l = k.args.table.now in
+    ap (λ s. set (set s 2 (count_of l - 1 + (length k.args.parts.now - degree_at l k.args.o) / 2)) 3 (taken_of l + 1)) c.splice.ensures
