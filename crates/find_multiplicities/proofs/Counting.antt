@@ -9,10 +9,10 @@
 use mathlib.Core.Path.{◌≡◌, refl, sym, ap, ap₂, ◌∙◌, subst}
 use mathlib.Core.Logic.{◌≢◌}
 use mathlib.Core.List.{List, [], ◌∷◌, ◌++◌, map}
-use Prim.Native.Nat.{ℕ, zero, suc, ◌+◌, ◌-◌, ◌^◌, ◌≤◌, ◌<◌}
+use Prim.Native.Nat.{ℕ, suc, ◌+◌, ◌-◌, ◌^◌, ◌≤◌, ◌<◌}
 use native.Mathlib.Numerals.{add-one}
 use native.Mathlib.Omega.{arith}
-use lib.ListN.{length, get_or, take, drop, replicate, set, get_or-append, length-append, length-drop, length-map}
+use lib.ListN.{length, get_or, take, drop, replicate, set, get_or-append, length-append, length-drop}
 use lib.Seq.{drop-append-add, drop-cons, drop-drop, get_or-drop, length-take-le}
 use Rattle.algebra.specs.Field.{OnNumbers}
 use Rattle.algebra.specs.Polynomial.{Below}
@@ -27,7 +27,6 @@ use Rattle.slices.proofs.Filling.{Filling, fill-from, fill_on, fill_stop}
 use Rattle.poly.specs.Monic.{TopIs}
 use Rattle.poly.proofs.Logs.{numbers_of}
 use Rattle.poly.proofs.Parts.{part_none, part-rest}
-use Rattle.input.specs.Polynomials.{PolynomialIn}
 use Rattle.input.proofs.Fields.{known-field}
 use Rattle.input.proofs.Polynomials.{nonzero-place}
 use Rattle.find_multiplicities.specs.Counting.{Countable, CountableLent, Removable, Removed, Usable}

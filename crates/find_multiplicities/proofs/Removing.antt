@@ -7,13 +7,11 @@
 use mathlib.Core.Path.{◌≡◌, refl, sym, ap, ap₂, ◌∙◌, subst}
 use mathlib.Core.Logic.{◌≢◌}
 use mathlib.Core.List.{List, [], ◌∷◌, ◌++◌}
-use Prim.Native.Nat.{ℕ, suc, ◌+◌, ◌-◌, ◌^◌, ◌≤◌, ◌<◌}
-use native.Mathlib.Nat.{add-zero}
-use native.Mathlib.Numerals.{add-one}
+use Prim.Native.Nat.{ℕ, ◌+◌, ◌-◌, ◌^◌, ◌≤◌, ◌<◌}
 use native.Mathlib.Omega.{arith}
 use borrow.Author.Tests.{eq-eqb, ne_eqb}
 use lib.ListN.{length, get_or, take, drop, length-append, length-drop, drop_of_length-le}
-use lib.Seq.{length-take-le, drop-append-add, drop_at}
+use lib.Seq.{length-take-le, drop-append-add}
 use Rattle.algebra.specs.Polynomial.{Below, eval}
 use Rattle.algebra.specs.Multiplicity.{left, left_in, multiplicity, quotient_by, times_out}
 use Rattle.algebra.proofs.Multiplicity.{turn-root, turn-none}
@@ -21,7 +19,7 @@ use Rattle.algebra.proofs.NumberMultiplicity.{quotient_by-below}
 use Rattle.field.specs.Field.{G}
 use Rattle.poly.specs.Lent.{Lent, LogRow, held, log_row}
 use Rattle.poly.specs.Division.{Divisible, divided}
-use Rattle.poly.proofs.Logs.{held-row, log-at, logs-fit, numbers_of, row-is-row}
+use Rattle.poly.proofs.Logs.{held-row, log-at, numbers_of, row-is-row}
 use Rattle.poly.proofs.Parts.{part-rest, part_none}
 use Rattle.poly.proofs.Divisions.{divided-behind, length-divided}
 use Rattle.find_multiplicities.specs.Counting.{Removable, Removed}
