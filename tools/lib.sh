@@ -6,9 +6,9 @@
 #   refuse, no_words, say, stage     what a command says on standard error
 #   have, need, unpacked, package    Debian's packages: installed, or those for x86-64 only unpacked
 #   compile, need_compiler           C for x86-64, natively or by the cross compiler: $compiler, and $cross before the names of binutils
-#   run, program_of                  built programs, natively or under the toolchain's emulator
-#   emulator, need_emulator          Debian's emulator, for shared libraries and plugins, which the toolchain's has not
-#   library, object                  proved and built where they are not built from these sources
+#   run, program_of                  built programs, natively or under Debian's emulator
+#   emulator, need_emulator          that emulator
+#   build, library, object           proved and built by the toolchain where they are not built from these sources
 set -euo pipefail
 shopt -s inherit_errexit
 self=$(realpath "$0") from=$PWD
@@ -111,16 +111,12 @@ compile() {
 # ---- running
 
 # Where the toolchain stands.
-kit() { echo "${RATTLE_HOME:-$(dirname "$(dirname "$(rt doc)")")}"; }
+kit() { dirname "$(rt doc)"; }
 
-# program_of NAME: sets $program to the words that run target/bin/NAME. A program of crates/ has the toolchain's loader; C stands by itself.
+# program_of NAME: sets $program to the words that run target/bin/NAME.
 program_of() {
-    local tools
-    tools=$(kit)/on/$(uname -m)/toolchain
-    program=()
-    [ -n "$native" ] || program=("$tools/bin/qemu-x86_64")
-    [ ! -f "$top/crates/$1/src/main.rt" ] || program+=("$tools/lib/ld-linux-x86-64.so.2" --library-path "$tools/lib")
-    program+=("$top/target/bin/$1")
+    program=("$top/target/bin/$1")
+    [ -n "$native" ] || program=("${emulator[@]}" "${program[@]}")
 }
 
 # run NAME [WORDS]: runs target/bin/NAME.
@@ -136,37 +132,19 @@ need_emulator() { [ -n "$native" ] || have qemu-user libc6-dev-amd64-cross; }
 
 # ---- building
 
-# stale FILE: it is not there, or older than a source, a spec or a proof.
-stale() { [ ! -f "$1" ] || [ -n "$(find crates crates.txt -newer "$1" \( -name '*.rt' -o -name '*.antt' -o -name crates.txt \) -print -quit)" ]; }
+# build CRATE..: static libraries and programs, proved and built by the toolchain for x86-64 where they are not built from these sources (tools/build.py).
+build() { python3 "$top/tools/build.py" "$@" >&2; }
 
-# prove WORDS: rt with these words. On standard error its line for each crate that was not proved yet; where it fails its first errors.
-prove() {
-    local log code=0
-    log=$(mktemp)
-    rt "$@" 2>&1 | tee "$log" | { grep --line-buffered '^rt: ' || true; } | { grep --line-buffered -v 'unchanged since it was last proved' || true; } >&2 || code=$?
-    [ $code = 0 ] || grep -m 10 ': error' "$log" >&2 || tail -n 30 "$log" >&2
-    rm -f "$log"
-    return $code
-}
-
-# library NAME: prints the archive of the crate NAME.
+# library NAME: prints the archive of the static library NAME.
 library() {
-    local archive=target/staticlib/lib$1.a
-    if stale "$archive"; then
-        say "proves $1 and builds $archive"
-        prove staticlib "$1"
-    fi
-    echo "$archive"
+    build "$1"
+    echo "target/staticlib/lib$1.a"
 }
 
 # object NAME: prints the object of the program NAME.
 object() {
-    local object=target/obj/$1.o
-    if stale "$object"; then
-        say "proves $1 and builds $object"
-        prove check "$1"
-    fi
-    echo "$object"
+    build "$1"
+    echo "target/obj/$1.o"
 }
 
 [ "${1:-}" != --help ] || {

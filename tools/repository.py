@@ -1,5 +1,6 @@
 """What the Python commands of tools/ and tests/ share: where things stand, which files scripts write, edits, and what the prover says of a changed crate."""
 import argparse
+import collections
 import pathlib
 import platform
 import re
@@ -33,9 +34,24 @@ def version():
     return re.search(r'^#define LOCATOR_VERSION "(.*)"$', (TOP / "include" / "locator.h").read_text(), re.M).group(1)
 
 
+Crate = collections.namedtuple("Crate", "kind uses")
+
+
+def crates():
+    """The crates, in the order of crates.txt, whose lines are `NAME: LIBRARY ..`, and `NAME staticlib: LIBRARY ..` of a static library: their kind (library, staticlib
+    or program) and the libraries that they use."""
+    found = {}
+    for line in (TOP / "crates.txt").read_text().splitlines():
+        row = re.fullmatch(r"([a-z]\w*)( +staticlib)? *:(.*)", line.partition("#")[0].rstrip())
+        if row:
+            kind = "staticlib" if row[2] else "program" if (CRATES / row[1] / "src" / "main.rt").exists() else "library"
+            found[row[1]] = Crate(kind, row[3].replace(",", " ").split())
+    return found
+
+
 def listed():
     """The crates, in the order of crates.txt."""
-    return [line.split(":")[0] for line in (TOP / "crates.txt").read_text().splitlines() if ":" in line]
+    return list(crates())
 
 
 def is_generated(path):
@@ -67,27 +83,14 @@ def edited(crate, edit):
 
 
 def copied(tree):
-    """The tree that is named, or a fresh copy of this one in a temporary folder, proved."""
+    """The tree that is named, or a fresh copy of this one in a temporary folder. What `rt check` keeps here it takes over there, so no proof is made twice."""
     if tree:
         return pathlib.Path(tree)
     fresh = pathlib.Path(tempfile.mkdtemp(prefix="umelihano-")) / "tree"
     say(f"copies the tree to {fresh}")
-    shutil.copytree(TOP, fresh, ignore=shutil.ignore_patterns("target", ".git"))
-    say("proves the copy (some ten minutes on 2 cores)")
-    subprocess.run(["rt", "check"], cwd=fresh, check=True, stdout=sys.stderr)
+    shutil.copytree(TOP, fresh, ignore=shutil.ignore_patterns("target", ".git", "out"))
+    (fresh / ".git").mkdir()  # the top of a repository
     return fresh
-
-
-def proved(*words):
-    """rt with these words, its line on each crate that was not proved yet on standard error; where it fails its first errors, and the command ends."""
-    lines = []
-    with subprocess.Popen(["rt", *words], cwd=TOP, stdout=subprocess.PIPE, stderr=subprocess.STDOUT, text=True) as run:
-        for line in run.stdout:
-            lines.append(line)
-            if line.startswith("rt: ") and "unchanged since it was last proved" not in line:
-                sys.stderr.write(line)
-    if run.returncode:
-        sys.exit("".join([line for line in lines if ": error" in line][:10] or lines[-30:]))
 
 
 def take_targets(args, choices=WIDE):
@@ -113,14 +116,15 @@ def asked(tree, crate, changed):
     try:
         for path, text in changed.items():
             (tree / path).write_text(text)
-        run = subprocess.run(["rt", "dev", crate], cwd=tree, stdout=subprocess.PIPE, stderr=subprocess.STDOUT, text=True)
+        run = subprocess.run(["rt", "check"], cwd=tree / "crates" / crate, stdout=subprocess.PIPE, stderr=subprocess.STDOUT, text=True)
     finally:
         for path, text in kept.items():
             (tree / path).write_text(text)
-    errors = [line for line in run.stdout.splitlines() if re.search(r": error|is not admitted", line)]
+    errors = [line for line in run.stdout.splitlines() if re.search(r": error|\berror\b.*: |is not admitted|: not proved", line)]
     first = errors[0].replace(f"{tree}/", "") if errors else ""
     if run.returncode == 0:
         return "SURVIVED", first
-    if any(re.search(r": error\[", line) for line in errors):
+    # what stops before any proof is of the front end, and shows nothing of a contract
+    if any(re.search(r"^error(\[|:)|: error\[", line) for line in errors):
         return "no code", first
     return ("refused" if run.returncode in (1, 3) else "no answer"), first

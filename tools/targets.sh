@@ -4,7 +4,7 @@
 #   here, targets, need_target       this machine's target; the targets; refuses an unknown one
 #   first_target "$@"                --target T as a command's first words
 #   for_target T                     sets how C is compiled, linked and run for T
-#   modules CRATE.., kept CRATE      the LLVM modules that the toolchain makes of proved crates, kept: what is proved once is not proved again
+#   kept CRATE                       the LLVM module that the toolchain makes of a proved crate, kept (tools/build.py): what is proved once is not proved again
 #   compiled CRATE T                 that module compiled for T
 #   sanitized CRATE                  the same for this machine, with AddressSanitizer over the proved code
 #   archive CRATE T, shared T        liblocator.a and its like; liblocator.so, or for wasm32 locator.wasm
@@ -42,12 +42,12 @@ for_target() {
     case $1 in
         x86-64 | x86-64-v3)
             triple=x86_64-linux-gnu packages=(gcc-x86-64-linux-gnu libc6-dev-amd64-cross)
-            words+=(--target=x86_64-unknown-linux-gnu "-march=$1")
+            words+=(--target=x86_64-unknown-linux-gnu "-march=$1" "${given_x86[@]}")
             runner=(/usr/bin/qemu-x86_64 -L /usr/x86_64-linux-gnu)
             ;;
         aarch64)
             triple=aarch64-linux-gnu packages=(gcc-aarch64-linux-gnu libc6-dev-arm64-cross)
-            words+=(--target=aarch64-unknown-linux-gnu -march=armv8-a)
+            words+=(--target=aarch64-unknown-linux-gnu -march=armv8-a -mllvm -aarch64-load-store-renaming=false)
             runner=(/usr/bin/qemu-aarch64 -L /usr/aarch64-linux-gnu)
             ;;
         armhf) # as Debian has it: ARMv7, Thumb-2, floats in registers (no call here has one)
@@ -99,84 +99,23 @@ need_runner() {
 
 # ---- the module
 
-tools_of_kit() { echo "$(kit)/on/$(uname -m)/toolchain"; }
+tools_of_kit() { echo "$(kit)/toolchain"; }
 
-# reached CRATE: the crates of this repository that it stands on, and itself.
-reached() {
-    awk -v want="$1" '
-        { at = index($0, ":"); if (at) deps[substr($0, 1, at - 1)] = substr($0, at + 1) }
-        function visit(n,    a, k, m) { if (!(n in deps) || seen[n]++) return; print n; m = split(deps[n], a, " "); for (k = 1; k <= m; k++) visit(a[k]) }
-        END { visit(want) }' crates.txt | sort
-}
-
-# content CRATE: a number for all that its module is made of: the toolchain, and what the crates that it stands on hold.
-content() {
-    local crate
-    {
-        rt version
-        uname -m
-        for crate in $(reached "$1"); do
-            grep "^$crate:" crates.txt
-            find "crates/$crate" -type f \( -name '*.rt' -o -name '*.antt' \) -exec sha256sum {} + | sort -k 2
-        done
-    } | sha256sum | cut -d ' ' -f 1
-}
-
-# kept CRATE: prints where its module is kept.
+# kept CRATE: prints where its module is kept, once `build CRATE` has made it.
 kept() { echo "target/module/$1.bc"; }
+
+# content CRATE: a number for all that its module is made of.
+content() { cat "target/module/$1.of"; }
 
 # fresh FILE CONTENT: FILE is there, and of that content.
 fresh() { [ -f "$1" ] && [ "$(cat "$1.of" 2>/dev/null)" = "$2" ]; }
 
-# view FOLDER: the kit in FOLDER, by links, with a clang that keeps the module that it is given, under its crate's name, and goes on as ever.
-view() {
-    local tools=$1/on/$(uname -m)/toolchain file
-    mkdir -p "$tools/bin"
-    for file in "$(kit)"/*; do [ "$(basename "$file")" = on ] || ln -s "$file" "$1/"; done
-    for file in "$(tools_of_kit)"/../*; do [ "$(basename "$file")" = toolchain ] || ln -s "$(realpath "$file")" "$1/on/$(uname -m)/"; done
-    ln -s "$(realpath "$(tools_of_kit)/lib")" "$tools/lib"
-    for file in "$(tools_of_kit)"/bin/*; do [ "$(basename "$file")" = clang ] || ln -s "$(realpath -s "$file")" "$tools/bin/"; done
-    cat >"$tools/bin/clang" <<END
-#!/bin/sh
-crate=\$(tr '\\0' '\\n' </proc/\$PPID/cmdline | sed -n '/^--crate-name\$/{n;p;}')
-for word; do case \$word in *.bc) cp -- "\$word" "$1/\$crate.bc" ;; esac; done
-exec "$(tools_of_kit)/bin/clang" "\$@"
-END
-    chmod +x "$tools/bin/clang"
-    chmod 755 "$1" # rt runs a program as nobody, through this view
-}
-
-# modules CRATE..: the module of each is kept. Those whose kept one is not of this content are proved and made: programs in one run of rt, which proves several at a
-# time. What is proved and what is built are the toolchain's.
-modules() {
-    local crate content view programs=() libraries=()
-    for crate; do
-        content=$(content "$crate")
-        if ! fresh "$(kept "$crate")" "$content"; then
-            if [ -f "crates/$crate/src/main.rt" ]; then programs+=("$crate"); else libraries+=("$crate"); fi
-        fi
-    done
-    [ ${#programs[@]} -gt 0 ] || [ ${#libraries[@]} -gt 0 ] || return 0
-    say "proves $(echo "${libraries[@]}" "${programs[@]}"), and keeps what the toolchain compiles"
-    view=$(mktemp -d)
-    view "$view"
-    mkdir -p target/module target/stamp
-    for crate in "${libraries[@]}"; do RATTLE_HOME=$view prove staticlib "$crate" || { rm -r "$view"; return 1; }; done
-    if [ ${#programs[@]} -gt 0 ]; then
-        (cd target/stamp && rm -f "${programs[@]}") # so that they are compiled, and not only found to be proved
-        RATTLE_HOME=$view prove check "${programs[@]}" || { rm -r "$view"; return 1; }
-    fi
-    for crate in "${libraries[@]}" "${programs[@]}"; do
-        mv "$view/$crate.bc" "$(kept "$crate")"
-        content "$crate" >"$(kept "$crate").of"
-    done
-    rm -r "$view"
-}
-
 # ---- compiled
 
-# The words that the toolchain gives its compiler (tests/machines holds what comes of them to its archive, byte for byte).
-given=(-ffunction-sections -fdata-sections -mllvm -trap-unreachable -mllvm -no-trap-after-noreturn --no-default-config -fintegrated-cc1 -O3)
+# The words that the toolchain gives its compiler (tests/machines holds what comes of them to its archive, byte for byte), and those for x86-64 alone.
+given=(-mllvm -no-trap-after-noreturn -ffunction-sections -fdata-sections -mllvm -trap-unreachable -mllvm -disable-machine-licm
+    -mllvm -disable-postra-machine-licm -mllvm -sink-common-insts=false --no-default-config -fintegrated-cc1 -fno-crash-diagnostics -O3)
+given_x86=(-mllvm -no-x86-call-frame-opt)
 
 # text CRATE T: the module as text for T: without the names of x86-64, and on machines where LLVM has no probing of the stack without that.
 text() {
@@ -184,7 +123,7 @@ text() {
     clang=$(tools_of_kit)/bin/clang
     "$clang" --target=x86_64-unknown-linux-gnu -Xclang -disable-llvm-passes -O3 -S -emit-llvm -x ir "$(kept "$1")" -o - |
         sed -e '/^target datalayout/d' -e '/^target triple/d' -e 's/ "target-cpu"="x86-64"//' |
-        if [ -n "$wide" ]; then cat; else sed -e 's/ "probe-stack"="inline-asm"//' | narrowed; fi
+        if [ -n "$wide" ]; then cat; else sed -e 's/ "probe-stack"="inline-asm"//' -e 's/ "stack-probe-size"="[0-9]*"//' | narrowed; fi
 }
 
 # narrowed: the text of a module for a machine whose pointers have 32 bits. Each exported call CALL is replaced by CALL_to, which is lent a place for the result
@@ -208,10 +147,10 @@ compiled() {
     local crate=$1 target=$2 out=target/$2/$1.o content more=()
     for_target "$target"
     if [ -f "crates/$crate/src/main.rt" ]; then more=(-fPIE -Xclang -fmerge-functions -mllvm -mergefunc-use-aliases); fi
+    build "$crate"
     content="$(content "$crate") ${words[*]} ${given[*]} ${more[*]}"
     [ -n "$wide" ] || content+=" $(declare -f narrowed | sha256sum)"
     if ! fresh "$out" "$content"; then
-        modules "$crate"
         say "compiles $crate for $target (a minute or two)"
         mkdir -p "target/$target"
         text "$crate" >"target/$target/$crate.ll"
@@ -232,9 +171,9 @@ compiled() {
 sanitized() {
     local crate=$1 out=target/$here/$1-asan.o content
     for_target "$here"
+    build "$crate"
     content="$(content "$crate") ${words[*]} ${given[*]} asan"
     if ! fresh "$out" "$content"; then
-        modules "$crate"
         say "compiles $crate with AddressSanitizer (some minutes)"
         mkdir -p "target/$here"
         text "$crate" | sed 's/^attributes #[0-9]* = { nounwind/& sanitize_address/' >"target/$here/$crate-asan.ll"
@@ -311,16 +250,17 @@ shared() {
 # bin T: where what tools/cc and rt make for T stands.
 bin() { if [ "$1" = x86-64 ]; then echo target/bin; else echo "target/$1/bin"; fi; }
 
-# os_code T: prints what a program links beside its object: the C of the toolchain's crate os, or where the toolchain has none of it the same few functions.
+# os_code T: sets $os to what a program links beside its object: the C of the toolchain's crates os and libc, or where the toolchain has none of it the same few
+# functions.
 os_code() {
     if [ "${1%-v3}" = x86-64 ]; then
-        echo "$(kit)/lib/libos_c.a"
+        os=("$(kit)/c/libos_c.a" "$(kit)/c/liblibc_c.a")
     else
         for_target "$1"
         need_cc
         mkdir -p "target/$1"
         "$cc" -O2 -std=c11 -Wall -Wextra -Werror -c tools/c/os.c -o "target/$1/os.o"
-        echo "target/$1/os.o"
+        os=("target/$1/os.o")
     fi
 }
 
@@ -331,16 +271,16 @@ program_object() {
 
 # program NAME T: prints the program of crates/NAME for T: for x86-64 the toolchain's own.
 program() {
-    local out object os
+    local out object os=()
     out=$(bin "$2")/$1
     for_target "$2"
     [ -n "$wide" ] || refuse "the programs are for machines whose pointers have 64 bits, and $2 has not"
     object=$(program_object "$1" "$2")
     if [ "$2" != x86-64 ]; then
-        os=$(os_code "$2")
+        os_code "$2"
         need_cc
         mkdir -p "target/$2/bin"
-        "$cc" -o "$out" "$object" "$os"
+        "$cc" -o "$out" "$object" "${os[@]}"
     fi
     echo "$out"
 }
@@ -348,20 +288,20 @@ program() {
 # front T: prints bin/locator of tools/install: the programs' objects, each main under a name of its own, behind tools/c/front.c, which gives an exit status.
 fronted=(roots salvage jobs sheet blocks)
 front() {
-    local target=$1 name object objects=() out call wraps=()
+    local target=$1 name object objects=() os=() out call wraps=()
     for_target "$target"
     need_cc
     mkdir -p "target/$target"
-    [ "$target" = x86-64 ] || modules "${fronted[@]}"
+    build "${fronted[@]}"
     for name in "${fronted[@]}"; do
         object=$(program_object "$name" "$target")
         "${tool}objcopy" --redefine-sym "main=${name}_main" "$object" "target/$target/$name-front.o"
         objects+=("target/$target/$name-front.o")
     done
-    objects+=("$(os_code "$target")")
+    os_code "$target"
     for call in read write rattle_arg_count rattle_arg; do wraps+=("-Wl,--wrap=$call"); done
     out=target/$target/locator
     "$cc" -O2 -std=c11 -D_POSIX_C_SOURCE=200809L -Wall -Wextra -Werror -pie -fPIE -Iinclude -Wl,-z,relro -Wl,-z,now -Wl,--gc-sections "${wraps[@]}" -o "$out" \
-        tools/c/front.c "${objects[@]}"
+        tools/c/front.c "${objects[@]}" "${os[@]}"
     echo "$out"
 }
