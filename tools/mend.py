@@ -28,9 +28,12 @@ def main():
                 new = m.group(5)
                 if new.startswith("`"):
                     fields = re.findall(r"`([^`]+)`", new)
-                    if int(m.group(4)) >= len(fields):
+                    if int(m.group(4)) < len(fields):
+                        new = fields[int(m.group(4))]
+                    elif m.group(4) == "1" and len(fields) == 1:
+                        new = fields[0]
+                    else:
                         continue
-                    new = fields[int(m.group(4))]
                 todo[m.group(1)].append((int(m.group(2)), int(m.group(3)), m.group(4), new))
         if not todo:
             break
@@ -40,6 +43,9 @@ def main():
                 lines = f.read().split("\n")
             for row, col, old, new in places:
                 line = lines[row - 1]
+                if old == "1" and re.search(r"\.(auto|new)(\.1)+\.0", line[:col + 40]):
+                    lines[row - 1] = re.sub(r"\.(auto|new)(\.1)+\.0", r".\1." + new, line)
+                    continue
                 pattern = r"\.%s(?![\w'₀-₉-])" % re.escape(old)
                 lines[row - 1] = re.sub(pattern, "." + new, line)
             with open(full, "w", encoding="utf-8") as f:
