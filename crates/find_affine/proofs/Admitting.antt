@@ -7,7 +7,7 @@ use mathlib.Core.Bool.{Bool, true, false, not, ◌||◌}
 use mathlib.Core.List.{List}
 use Prim.Native.Nat.{ℕ, ◌^◌, ◌≤◌, ◌<◌}
 use native.Mathlib.Omega.{arith}
-use borrow.Author.Tests.{eq-eqb, ne_eqb, lt-ltb, le-ltb, not-true, not-false}
+use borrow.Author.Tests.{eq-eqb, ne_eqb, lt-ltb, le-ltb}
 use lib.Dec.{eqb, ltb}
 use lib.ListN.{length}
 use Rattle.refusals.specs.Order.{Given, Passed}
@@ -30,12 +30,12 @@ module _ {m : ℕ} {row : Row} (cs : List ℕ) (constant room : ℕ) (i : IsRow 
     at_size : {b : Bool} → b ≡ all_below row.size cs → all_below (2 ^ m) cs ≡ b
     at_size h = ap (λ q. all_below q cs) (sym i.size) ∙ sym h
 
-    pub element-given : {b : Bool} → b ≡ all_below row.size cs → not b ≡ true → Given 4 (affine_tests m cs constant room)
-    element-given h f = fails (listed-on i) (fails counted (holds (ap (λ b. not b || not (ltb constant (2 ^ m))) (at_size h ∙ not-true _ f))))
+    pub element-given : {b : Bool} → b ≡ all_below row.size cs → b ≡ false → Given 4 (affine_tests m cs constant room)
+    element-given h f = fails (listed-on i) (fails counted (holds (ap (λ b. not b || not (ltb constant (2 ^ m))) (at_size h ∙ f))))
 
-    module _ {b : Bool} (h : b ≡ all_below row.size cs) (t : not b ≡ false) where
+    module _ {b : Bool} (h : b ≡ all_below row.size cs) (t : b ≡ true) where
       elements : (c : Bool) → not (ltb constant (2 ^ m)) ≡ c → (not (all_below (2 ^ m) cs) || not (ltb constant (2 ^ m))) ≡ c
-      elements c e = ap (λ b. not b || not (ltb constant (2 ^ m))) (at_size h ∙ not-false _ t) ∙ e
+      elements c e = ap (λ b. not b || not (ltb constant (2 ^ m))) (at_size h ∙ t) ∙ e
 
       pub constant-given : row.size ≤ constant → Given 4 (affine_tests m cs constant room)
       constant-given l =
