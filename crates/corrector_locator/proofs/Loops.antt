@@ -5,7 +5,7 @@
 --   conv-lt                               a coefficient of a product is an element
 --   times-only                            0 + v p
 -- Assumes nothing.
-use mathlib.Core.Path.{◌≡◌, refl, sym, ap, ap₂, ◌∙◌, subst}
+use mathlib.Core.Path.{◌≡◌, refl, sym, ap, ap₂, ◌∙◌}
 use mathlib.Core.List.{List, [], ◌∷◌, ◌++◌, map}
 use Prim.Native.Nat.{ℕ, zero, suc, ◌+◌, ◌-◌, ◌≤◌, ◌<◌}
 use native.Mathlib.Nat.{not-suc-le-zero, le_of_suc-le-suc}
@@ -13,10 +13,10 @@ use native.Mathlib.Numerals.{add-one}
 use native.Mathlib.Decide.{dec_le}
 use native.Mathlib.Omega.{arith}
 use lib.Bits.{bit_xor, xor_zero_r, xor_lt}
-use lib.ListN.{length, get_or, take, drop, replicate, length-map, length-take, length-replicate, drop_of_length-le}
+use lib.ListN.{length, get_or, take, drop, replicate, length-map, length-take, drop_of_length-le}
 use Rattle.slices.proofs.Filling.{Filling}
 use lib.Seq.{drop-cons}
-use Rattle.field.specs.Field.{field_at, mul, inverse}
+use Rattle.field.specs.Field.{field_at, mul}
 use Rattle.field.proofs.Ring.{mul-lt}
 use Rattle.corrector_code.proofs.Eleven.{gen11}
 use Rattle.field.proofs.Xor.{xor_assoc}

@@ -8,7 +8,6 @@
 use Rattle.std.specs.Prelude.{◌≡◌, List, ℕ, suc, ◌*◌, ◌<◌, get_or, length}
 use Rattle.field.specs.Field.{field_at, mul}
 use Rattle.field.specs.Tables.{Logs, Antilogs}
-use Rattle.corrector_code.specs.Eleven.{F11}
 use Rattle.corrector_code.specs.Key.{Register}
 use Rattle.corrector_locator.specs.declared.State.{State}
 
