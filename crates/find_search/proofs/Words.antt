@@ -53,8 +53,8 @@ tz_odd (suc d) q h k = go (q % 2) refl (λ p. tz_odd d (q / 2) p (omega (arith, 
 tried-skip : {m : ℕ} {f roots r : List ℕ} {x k : ℕ} (d : ℕ) → Tried m f roots x k r → x + d ≤ 2 ^ m
     → ((j : ℕ) → j < d → eval (G m) f (x + j) ≡ 0 → ⊥) → Tried m f roots (x + d) k r
 tried-skip {x = x} zero h l z = tried-next h (add-zero x)
-tried-skip {m} {f} {x = x} (suc d) h l z =
-    tried-next (tried-skip d (tried-miss h (omega arith) (λ e. z 0 (omega arith) (ap (λ (i : ℕ). eval (G m) f i) (add-zero x) ∙ e))) (omega arith)
+tried-skip {m = m} {f = f} {roots = roots} {r = r} {x = x} {k = k} (suc d) h l z =
+    tried-next (tried-skip {m = m} {f = f} {roots = roots} {r = r} {x = x + 1} d (tried-miss h (omega arith) (λ e. z 0 (omega arith) (ap (λ (i : ℕ). eval (G m) f i) (add-zero x) ∙ e))) (omega arith)
     (λ j k e. z (suc j) (omega arith) (ap (λ (i : ℕ). eval (G m) f i) (omega arith) ∙ e))) (omega arith)
 
 -- ---- the loop
