@@ -56,22 +56,22 @@ def specs():
     yield "-- The tables of field 11 that stand in place, as words of four entries. Written by tools/constant_words.py.\n"
     yield "-- Inner contracts alone cite them.\n"
     for table, (text, _) in TABLES.items():
-        yield f"--   {table + 'Words':<12}{text}\n"
-    yield "-- Assumes nothing.\nuse mathlib.Core.List.{List, [], _∷_}\nuse Prim.Native.Nat.{ℕ}\n"
+        yield f"--   {table + '_words':<13}{text}\n"
+    yield "-- Assumes nothing.\nuse Rattle.std.specs.Prelude.{List, [], ◌∷◌, ℕ}\n"
     for table, (_, words) in TABLES.items():
-        yield f"\nunfoldable pub {table}Words : List ℕ\n{table}Words =\n{listed(words)}"
+        yield f"\nunfoldable pub {table}_words : List ℕ\n{table}_words =\n{listed(words)}"
 
 
 def source():
     """The file of the functions."""
     yield "// Words of the tables, as constants in place: a match whose arms are numbers is a table in the program's read-only\n"
     yield "// part, and nothing is built at a call. Written by tools/constant_words.py.\n"
-    yield "ghost use mathlib.Core.Path.{_≡_};\nghost use Prim.Native.Nat.{_+_, _<_};\nghost use lib.ListN.{getD};\n"
-    yield "ghost use Rattle·field_constants·specs.specs.Words.{logWords, powerWords, lowWords, highWords};\n"
+    yield "ghost use Rattle.std.specs.Prelude.{◌≡◌, ◌+◌, ◌<◌, get_or};\n"
+    yield "ghost use Rattle.field_constants.specs.Words.{log_words, power_words, low_words, high_words};\n"
     for name, table, first, n in parts():
         yield f"\n// The words of {TABLES[table][0]} from {first} on.\n"
-        yield f"pub fn {name}(l: u16) -> u64\n    requires {{ ⌜ l < {n} ⌝ }}\n"
-        yield f"    ensures {{ λ r. ⌜ r ≡ getD {table}Words ({first} + l) 0 ⌝ }}\n{{\n    match l {{\n"
+        yield f"pub fn {name}(l: u16) -> u64\n    requires {{ l < {n} }}\n"
+        yield f"    ensures {{ result ≡ get_or {table}_words ({first} + l) 0 }}\n{{\n    match l {{\n"
         for i, w in enumerate(TABLES[table][1][first : first + n]):
             yield f"        {i} => {w},\n"
         yield "        _ => 0,\n    }\n}\n"
@@ -79,18 +79,14 @@ def source():
 
 def proof(name, table, first, n):
     """The proof of a function: each arm by its key, and no other number is below the bound."""
-    names = ["returns"] + [f"returns-{i + 1}" for i in range(1, n + 1)]
-    at = f"Rattle·field_constants·proofs.proofs.words.{name}"
     yield f"-- `field_constants::words::{name}` meets its contract: each arm is the word at its key.\n"
     yield "-- Written by tools/constant_words.py. Assumes nothing.\nuse mathlib.Core.Path.{refl}\n"
-    yield f"use Rattle·field_constants·specs.specs.Words.{{{table}Words}}\n"
-    yield f"use Rattle·field_constants·proofs.proofs.Arms.{{NotBelow, none-left, arm}}\nuse {at}.Statement.{{statement}}\nuse {at}.Tie as tie\n\n"
-    for i, need in enumerate(names[:-1]):
-        yield f"{need} : tie.Need-{need}\nunfolding {table}Words\n{need} c = arm {table}Words {first} (c .match .keys{i + 1}) refl\n\n"
-    yield f"{names[-1]} : tie.Need-{names[-1]}\nunfolding NotBelow\n"
-    yield f"{names[-1]} c = none-left {n} (c .before .args .l) (c .match .rest) (c .before .pre)\n\n"
-    yield f"pub {name.replace('_', '-')}-spec : {{M : Type 1}} → statement M\n{name.replace('_', '-')}-spec =\n    tie.close\n    (tie.spec\n    "
-    yield "\n    ".join(names) + ")\n"
+    yield f"use Rattle.field_constants.specs.Words.{{{table}_words}}\nuse Rattle.field_constants.proofs.Arms.{{NotBelow, none_left, arm}}\n"
+    yield f"use Rattle.field_constants.proofs.words.{name}.Goals as goal\n"
+    for i in range(n):
+        yield f"\npub returns-in-{i} : goal.returns-in-{i}\nunfolding {table}_words\nreturns-in-{i} c = arm {table}_words {first} c.in-{i}.is refl\n"
+    yield "\npub returns-in_default : goal.returns-in_default\nunfolding NotBelow\n"
+    yield f"returns-in_default c = none_left {n} c.args.l c.in_default.in_default-own.rest c.requires\n"
 
 
 def main():
@@ -100,7 +96,7 @@ def main():
     opt = args.parse_args()
     files = {HOME / "specs/Words.antt": "".join(specs()), HOME / "src/words.rt": "".join(source())}
     for part in parts():
-        files[HOME / f"proofs/words/{part[0]}/Proof.antt"] = "".join(proof(*part))
+        files[HOME / f"proofs/words/{part[0]}/Answers.antt"] = "".join(proof(*part))
     bad = [path for path, text in files.items() if not path.exists() or path.read_text() != text]
     if opt.check:
         for path in bad:
