@@ -116,7 +116,7 @@ class Function:
             parts[0] = self.steps[step]
         elif step.replace("-", "_") in self.steps:
             parts[0] = self.steps[step.replace("-", "_")]
-        return ".".join([var] + parts)
+        return re.sub(r"(\.in[-_][\w-]+)\.given\.1\b", r"\1.is", ".".join([var] + parts))
 
     def turned(self, text):
         self.vars = {"c"}

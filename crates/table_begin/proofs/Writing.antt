@@ -6,7 +6,7 @@
 use mathlib.Core.Path.{◌≡◌, sym, ap, ◌∙◌}
 use mathlib.Core.Bool.{true}
 use mathlib.Core.List.{List}
-use Prim.Native.Nat.{ℕ, ◌*◌, ◌^◌, ◌≤◌}
+use Prim.Native.Nat.{ℕ, ◌*◌, ◌≤◌}
 use native.Mathlib.Omega.{arith}
 use borrow.Author.Tests.{eqb-true, not-false}
 use lib.Dec.{eqb}
@@ -17,7 +17,6 @@ use Rattle.refusals.proofs.Order.{failed, others}
 use Rattle.field.specs.Field.{G, roots_at}
 use Rattle.algebra.proofs.Lengths.{length-monic_roots}
 use Rattle.input.specs.Limit.{limit, widest}
-use Rattle.input.specs.Polynomials.{PolynomialIn}
 use Rattle.input.proofs.Fields.{degree-within}
 use Rattle.input.proofs.Polynomials.{passed-rest}
 use Rattle.table_rules.specs.Layout.{by_factor}
