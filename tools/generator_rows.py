@@ -20,8 +20,8 @@ PARTS = [(0, 7), (7, 7), (14, 6), (20, 6), (26, 6)]
 
 # The rows of a generator: its strength, what a row returns, and the number that this holds.
 Rows = collections.namedtuple("Rows", "strength type result")
-TWO_PARTS = Rows(8, "Remainder", "remainderOf r")
-ONE_NUMBER = Rows(5, "u64", "r")
+TWO_PARTS = Rows(8, "Remainder", "remainder_of result")
+ONE_NUMBER = Rows(5, "u64", "result")
 STRONGEST = 8
 CRATE = "corrector_generator"
 SCRIPT = "Written by tools/generator_rows.py."
@@ -90,7 +90,7 @@ def polynomials():
     yield f"-- The generators of strengths 1 to {STRONGEST}, as numbers. {SCRIPT} What they must be is a law,\n"
     yield "-- proofs/Zeros: that of strength t has degree 11 t, and is zero at a, a^3, .., a^(2t-1).\n"
     yield "--   polynomials   from strength 1 on\n-- Assumes nothing.\n"
-    yield "use mathlib.Core.List.{List, [], _∷_}\nuse Prim.Native.Nat.{ℕ}\n\n"
+    yield "use Rattle.std.specs.Prelude.{List, [], ◌∷◌, ℕ}\n\n"
     yield "-- from strength 1 on\nabbrev pub polynomials : List ℕ\n" + listing("polynomials", map(generator, range(1, STRONGEST + 1)), 105)
 
 
@@ -114,8 +114,8 @@ def function(k, w, rows):
     """The row function of digits k to k + w - 1."""
     degree, g = 11 * rows.strength, generator(rows.strength)
     yield f"\n// The remainder of c x^{degree + k}: digits {k} to {k + w - 1} of what leaves at the top.\n"
-    yield f"pub fn row{k}(c: u64) -> {rows.type}\n    requires {{ ⌜ c < {1 << w} ⌝ }}\n"
-    yield f"    ensures {{ λ r. ⌜ {rows.result} ≡ backFromTop (generatorAt {rows.strength}) (c * {1 << k}) ⌝ }}\n{{\n    match c {{\n"
+    yield f"pub fn row{k}(c: u64) -> {rows.type}\n    requires {{ c < {1 << w} }}\n"
+    yield f"    ensures {{ {rows.result} ≡ back_from_top (generator_at {rows.strength}) (c * {1 << k}) }}\n{{\n    match c {{\n"
     for c in range(1 << w):
         yield f"        {c} => {told(remainder(c << (degree + k), g), rows)},\n"
     yield f"        _ => {told(0, rows)},\n    }}\n}}\n"
@@ -123,11 +123,11 @@ def function(k, w, rows):
 
 def functions(rows):
     """The file of the row functions."""
-    names = "generatorAt, backFromTop" + (", remainderOf" if rows is TWO_PARTS else "")
+    names = "generator_at, back_from_top" + (", remainder_of" if rows is TWO_PARTS else "")
     yield f"// Remainders by the generator of strength {rows.strength}, as constants in place: a match whose arms are numbers is a table in\n"
     yield f"// the program's read-only part, and nothing is built at a call. {SCRIPT}\n"
-    yield "ghost use mathlib.Core.Path.{_≡_};\nghost use Prim.Native.Nat.{_*_, _<_};\n"
-    yield f"ghost use Rattle·{CRATE}·specs.specs.Generators.{{{names}}};\n" + (f"use crate::{rows.type};\n" if rows is TWO_PARTS else "")
+    yield "ghost use Rattle.std.specs.Prelude.{◌≡◌, ◌*◌, ◌<◌};\n"
+    yield f"ghost use Rattle.{CRATE}.specs.Generators.{{{names}}};\n" + (f"\nuse crate::{rows.type};\n" if rows is TWO_PARTS else "")
     for k, w in PARTS:
         yield from function(k, w, rows)
 
@@ -138,39 +138,32 @@ def bases(rows):
     yield f"-- The arms of rows{s}, each the sum over its key's digits of a basis: `by-sum` of Bases at the generator of strength {s}.\n-- {SCRIPT}\n"
     yield "--   sum0 ..   the sum of the basis of row0 .. over the digits of a number\n"
     yield "--   arm0 ..   so an arm of row0 .. is the remainder of its key\n-- Assumes nothing.\n"
-    yield "use mathlib.Core.Path.{_≡_, refl}\nuse mathlib.Core.List.{List, [], _∷_}\nuse Prim.Native.Nat.{ℕ, _*_, _<_}\n"
-    yield "use Rattle·field.specs.Field.{reduce, horner, cut}\nuse Rattle·field.proofs.Additive.{linearMap, basis}\n"
-    yield f"use Rattle·{CRATE}·specs.specs.Generators.{{generatorOf, generatorAt, backFromTop}}\n"
-    yield f"use Rattle·{CRATE}·proofs.proofs.Bases.{{by-sum}}\n"
+    yield "use mathlib.Core.Path.{◌≡◌, refl}\nuse mathlib.Core.List.{List, [], ◌∷◌}\nuse Prim.Native.Nat.{ℕ, ◌*◌, ◌<◌}\n"
+    yield "use Rattle.field.specs.Field.{reduce, horner, cut}\nuse Rattle.field.proofs.Additive.{linear_map, basis}\n"
+    yield f"use Rattle.{CRATE}.specs.Generators.{{generator_of, generator_at, back_from_top}}\n"
+    yield f"use Rattle.{CRATE}.proofs.Bases.{{by-sum}}\n"
     for k, w in PARTS:
         d, g = 11 * s + k, generator(s)
         yield f"\n-- the remainders of x^{d}, x^{d + 1}, ..\nbasis{k} : List ℕ\n" + listing(f"basis{k}", (remainder(1 << (d + i), g) for i in range(w)))
-        yield f"\n-- their sum over the digits of a number\nunfoldable pub sum{k} : ℕ → ℕ\nunfolding linearMap basis{k}\nsum{k} c = linearMap basis{k} c\n"
-        yield f"\n-- an arm of row{k}\npub arm{k} : {{c m v : ℕ}} → c < {1 << w} → c ≡ m → v ≡ sum{k} m → v ≡ backFromTop (generatorAt {s}) (c * {1 << k})\n"
-        yield f"unfolding sum{k} basis{k} basis backFromTop generatorOf reduce horner cut\n"
-        yield f"arm{k} h key f = by-sum (generatorAt {s}) {k} {w} basis{k} refl h key f\n"
+        yield f"\n-- their sum over the digits of a number\nunfoldable pub sum{k} : ℕ → ℕ\nunfolding linear_map basis{k}\nsum{k} c = linear_map basis{k} c\n"
+        yield f"\n-- an arm of row{k}\npub arm{k} : {{c m v : ℕ}} → c < {1 << w} → c ≡ m → v ≡ sum{k} m → v ≡ back_from_top (generator_at {s}) (c * {1 << k})\n"
+        yield f"unfolding sum{k} basis{k} basis back_from_top generator_of reduce horner cut\n"
+        yield f"arm{k} h key f = by-sum (generator_at {s}) {k} {w} basis{k} refl h key f\n"
 
 
-def arm(name, k, i):
-    """The proof of arm i of a row function."""
-    yield f"{name} : tie.Need-{name}\nunfolding sum{k}\n"
-    yield f"{name} c = arm{k} (c .before .pre) (c .match .keys{i + 1}) refl\n\n"
+def arm(k, c):
+    """The answer of arm c of a row function."""
+    name = f"returns-in-{c}"
+    return f"pub {name} : goal.{name}\nunfolding sum{k}\n{name} c = arm{k} c.requires c.in-{c}.is refl\n"
 
 
-def proof(k, w, rows):
-    """The proof of a row function: each arm by its key, and no other number is below the bound."""
-    names = ["returns"] + [f"returns-{i + 1}" for i in range(1, (1 << w) + 1)]
-    rest, own, module = names[-1], f"Rattle·{CRATE}·proofs.proofs", f"rows{rows.strength}"
+def answers(k, w, rows):
+    """The answers of a row function: each arm by its key. That no other number is below the bound the check finds."""
+    own, module = f"Rattle.{CRATE}.proofs", f"rows{rows.strength}"
     yield f"-- `{CRATE}::{module}::row{k}` meets its contract: each arm is the sum of the basis over its key's digits.\n"
-    yield f"-- {SCRIPT} Assumes nothing.\nuse mathlib.Core.Path.{{refl}}\n"
-    yield f"use {own}.Bases.{{NotBelow, none-left}}\nuse {own}.Bases{rows.strength}.{{sum{k}, arm{k}}}\n"
-    yield f"use {own}.{module}.row{k}.Statement.{{statement}}\nuse {own}.{module}.row{k}.Tie as tie\n\n"
-    for i, name in enumerate(names[:-1]):
-        yield from arm(name, k, i)
-    yield f"{rest} : tie.Need-{rest}\nunfolding NotBelow\n"
-    yield f"{rest} c = none-left {1 << w} (c .before .args .c) (c .match .rest) (c .before .pre)\n\n"
-    yield f"pub row{k}-spec : {{M : Type 1}} → statement M\nrow{k}-spec =\n    tie.close\n    (tie.spec\n    "
-    yield "\n    ".join(names) + ")\n"
+    yield f"-- {SCRIPT} Assumes nothing.\nuse mathlib.Core.Path.{{refl}}\nuse {own}.Bases{rows.strength}.{{sum{k}, arm{k}}}\n"
+    yield f"use {own}.{module}.row{k}.Goals as goal\n\n"
+    yield "\n".join(arm(k, c) for c in range(1 << w))
 
 
 def raised(t, rows):
@@ -181,14 +174,14 @@ def raised(t, rows):
 def raised_functions():
     """The file of the generators, moved up."""
     yield f"// The generators, moved up to the highest digit of a register of 88 or 55 binary digits.\n// {SCRIPT}\n"
-    yield "ghost use mathlib.Core.Path.{_≡_};\nghost use Prim.Native.Nat.{_-_, _*_, _/_, _^_, _≤_};\n"
-    yield f"ghost use Rattle·{CRATE}.specs.Generators.{{generatorOf}};\n"
-    yield "ghost use Rattle·corrector_remainder·specs.specs.Remainder.{restOf};\nuse crate::Rest;\n"
-    for rows, least, result, value in ((TWO_PARTS, 6, "Rest", "restOf g"), (ONE_NUMBER, 1, "u64", "g")):
+    yield "ghost use Rattle.std.specs.Prelude.{◌≡◌, ◌-◌, ◌*◌, ◌/◌, ◌^◌, ◌≤◌};\n"
+    yield f"ghost use Rattle.{CRATE}.specs.Generators.{{generator_of}};\n"
+    yield "ghost use Rattle.corrector_remainder.specs.Remainder.{rest_of};\n\nuse crate::Rest;\n"
+    for rows, least, result, value in ((TWO_PARTS, 6, "Rest", "rest_of result"), (ONE_NUMBER, 1, "u64", "result")):
         s = rows.strength
         yield f"\n// The generator of a strength from {least} to {s}, its highest digit at {11 * s - 1}; at strength {s}, where no digit is cut, its half.\n"
-        yield f"pub fn raised{s}(t: u16) -> {result}\n    requires {{ ⌜ ({least} ≤ t) × (t ≤ {s}) ⌝ }}\n"
-        yield f"    ensures {{ λ g. ⌜ {value} ≡ generatorOf t * 2 ^ ({11 * s} - 11 * t) / 2 ⌝ }}\n{{\n    match t {{\n"
+        yield f"pub fn raised{s}(t: u16) -> {result}\n    requires {{ ({least} ≤ t) × (t ≤ {s}) }}\n"
+        yield f"    ensures {{ {value} ≡ generator_of t * 2 ^ ({11 * s} - 11 * t) / 2 }}\n{{\n    match t {{\n"
         for t in range(least, s + 1):
             key, g = (t if t < s else "_"), raised(t, rows)
             if rows is ONE_NUMBER:
@@ -202,10 +195,19 @@ def powers():
     """The file of the powers: x^j at a, a^3, .., a^15."""
     yield f"// The constant table of the syndromes. {SCRIPT}\nuse crate::POWERS;\n\n"
     yield f"// x^j at a, a^3, .., a^15, for j below {11 * STRONGEST}: eight in a row.\npub const ODD_POWERS: [u16; POWERS] = [\n"
-    for j in range(11 * STRONGEST):
-        for k in range(STRONGEST):
-            yield f"    {power(power(2, 2 * k + 1), j)},\n"
-    yield "];\n"
+    yield filled(power(power(2, 2 * k + 1), j) for j in range(11 * STRONGEST) for k in range(STRONGEST)) + "];\n"
+
+
+def filled(numbers, width=99):
+    """The rows of an array, as rt fmt lays them out."""
+    lines = [""]
+    for n in numbers:
+        word = f" {n}," if lines[-1] else f"    {n},"
+        if len(lines[-1]) + len(word) > width:
+            lines.append("")
+            word = f"    {n},"
+        lines[-1] += word
+    return "\n".join(lines) + "\n"
 
 
 def main():
@@ -223,7 +225,7 @@ def main():
         s = rows.strength
         files[own / f"src/rows{s}.rt"] = functions(rows)
         files[own / f"proofs/Bases{s}.antt"] = bases(rows)
-        files.update({own / f"proofs/rows{s}/row{k}/Proof.antt": proof(k, w, rows) for k, w in PARTS})
+        files.update({own / f"proofs/rows{s}/row{k}/Answers.antt": answers(k, w, rows) for k, w in PARTS})
     files = {path: "".join(text) for path, text in files.items()}
     bad = [path for path, text in files.items() if not path.exists() or path.read_text() != text]
     if opt.check:
