@@ -5,13 +5,12 @@
 --   judge-spread .. judge-says     what each routine asks, and what the equations say
 -- Assumes nothing.
 use mathlib.Core.Path.{◌≡◌, refl, sym, ap, subst, ◌∙◌}
-use mathlib.Core.Bool.{Bool, true, false, not}
+use mathlib.Core.Bool.{Bool, true, false}
 use mathlib.Core.Logic.{◌≢◌}
 use mathlib.Core.List.{List, [], ◌∷◌, ◌++◌}
 use Prim.Native.Nat.{ℕ, ◌+◌, ◌-◌, ◌^◌, ◌≤◌, ◌<◌}
 use native.Mathlib.Decide.{dec_le}
 use native.Mathlib.Omega.{arith}
-use borrow.Author.Tests.{not-false, not-true}
 use lib.ListN.{length, length-append, length-replicate, replicate, take}
 use lib.Seq.{get_or-take, length-take-le, take_at}
 use Rattle.algebra.specs.Multiplicity.{total}
@@ -37,15 +36,15 @@ use Rattle.claims.proofs.Weighing.{differ}
 -- ---- `weigh_lent` and `weigh`
 
 -- the first equation fails
-pub weigh-no : {m : ℕ} {f list h u v : List ℕ} {a : Bool} → Decides a (coef (G m) (mul (G m) (from_roots (G m) list) h) ≡ coef (G m) f) → not a ≡ true
+pub weigh-no : {m : ℕ} {f list h u v : List ℕ} {a : Bool} → Decides a (coef (G m) (mul (G m) (from_roots (G m) list) h) ≡ coef (G m) f) → a ≡ false
     → Decides false (Weighs m f list h u v)
-weigh-no {m} {f} {list} {h} {u} {v} {a} d t = record { yes = λ y. absurd (differ (sym y)); no = λ y w. d.no (not-true a t) w.product }
+weigh-no {m} {f} {list} {h} {u} {v} {a} d t = record { yes = λ y. absurd (differ (sym y)); no = λ y w. d.no t w.product }
 
 -- the second decides
-pub weigh-says : {m : ℕ} {f list h u v : List ℕ} {a b : Bool} → Decides a (coef (G m) (mul (G m) (from_roots (G m) list) h) ≡ coef (G m) f) → not a ≡ false
+pub weigh-says : {m : ℕ} {f list h u v : List ℕ} {a b : Bool} → Decides a (coef (G m) (mul (G m) (from_roots (G m) list) h) ≡ coef (G m) f) → a ≡ true
     → Decides b (coef (G m) (combined m (claim_of [] [] h u v)) ≡ coef (G m) (1 ∷ [])) → Decides b (Weighs m f list h u v)
 weigh-says {m} {f} {list} {h} {u} {v} {a} d t e = record {
-  yes = λ y. record { product = d.yes (not-false a t); coprime = e.yes y };
+  yes = λ y. record { product = d.yes t; coprime = e.yes y };
   no = λ y w. e.no y w.coprime;
 }
 
@@ -83,7 +82,7 @@ module _ {m : ℕ} {f roots es h u v : List ℕ} (g : ClaimIn m f (claim_of root
   judge-high l = record { yes = λ y. absurd (differ (sym y)); no = λ y k. let s = (degrees-fit k).sum in omega arith }
 
   -- the roots and the numbers beside them are not as they must be
-  pub judge-tally : {t : Bool} → t ≡ tallies 0 (n - d) roots es → not t ≡ true → Decides false (Acceptable m f claim)
+  pub judge-tally : {t : Bool} → t ≡ tallies 0 (n - d) roots es → t ≡ false → Decides false (Acceptable m f claim)
   judge-tally {t} e z = record {
     yes = λ y. absurd (differ (sym y));
     no = λ y k.
@@ -95,16 +94,16 @@ module _ {m : ℕ} {f roots es h u v : List ℕ} (g : ClaimIn m f (claim_of root
           least = k.least;
           sum = omega arith;
         }) in
-        differ (sym all ∙ sym e ∙ not-true t z);
+        differ (sym all ∙ sym e ∙ z);
   }
     where
       any : (l : List ℕ) → All (λ r. 0 ≤ r) l
       any [] = tt
       any (x ∷ l) = (omega arith, any l)
 
-  module _ (some : d ≢ 0) {t : Bool} (e : t ≡ tallies 0 (n - d) roots es) (z : not t ≡ false) where
+  module _ (some : d ≢ 0) {t : Bool} (e : t ≡ tallies 0 (n - d) roots es) (z : t ≡ true) where
     told : Tallied 0 (n - d) roots es
-    told = tallies-yes 0 (n - d) roots es (sym e ∙ not-false t z)
+    told = tallies-yes 0 (n - d) roots es (sym e ∙ z)
 
     -- there is room
     pub judge-few : n - d ≤ limit

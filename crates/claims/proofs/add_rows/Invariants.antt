@@ -1,0 +1,10 @@
+-- `claims::add_rows` meets its contract. The loop's invariant: from k on the product is added.
+-- Assumes nothing.
+use Rattle.claims.proofs.Adding.{AddingRows}
+use Rattle.claims.proofs.add_rows.Given as goal
+
+abbrev pub invariant-loop-k : goal.invariant-loop-k
+invariant-loop-k l = AddingRows l.m l.logs l.antilogs l.p l.row l.initial.sum l.sum l.k
+
+abbrev pub decreases-loop-k : goal.decreases-loop-k
+decreases-loop-k l = l.k
