@@ -37,7 +37,7 @@ loop-i-init c = let s = c in
     let m = padded-middle b c.between_zeros-c.result (omega arith) c.between_zeros-c.ensures in (
       omega arith,
       refl,
-      c.t-1.given.1 ∙ ap length s.requires.0,
+      let long : length t ≡ 22 = ap length s.requires.0 in search rules,
       back t c.add_masked.new.t 10
           ∙ rows-turn W b {j = 10} refl last (s.requires.0 ∙ rows-from W b refl (omega arith))
           (c.add_masked.ensures ∙ ap (λ (y : List ℕ). sum (map (bit_and (get_or s.args.e.now 10 0)) b) y) (lent-tail t 10))
@@ -84,7 +84,7 @@ loop-i-preserved c = let s = c in
     let small : suc j < 11 = omega arith in (
       omega arith,
       omega arith,
-      c.t-in-loop-i-1.given.1 ∙ l.invariant.2,
+      let kept = l.invariant.2 in search rules,
       back l.t c.add_pair.new.t j
           ∙ rows-pair W (take 11 (drop 1 p)) two small (ap length m.1 ∙ long) m.0 l.invariant.3
           (c.add_pair.ensures ∙ ap (λ (y : List ℕ). sum (pair_words 12 (get_or e j 0) (get_or e (j + 1) 0) p) y) (lent-tail l.t j)

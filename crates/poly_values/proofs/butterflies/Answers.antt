@@ -6,6 +6,7 @@ use native.Mathlib.Omega.{arith}
 use Prim.Native.Nat.{◌*◌}
 use mathlib.Core.List.{◌++◌}
 use lib.ListN.{take, length-drop}
+use borrow.Author.Rules.{rules}
 use Rattle.poly_values.specs.Planes.{taps11, words_at, butterfly_at, butterflies_at}
 use Rattle.poly_values.proofs.Tail.{lent-tail, back}
 use Rattle.poly_values.proofs.Planes.{butterflies-turn}
@@ -43,7 +44,7 @@ loop-w-preserved c =
     let l = c.loop-w in
     let a = c.args in (
       omega arith,
-      c.p-1.given.1 ∙ l.invariant.1,
+      let kept = l.invariant.1 in search rules,
       back l.p c.butterfly.new.p (l.w * 11)
           ∙ ap (λ y. take (l.w * 11) l.p ++ y)
           (c.butterfly.ensures ∙ ap (λ y. butterfly_at taps11 (words_at 11 a.g.now 0) a.up y) (lent-tail l.p (l.w * 11)))

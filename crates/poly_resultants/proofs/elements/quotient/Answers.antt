@@ -5,14 +5,8 @@ use Rattle.poly.proofs.Logs.{inverse-fits}
 use Rattle.poly_resultants.proofs.Quotients.{quotient_fits, quotient-at}
 use Rattle.poly_resultants.proofs.elements.quotient.Goals as goal
 
-pub overflow_cast-result-2 : goal.overflow_cast-result-2
-overflow_cast-result-2 c = omega (arith, c.shared_slice_known-1.given c.args.x)
-
 pub overflow_sub-result-2 : goal.overflow_sub-result-2
 overflow_sub-result-2 c = omega (arith, inverse-fits c.requires.0 c.requires.1 c.requires.2)
-
-pub overflow_cast-result-4 : goal.overflow_cast-result-4
-overflow_cast-result-4 c = omega (arith, c.shared_slice_known-2-1.given c.args.y)
 
 pub overflow_add-result : goal.overflow_add-result
 overflow_add-result c = omega (arith, quotient_fits c.requires.0 c.requires.1 c.requires.2 c.requires.3)

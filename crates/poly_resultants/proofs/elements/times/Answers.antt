@@ -7,14 +7,8 @@ use Rattle.poly_resultants.proofs.elements.times.Goals as goal
 pub bounds-logs-x : goal.bounds-logs-x
 bounds-logs-x c = logs-fit c.requires.0 c.requires.2
 
-pub overflow_cast-result-2 : goal.overflow_cast-result-2
-overflow_cast-result-2 c = omega (arith, c.shared_slice_known-1.given c.args.x)
-
 pub bounds-logs-y : goal.bounds-logs-y
 bounds-logs-y c = logs-fit c.requires.0 c.requires.3
-
-pub overflow_cast-result-4 : goal.overflow_cast-result-4
-overflow_cast-result-4 c = omega (arith, c.shared_slice_known-2-1.given c.args.y)
 
 pub overflow_add-result : goal.overflow_add-result
 overflow_add-result c = omega (arith, product-fits c.requires.0 c.requires.1 c.requires.2 c.requires.3)
