@@ -15,7 +15,7 @@ use Rattle.algebra.specs.Field.{Laws, Ops}
 use Rattle.algebra.specs.Polynomial.{add, coef, mul}
 use Rattle.algebra.specs.Routines.{square}
 use Rattle.algebra.proofs.Elements.{mul-zero}
-use Rattle.algebra.proofs.Series.{Series, starting_with, starting_with-plus, starting_with-square, starting_with-times, nought, nought-plus, plus, plus_comm, scale, times, times-comm, times-nought, times-scale, times-unit, unit, unit-times}
+use Rattle.algebra.proofs.Series.{Series, starting_with, starting_with-plus, starting_with-square, starting_with-times, nought, nought-plus, plus_comm, scale, times-comm, times-nought, times-scale, times-unit, unit, unit-times}
 use Rattle.algebra.proofs.Signs.{signs}
 
 module _ {K : Type 0} {F : Ops K} (L : Laws F) where

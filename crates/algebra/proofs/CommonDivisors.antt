@@ -12,7 +12,7 @@ use Prim.Native.Nat.{ℕ}
 use native.Mathlib.Omega.{arith}
 use Rattle.algebra.specs.Field.{Laws, Ops}
 use Rattle.algebra.specs.Polynomial.{IsGcd, coef}
-use Rattle.algebra.proofs.Series.{Series, nought, plus, plus-back, plus_comm, scale, scale_back, times-nought}
+use Rattle.algebra.proofs.Series.{Series, nought, plus-back, plus_comm, scale, scale_back, times-nought}
 use Rattle.algebra.proofs.Degree.{Monic, quotient-top}
 use Rattle.algebra.proofs.Divisibility.{divides-equal, divides-plus, divides-scale, divides-self, divides-trans, divides-multiple, quotient-exact}
 use Rattle.algebra.proofs.Signs.{signs}

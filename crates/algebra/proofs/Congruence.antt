@@ -11,7 +11,7 @@ use mathlib.Core.List.{List, []}
 use Prim.Native.Nat.{suc, zero, ℕ}
 use Rattle.algebra.specs.Field.{Laws, Ops}
 use Rattle.algebra.specs.Polynomial.{Divides, add, coef, frobenius, mul, trace_poly}
-use Rattle.algebra.proofs.Series.{Series, plus, plus_assoc, plus-back, plus-left-comm, plus-self, plus-times, times, times-comm, times-nought}
+use Rattle.algebra.proofs.Series.{Series, plus, plus_assoc, plus-back, plus-left-comm, plus-self, plus-times, times-comm, times-nought}
 use Rattle.algebra.proofs.Coefficients.{coef-add, coef-mul}
 use Rattle.algebra.proofs.Divisibility.{divides-plus, divides-times, divides-multiple}
 use Rattle.algebra.proofs.Signs.{signs}

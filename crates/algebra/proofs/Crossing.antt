@@ -17,7 +17,7 @@ use mathlib.Core.Logic.{◌≢◌, ⊎_elim}
 use mathlib.Core.Bool.{Bool, cond, false, true}
 use mathlib.Core.Option.{Option, Option-elim, none, some}
 use mathlib.Core.List.Memᴰ
-use mathlib.Core.List.{List, Memᴰ, [], ◌++◌, ◌∷◌, map, map-append}
+use mathlib.Core.List.{List, Memᴰ, [], ◌∷◌, map, map-append}
 use Prim.Native.Nat.{◌-◌, ◌<◌, suc, zero, ℕ}
 use native.Mathlib.Bridge.{le_prop}
 use native.Mathlib.Omega.{arith}

@@ -15,7 +15,7 @@ use Prim.Native.Nat.{◌+◌, suc, zero, ℕ}
 use native.Mathlib.Omega.{arith}
 use Rattle.algebra.specs.Field.{Laws, Ops}
 use Rattle.algebra.specs.Polynomial.{add, coef, mul}
-use Rattle.algebra.proofs.Series.{Series, starting_with, plus, scale, times, times-assoc, times-comm, times-plus, times-unit, unit}
+use Rattle.algebra.proofs.Series.{Series, starting_with, scale, times-assoc, times-comm, times-plus, times-unit, unit}
 use Rattle.algebra.proofs.Coefficients.{coef-add, coef-cons, coef-mul, times-constant}
 use Rattle.algebra.proofs.Degree.{Monic, quotient-top}
 use Rattle.algebra.proofs.Signs.{signs}

@@ -14,7 +14,7 @@ use Rattle.algebra.specs.Field.{Laws, Ops}
 use Rattle.algebra.specs.Polynomial.{add, coef}
 use Rattle.algebra.specs.Routines.{quotient_digit, monic, quo, rem, shift_in}
 use Rattle.algebra.proofs.Elements.{add_back, add_left_comm, add-zero, equal-of-sum, mul-zero}
-use Rattle.algebra.proofs.Series.{Series, equal-of-plus, starting_with, starting_with-plus, starting_with-times, nought, nought-plus, plus, plus_assoc, plus_comm, plus-self, scale, times, times-comm, times-nought, times-plus}
+use Rattle.algebra.proofs.Series.{Series, equal-of-plus, starting_with, starting_with-plus, starting_with-times, nought, nought-plus, plus, plus_assoc, plus_comm, plus-self, scale, times-comm, times-nought, times-plus}
 use Rattle.algebra.proofs.Coefficients.{coef-add, coef-cons, coef-zeros}
 use Rattle.algebra.proofs.Degree.{Top, monic-list, top-times, top?}
 use Rattle.algebra.proofs.Lengths.{length-rem}

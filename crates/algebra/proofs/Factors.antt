@@ -10,7 +10,6 @@
 -- Assumes nothing.
 use mathlib.Core.Path.{◌∙◌, ◌≡◌, ap, fun_ext, refl, subst, sym}
 use mathlib.Core.Logic.{◌≢◌, ◌⊎◌, inl, inr}
-use mathlib.Core.Option.{none}
 use mathlib.Core.List.Memᴰ
 use mathlib.Core.List.{List, Memᴰ, [], ◌++◌, ◌∷◌}
 use Prim.Native.Nat.{◌+◌, ◌≤◌, suc, zero, ℕ}
@@ -22,7 +21,7 @@ use Rattle.algebra.specs.Trial.{All, Distinct}
 use Rattle.algebra.specs.Polynomial.{coef, eval, from_roots, linear}
 use Rattle.algebra.specs.Routines.{monic, monic_roots}
 use Rattle.algebra.proofs.Elements.{add_back, add-zero, equal-of-sum, mul-zero, zero-mul, zero-of-product, zero?}
-use Rattle.algebra.proofs.Series.{Series, starting_with, starting_with-times, nought, plus, scale, times, times-comm, times-unit, unit}
+use Rattle.algebra.proofs.Series.{Series, starting_with, starting_with-times, nought, plus, scale, times-comm, times-unit, unit}
 use Rattle.algebra.proofs.Coefficients.{coef-cons, coef-mul}
 use Rattle.algebra.proofs.Evaluation.{eval-linear, eval_mul, eval-multiple}
 use Rattle.algebra.proofs.Degree.{Monic, Top, monic-list, monic-times, quotient-top}

@@ -16,7 +16,7 @@
 --   square-double        the root of z^2 + s^2 is double
 -- Assumes nothing.
 use mathlib.Core.Path.{◌∙◌, ◌≡◌, ap, ap₂, fun_ext, refl, subst, sym}
-use mathlib.Core.Logic.{◌↔◌, ◌≢◌, ◌⊎◌, inl, inr}
+use mathlib.Core.Logic.{◌↔◌, ◌≢◌}
 use mathlib.Core.Bool.{Bool, cond, false, true}
 use mathlib.Core.List.{List, [], ◌++◌, ◌∷◌, map}
 use Prim.Native.Nat.{◌+◌, ◌-◌, ◌<◌, ◌≤◌, suc, zero, ℕ}
@@ -30,12 +30,12 @@ use Rattle.algebra.specs.Polynomial.{coef, eval, from_roots, is_root, linear, mu
 use Rattle.algebra.specs.Routines.{quo, quotient_digit, rem}
 use Rattle.algebra.specs.Multiplicity.{IsMultiplicity, left, left_in, linear_power, multiplicities_in, multiplicity, quotient_by, spread, times_out, total}
 use Rattle.algebra.proofs.Elements.{equal-of-sum, mul-zero, zero-of-product}
-use Rattle.algebra.proofs.Series.{Series, nought, nought-plus, plus, plus_comm, scale, scale_back, starting_with, starting_with-square, times, times-assoc, times-comm, times-left-comm, times-nought, times-unit, unit}
+use Rattle.algebra.proofs.Series.{nought, nought-plus, plus_comm, scale, scale_back, starting_with, starting_with-square, times-assoc, times-comm, times-left-comm, times-nought, times-unit, unit}
 use Rattle.algebra.proofs.Coefficients.{coef-cons, coef-mul, coef-one, coef-scale, coef-top, coef-zeros, one-times}
 use Rattle.algebra.proofs.Evaluation.{eval-linear, eval-multiple}
 use Rattle.algebra.proofs.Degree.{Monic, Top, monic-cancel, monic-list, quotient-top}
 use Rattle.algebra.proofs.Lengths.{length-quo}
-use Rattle.algebra.proofs.Divisibility.{divides-multiple, divides-product, divides-scale, divides-self, divides-times, divides-trans, one-divides, quotient-exact}
+use Rattle.algebra.proofs.Divisibility.{divides-product, divides-scale, divides-self, divides-times, divides-trans, one-divides, quotient-exact}
 use Rattle.algebra.proofs.Division.{division-unique}
 use Rattle.algebra.proofs.Factors.{factor, factor-root, from_roots-monic}
 use Rattle.algebra.proofs.Signs.{signs}

@@ -31,7 +31,7 @@ use Rattle.algebra.proofs.Coefficients.{coef-mul}
 use Rattle.algebra.proofs.Degree.{Top}
 use Rattle.algebra.proofs.Trial.{all-at}
 use Rattle.algebra.proofs.Crossing.{Elem, below-low, by-elements, by_two, coef-down, coef-up, distinct-low, elem-equal, elems, laws, low, low-coef, low-eval, low-from_roots, low-mul, low-quo, low-scale, map-replicate, map-take, root-up}
-use Rattle.algebra.proofs.StaysBelow.{append-below, eval-below, mul-below, replicate-below, roots_of-below, scale-below}
+use Rattle.algebra.proofs.StaysBelow.{append-below, eval-below, mul-below, replicate-below, roots_of-below}
 use Rattle.algebra.proofs.NumberElements.{mul-zero}
 use Rattle.algebra.proofs.NumberEvaluation.{eval_mul, eval-same, top-coef}
 use Rattle.algebra.proofs.NumberDivision.{divides-down, divides-up}

@@ -5,9 +5,8 @@
 use mathlib.Core.Path.{◌∙◌, ◌≡◌, ap, ap₂, sym}
 use mathlib.Core.Logic.{◌↔◌, ◌≢◌, ◌⊎◌, inl, inr, ⊎_elim}
 use mathlib.Core.List.{[], ◌∷◌}
-use Prim.Native.Nat.{zero}
 use Rattle.algebra.specs.Field.{Laws, Ops}
-use Rattle.algebra.specs.Polynomial.{add, eval, mul}
+use Rattle.algebra.specs.Polynomial.{eval}
 use Rattle.algebra.proofs.Elements.{add_back, add_left_comm, add-zero, equal-of-sum, mul-zero, square-add, zero-mul, zero-of-product, zero?}
 use Rattle.algebra.proofs.Evaluation.{eval-quadratic}
 

@@ -9,14 +9,14 @@
 use mathlib.Core.Path.{◌∙◌, ◌≡◌, ap, subst, sym}
 use mathlib.Core.Logic.{◌↔◌, ◌≢◌, ◌⊎◌, inl, inr, ⊎_elim}
 use mathlib.Core.List.{List}
-use Prim.Native.Nat.{◌+◌, ◌-◌, zero}
+use Prim.Native.Nat.{◌+◌, ◌-◌}
 use native.Mathlib.Omega.{arith}
 use lib.ListN.{length, length-replicate, replicate, take}
 use Rattle.algebra.specs.Field.{Laws, Ops}
-use Rattle.algebra.specs.Polynomial.{coef, eval, mul}
+use Rattle.algebra.specs.Polynomial.{coef, eval}
 use Rattle.algebra.specs.Routines.{cofactor, gcd, monic, quo}
 use Rattle.algebra.proofs.Elements.{mul-zero, zero-mul, zero-of-product, zero?}
-use Rattle.algebra.proofs.Series.{nought-plus, plus, plus_comm, times}
+use Rattle.algebra.proofs.Series.{nought-plus, plus_comm}
 use Rattle.algebra.proofs.Coefficients.{coef-zeros}
 use Rattle.algebra.proofs.Evaluation.{eval-multiple}
 use Rattle.algebra.proofs.Degree.{Monic, cut-monic, degree-le, monic-equal, monic-list, monic-times, quotient-top}

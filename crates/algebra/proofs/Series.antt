@@ -16,7 +16,6 @@ use mathlib.Core.Path.{◌∙◌, ◌≡◌, ap, ap₂, fun_ext, refl, sym}
 use mathlib.Core.Logic.{◌≢◌}
 use Prim.Native.Nat.{suc, zero, ℕ}
 use Rattle.algebra.specs.Field.{Laws, Ops}
-use Rattle.algebra.specs.Polynomial.{add, mul}
 use Rattle.algebra.proofs.Elements.{add_back, add_left_comm, add-mul, add-zero, equal-of-sum, zero-mul}
 
 abbrev pub Series : Type 0 → Type 0

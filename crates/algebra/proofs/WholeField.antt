@@ -16,7 +16,7 @@ use native.Mathlib.Omega.{arith}
 use lib.ListN.{length}
 use Rattle.algebra.specs.Field.{Laws, Ops, squared}
 use Rattle.algebra.specs.Trial.{All, Distinct, keep}
-use Rattle.algebra.specs.Polynomial.{IsGcd, add, coef, eval, field_poly, frobenius, from_roots, is_root, linear, mul}
+use Rattle.algebra.specs.Polynomial.{IsGcd, coef, eval, field_poly, frobenius, from_roots, is_root, linear, mul}
 use Rattle.algebra.specs.Routines.{gcd, monic, monic_roots}
 use Rattle.algebra.proofs.Series.{Series, starting_with, starting_with-times, nought-plus, plus, times, unit, unit-times, zero-scale}
 use Rattle.algebra.proofs.Coefficients.{coef-add, coef-cons, coef-mul}

@@ -8,9 +8,8 @@
 -- Assumes nothing.
 use mathlib.Core.Path.{◌∙◌, ◌≡◌, ap, ap₂, refl, subst, sym}
 use mathlib.Core.Logic.{◌↔◌, ◌≢◌}
-use mathlib.Core.Option.{some}
 use mathlib.Core.List.{List, Memᴰ, [], ◌++◌, ◌∷◌, map, map-append}
-use Prim.Native.Nat.{◌<◌, ◌≤◌, ◌^◌, zero, ℕ}
+use Prim.Native.Nat.{◌<◌, ◌≤◌, ◌^◌, ℕ}
 use lib.ListN.{length, length-map, replicate}
 use Rattle.algebra.specs.Field.{Laws, OnNumbers, Ops}
 use Rattle.algebra.specs.Trial.{All, Ascending}

@@ -7,7 +7,7 @@
 --   same-list     lists of one length with the same coefficients are one
 --   ONE-CLAIM     so two such claims, with as many coefficients in each, are one
 -- Assumes nothing.
-use mathlib.Core.Path.{◌∙◌, ◌≡◌, ap, ap₂, refl, subst, sym}
+use mathlib.Core.Path.{◌∙◌, ◌≡◌, ap, ap₂, sym}
 use mathlib.Core.Logic.{◌≢◌, ◌⊎◌, inl, inr}
 use mathlib.Core.List.{List, [], ◌∷◌}
 use Prim.Native.Nat.{◌+◌, ◌≤◌, ◌^◌, ℕ}
@@ -25,7 +25,6 @@ use Rattle.algebra.proofs.Factors.{from_roots-monic}
 use Rattle.algebra.proofs.Series.{Series, equal-of-plus, nought, plus, plus_assoc, plus-back, plus_comm, plus-self, plus-times, times, times-comm, times-left-comm, times-plus, times-unit, unit}
 use Rattle.algebra.proofs.Signs.{signs}
 use Rattle.algebra.proofs.StaysBelow.{append-below, replicate-below}
-use Rattle.field.specs.Rows.{known}
 use Rattle.field.specs.Field.{G}
 use Rattle.input.proofs.Fields.{known-field}
 use Rattle.claim_rules.specs.Claims.{Acceptable, Claim, claim_of, field_remainder, spread_out}

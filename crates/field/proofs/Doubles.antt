@@ -2,16 +2,14 @@
 --   solved-none, solved-double, solved-two   so the solver's answers hold the roots with their multiplicities
 -- Assumes nothing.
 use mathlib.Core.Path.{◌≡◌, sym, ap, ◌∙◌}
-use mathlib.Core.List.{List, [], ◌∷◌, map}
+use mathlib.Core.List.{[], ◌∷◌, map}
 use Prim.Native.Nat.{ℕ, ◌<◌}
 use native.Mathlib.Omega.{arith}
 use lib.ListN.{length, get_or-eq_default}
-use Rattle.algebra.specs.Field.{OnNumbers}
 use Rattle.algebra.specs.Multiplicity.{multiplicity}
 use Rattle.algebra.proofs.NumberMultiplicity.{roots-simple, square-double}
 use Rattle.field.specs.Field.{Field, size, mul, numbers}
 use Rattle.field.specs.Quadratics.{roots_of_quadratic, SolvesQuadratic}
-use Rattle.field.specs.declared.solver.Quadratic.{Quadratic}
 use Rattle.field.specs.declared.solver.Quadratic.TheVariants.{NoRoot, Double, Two}
 use Rattle.field.proofs.Generator.{Generated, one_below}
 use Rattle.field.proofs.Solutions.{one-root}

@@ -6,12 +6,8 @@ use Prim.Native.Nat.{ℕ, ◌<◌, ◌≤◌, ◌^◌}
 use native.Mathlib.Omega.{arith}
 use lib.Pow.{pow_pos, pow_mono}
 use borrow.Author.Rules.{rules}
-use Rattle.field.specs.Field.{mul, field_of}
 use Rattle.field.proofs.Digits.{digit-mul-le}
-use Rattle.field.proofs.Loops.{Halfway, product-turn, product_whole}
-use Rattle.field.proofs.arithmetic.product_of.Reads as reads
-use Rattle.field.proofs.arithmetic.product_of.Lts as lts
-use Rattle.field.proofs.arithmetic.cut.Reads as cut-reads
+use Rattle.field.proofs.Loops.{product-turn, product_whole}
 use Rattle.field.proofs.arithmetic.product_of.Goals as goal
 
 -- an element has at most 15 bits

@@ -2,7 +2,6 @@
 -- Assumes nothing.
 use Rattle.field.proofs.Generator.{generated, small, one_below}
 use Rattle.field.proofs.Raising.{raised-root}
-use Rattle.field.proofs.powers.raised.Reads as raised-reads
 use Rattle.field.proofs.arithmetic.root_of.Goals as goal
 
 pub raised-requires : goal.raised-requires

@@ -3,8 +3,6 @@
 use mathlib.Core.Path.{◌∙◌}
 use Rattle.field.proofs.Generator.{generated, small}
 use Rattle.field.proofs.Raising.{raised-inverse}
-use borrow.Author.Rules.{rules}
-use Rattle.field.proofs.powers.raised.Reads as raised-reads
 use Rattle.field.proofs.division.inverse_of.Goals as goal
 
 pub returns : goal.returns

@@ -1,11 +1,8 @@
 -- `field::powers::mapped` meets its contract. The loop keeps what `Mapping` says.
 -- Assumes nothing.
-use mathlib.Core.Logic.{inl, inr, ⊎_elim}
-use Prim.Native.Nat.{◌-◌}
-use lib.ListN.{length}
+use mathlib.Core.Logic.{inl, inr}
 use native.Mathlib.Omega.{arith}
-use Rattle.field.proofs.Raising.{Mapping, mapping-from, mapping-on, mapping-end}
-use borrow.Author.Rules.{rules}
+use Rattle.field.proofs.Raising.{mapping-from, mapping-on, mapping-end}
 use Rattle.field.proofs.powers.mapped.Goals as goal
 use Rattle.field.proofs.powers.mapped.Goals.{else-rest-eq1, then-rest-eq1}
 

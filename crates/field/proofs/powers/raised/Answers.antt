@@ -1,12 +1,8 @@
 -- `field::powers::raised` meets its contract. The loop keeps what `Raising` says.
 -- Assumes nothing.
 use native.Mathlib.Omega.{arith}
-use Rattle.field.specs.Field.{field_of}
 use Rattle.field.proofs.Generator.{generated, small}
-use Rattle.field.proofs.Raising.{Raising, raising-from, raising-on, raising-end}
-use borrow.Author.Rules.{rules}
-use Rattle.field.proofs.powers.mapped.Reads as mapped-reads
-use Rattle.field.proofs.powers.squares_of.Reads as squares-of-reads
+use Rattle.field.proofs.Raising.{raising-from, raising-on, raising-end}
 use Rattle.field.proofs.powers.raised.Goals as goal
 
 pub squares_of-row-requires : goal.squares_of-row-requires

@@ -1,10 +1,8 @@
 -- `field::rows::known_row` meets its contract. The loop's invariant: m is looked for among the rows from i on, and the
 -- row is that at i.
 -- Assumes nothing.
-use Prim.Native.Nat.{◌-◌}
 use native.Mathlib.Omega.{arith}
-use Rattle.field.proofs.Known.{Looking, looking-from, looking-on, looking-end}
-use borrow.Author.Rules.{rules}
+use Rattle.field.proofs.Known.{looking-from, looking-on, looking-end}
 use Rattle.field.proofs.rows.known_row.Goals as goal
 
 pub bounds-0 : goal.bounds-0

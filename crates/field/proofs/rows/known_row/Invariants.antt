@@ -2,9 +2,7 @@
 -- row is that at i.
 -- Assumes nothing.
 use Prim.Native.Nat.{◌-◌}
-use native.Mathlib.Omega.{arith}
-use Rattle.field.proofs.Known.{Looking, looking-from, looking-on, looking-end}
-use borrow.Author.Rules.{rules}
+use Rattle.field.proofs.Known.{Looking}
 use Rattle.field.proofs.rows.known_row.Given as goal
 
 abbrev pub invariant-loop-row : goal.invariant-loop-row

@@ -1,11 +1,9 @@
 -- `field::rows::row_of` meets its contract. The loop's invariant: m is looked for among the rows from i on.
 -- Assumes nothing.
-use mathlib.Core.Path.{◌≡◌, refl}
+use mathlib.Core.Path.{◌≡◌}
 use Prim.Native.Nat.{◌≤◌, ◌-◌}
-use native.Mathlib.Omega.{arith}
 use lib.ListN.{drop}
 use Rattle.field.specs.Rows.{rows, row_in, row_at}
-use Rattle.field.proofs.Known.{looked-found, looked-on, looked-end}
 use Rattle.field.proofs.rows.row_of.Given as goal
 
 abbrev pub invariant-loop-i : goal.invariant-loop-i

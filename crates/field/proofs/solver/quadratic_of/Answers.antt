@@ -16,10 +16,6 @@ use Rattle.field.proofs.Ring.{mul_comm}
 use Rattle.field.proofs.Raising.{raised_by-lt, raised-squared}
 use Rattle.field.proofs.Solutions.{answer-none, answer-up, answer-down, solution}
 use Rattle.field.proofs.Doubles.{solved-none, solved-double, solved-two}
-use borrow.Author.Rules.{rules}
-use Rattle.field.proofs.arithmetic.product_of.Reads as product-of-reads
-use Rattle.field.proofs.arithmetic.root_of.Reads as root-of-reads
-use Rattle.field.proofs.powers.raised.Reads as raised-reads
 use Rattle.field.proofs.solver.quadratic_of.Goals as goal
 
 -- the square root of b, divided by a, is an element
