@@ -15,7 +15,7 @@ use Rattle.input.specs.Polynomials.{PolynomialIn}
 use Rattle.input.proofs.Polynomials.{roots_few}
 use Rattle.input.specs.Limit.{limit}
 use Rattle.table_rules.specs.Layout.{by_factor}
-use Rattle.table_rules.specs.Table.{encode, sound}
+use Rattle.table_rules.specs.Table.{encode}
 use Rattle.table_rules.specs.Splitting.{is_done, stuck, slots_roots, slots_done, slots_stuck, slots_stepped, slots_after}
 use Rattle.table_rules.specs.Demand.{Demand3, step_count, groups_after, groups_slots}
 use Rattle.table_rules.proofs.Sizes.{limit-new, sound-under}
