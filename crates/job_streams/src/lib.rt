@@ -8,7 +8,7 @@ use std::env::{Env, FillError};
 use std::io;
 use std::io::Read;
 
-// The most bytes that a program reads.
+// The most bytes that a program reads: those of `large_buffer`.
 pub const MOST: usize = 65536;
 
 // The bytes of a word of the command line that are looked at.
@@ -41,6 +41,13 @@ pub enum Behind {
 pub struct Input {
     pub failed: bool,
     pub bytes: usize,
+}
+
+// Room for the most bytes that a program reads. Of it only the length is told.
+pub fn large_buffer() -> [u8; MOST]
+    ensures { 65536 ≡ length result }
+{
+    [0; MOST]
 }
 
 // Says a text on standard error. That it cannot be said can be told nowhere.

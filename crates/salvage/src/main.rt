@@ -4,10 +4,13 @@
 #![tactic(auto)]
 
 ghost use Rattle.std.specs.Prelude.{◌≡◌, ◌≤◌, length};
+ghost use Rattle.std.specs.Str.{IsAscii};
 
 use job_salvage::Salvaged;
 use job_salvage::report::ROW;
-use libc::STDERR_FILENO;
+use std::fs::File;
+use std::io::{ErrorKind, Read, Write};
+use std::{fs, io, str};
 
 // What stands under the name kept.lr: nothing, the very bytes that are kept now, or something else.
 #[derive(Drop)]
@@ -32,82 +35,108 @@ const OLD_NAMES: u8 = 99;
 const OLD_NAME: usize = 14;
 
 // Writes the bytes to a file that is empty, to its device, and closes it; false where that fails, which is told.
-fn fill(file: i32, bytes: &[u8]) -> bool {
-    if !io::write_all(file, bytes) {
-        os::fail(b"salvage: kept.lr.new");
-        libc::close(file);
+fn fill(rt: &HostRuntime, mut file: File, bytes: &[u8]) -> bool {
+    if let Err(error) = file.write_all(bytes) {
+        job_streams::tell_error(rt, b"salvage: kept.lr.new", error);
         return false;
     }
-    if libc::fsync(file) < 0 {
-        os::fail(b"salvage: kept.lr.new");
-        libc::close(file);
-        return false;
-    }
-    if libc::close(file) < 0 {
-        os::fail(b"salvage: kept.lr.new");
+    if let Err(error) = file.sync_all() {
+        job_streams::tell_error(rt, b"salvage: kept.lr.new", error);
         return false;
     }
     true
 }
 
 // Says that kept.lr.new could not be made. One that is there already is another run's, and stays.
-fn tell_not_made() {
-    let error = os::errno();
-    os::fail(b"salvage: kept.lr.new");
-    if error == libc::EEXIST {
-        io::write_all(
-            STDERR_FILENO,
+fn tell_not_made(rt: &HostRuntime, error: io::Error) {
+    let kind = error.kind();
+    job_streams::tell_error(rt, b"salvage: kept.lr.new", error);
+    if kind == ErrorKind::AlreadyExists {
+        job_streams::say(
+            rt,
             b"salvage: another run is at work here, or one was stopped: look at kept.lr.new and remove it\n",
         );
     }
 }
 
+// Removes a file; where that fails, it stays.
+fn remove(rt: &HostRuntime, name: &str) {
+    let _ = fs::remove_file(rt, name);
+}
+
 // Makes kept.lr.new with these bytes; false where that fails, which is told.
-fn write_new(bytes: &[u8]) -> bool {
-    let file = os::create(b"kept.lr.new");
-    if file < 0 {
-        tell_not_made();
-        return false;
+fn write_new(rt: &HostRuntime, bytes: &[u8]) -> bool {
+    match File::create_new(rt, "kept.lr.new") {
+        Err(error) => {
+            tell_not_made(rt, error);
+            false
+        }
+        Ok(file) => {
+            if fill(rt, file, bytes) {
+                return true;
+            }
+            remove(rt, "kept.lr.new");
+            false
+        }
     }
-    if fill(file, bytes) {
-        return true;
+}
+
+// Reads until the room is full, the file ends or a read fails, and tells how many bytes came.
+fn read_full(file: &mut File, room: &mut [u8]) -> usize
+    ensures { result ≤ length room.new }
+{
+    let mut done = 0;
+    while done < room.len() {
+        match file.read(&mut room[done..]) {
+            Err(_) => break,
+            Ok(more) => {
+                if more == 0 {
+                    break;
+                }
+                done += more;
+            }
+        }
     }
-    os::unlink(b"kept.lr.new");
-    false
+    done
 }
 
 // Does an open file hold these bytes, and no more?
-fn holds(file: i32, bytes: &[u8]) -> bool {
-    let mut room = io::large_buffer();
-    let n = io::read_full(file, &mut room);
-    if !check::same(&room[..n], bytes) {
+fn holds(file: &mut File, bytes: &[u8]) -> bool {
+    let mut room = job_streams::large_buffer();
+    let n = read_full(file, &mut room);
+    if !job_streams::same(&room[..n], bytes) {
         return false;
     }
     let mut one = [0u8; 1];
-    libc::read(file, &mut one) == 0
+    match file.read(&mut one) {
+        Ok(more) => more == 0,
+        Err(_) => false,
+    }
 }
 
 // What stands under the name kept.lr; what cannot be read is something else.
-fn old_kept(bytes: &[u8]) -> Old {
-    let file = os::open_read(b"kept.lr");
-    if file < 0 {
-        if os::errno() == libc::ENOENT {
-            return Old::Missing;
+fn old_kept(rt: &HostRuntime, bytes: &[u8]) -> Old {
+    match File::open(rt, "kept.lr") {
+        Err(error) => {
+            if error.kind() == ErrorKind::NotFound {
+                return Old::Missing;
+            }
+            Old::Other
         }
-        return Old::Other;
+        Ok(mut file) => {
+            if holds(&mut file, bytes) {
+                return Old::Same;
+            }
+            Old::Other
+        }
     }
-    let same = holds(file, bytes);
-    libc::close(file);
-    if same {
-        return Old::Same;
-    }
-    Old::Other
 }
 
 // The k-th name for a kept.lr that gives way: so many bytes of kept.lr.old.00 with the digits of k.
 fn old_name(k: u8) -> [u8; OLD_NAME]
     requires { k ≤ 99 }
-    ensures { 14 ≡ length result }
+    ensures len { 14 ≡ length result }
+    ensures ascii { IsAscii result }
 {
     let mut name = *b"kept.lr.old.00";
     if k < 10 {
@@ -132,52 +161,65 @@ fn old_length(k: u8) -> usize
     14
 }
 
+// A name as text.
+fn text(name: &[u8]) -> &str
+    requires { IsAscii name.now }
+    ensures { result.now ≡ name.now }
+{
+    str::from_utf8(name).unwrap()
+}
+
 // Moves kept.lr to a name that no file had; false where that fails, which is told.
-fn move_old(name: &[u8]) -> bool {
-    if os::rename(b"kept.lr", name) < 0 {
-        os::fail(b"salvage: kept.lr");
-        os::unlink(name);
+fn move_old(rt: &HostRuntime, name: &str) -> bool {
+    if let Err(error) = fs::rename(rt, "kept.lr", name) {
+        job_streams::tell_error(rt, b"salvage: kept.lr", error);
+        remove(rt, name);
         return false;
     }
-    io::write_all(STDERR_FILENO, b"salvage: the kept.lr that was here is ");
-    io::write_all(STDERR_FILENO, name);
-    io::write_all(STDERR_FILENO, b" now\n");
+    job_streams::say(rt, b"salvage: the kept.lr that was here is ");
+    job_streams::say(rt, name.as_bytes());
+    job_streams::say(rt, b" now\n");
     true
+}
+
+// Makes an empty file of a name that no file has.
+fn make_empty(rt: &HostRuntime, name: &str) -> io::Result<()> {
+    File::create_new(rt, name)?;
+    Ok(())
 }
 
 // Tries to keep kept.lr under its k-th other name. The name is taken by a file that must be new, so that nothing that
 // stands there is lost. What fails is told.
-fn keep_under(k: u8) -> Tried
+fn keep_under(rt: &HostRuntime, k: u8) -> Tried
     requires { k ≤ 99 }
 {
     let name = old_name(k);
     let n = old_length(k);
-    let file = os::create(&name[..n]);
-    if file < 0 {
-        if os::errno() == libc::EEXIST {
+    let name = text(&name[..n]);
+    if let Err(error) = make_empty(rt, name) {
+        if error.kind() == ErrorKind::AlreadyExists {
             return Tried::Taken;
         }
-        os::fail(b"salvage: kept.lr.old");
+        job_streams::tell_error(rt, b"salvage: kept.lr.old", error);
         return Tried::Failed;
     }
-    libc::close(file);
-    if move_old(&name[..n]) {
+    if move_old(rt, name) {
         return Tried::Kept;
     }
     Tried::Failed
 }
 
 // Keeps kept.lr under the first of its other names that is free; false where that fails, which is told.
-fn keep_old() -> bool {
+fn keep_old(rt: &HostRuntime) -> bool {
     for k in 1..=OLD_NAMES {
-        match keep_under(k) {
+        match keep_under(rt, k) {
             Tried::Kept => return true,
             Tried::Failed => return false,
             Tried::Taken => {}
         }
     }
-    io::write_all(
-        STDERR_FILENO,
+    job_streams::say(
+        rt,
         b"salvage: kept.lr.old to kept.lr.old.99 are all there: remove some of them\n",
     );
     false
@@ -185,41 +227,41 @@ fn keep_old() -> bool {
 
 // Makes room for a new kept.lr: one of another content goes on under another name. False where that fails, which is
 // told.
-fn give_way(bytes: &[u8]) -> bool {
-    match old_kept(bytes) {
+fn give_way(rt: &HostRuntime, bytes: &[u8]) -> bool {
+    match old_kept(rt, bytes) {
         Old::Missing => true,
         Old::Same => true,
-        Old::Other => keep_old(),
+        Old::Other => keep_old(rt),
     }
 }
 
 // Puts the bytes into kept.lr; false where that fails, which is told. They are written under another name first, and an
 // old kept.lr stays whole until they are all there.
-fn write_kept(bytes: &[u8]) -> bool {
-    if !write_new(bytes) {
+fn write_kept(rt: &HostRuntime, bytes: &[u8]) -> bool {
+    if !write_new(rt, bytes) {
         return false;
     }
-    if !give_way(bytes) {
-        os::unlink(b"kept.lr.new");
+    if !give_way(rt, bytes) {
+        remove(rt, "kept.lr.new");
         return false;
     }
-    if os::rename(b"kept.lr.new", b"kept.lr") < 0 {
-        os::fail(b"salvage: kept.lr");
-        os::unlink(b"kept.lr.new");
+    if let Err(error) = fs::rename(rt, "kept.lr.new", "kept.lr") {
+        job_streams::tell_error(rt, b"salvage: kept.lr", error);
+        remove(rt, "kept.lr.new");
         return false;
     }
     true
 }
 
 // Prints the line of a dropped stretch; false where that fails, which is told.
-fn print_stretch(start: u32, len: u32) -> bool {
+fn print_stretch(rt: &HostRuntime, start: u32, len: u32) -> bool {
     let mut out = [0u8; ROW];
     let n = job_salvage::report::stretch_row(start, len, &mut out);
-    job_streams::print(b"salvage", &out[..n])
+    job_streams::print(rt, b"salvage", &out[..n])
 }
 
 // Prints the line of each dropped stretch, in file order; false where that fails, which is told.
-fn print_stretches(file: &[u8]) -> bool
+fn print_stretches(rt: &HostRuntime, file: &[u8]) -> bool
     requires { length file.now ≤ 65536 }
 {
     let mut at = 0;
@@ -227,7 +269,7 @@ fn print_stretches(file: &[u8]) -> bool
         let next = job_salvage::next_kept(file, at);
         let start = next.start;
         if at < start {
-            if !print_stretch(at as u32, (start - at) as u32) {
+            if !print_stretch(rt, at as u32, (start - at) as u32) {
                 return false;
             }
         }
@@ -237,45 +279,46 @@ fn print_stretches(file: &[u8]) -> bool
 }
 
 // Prints the number of records kept.
-fn print_count(records: u32) {
+fn print_count(rt: &HostRuntime, records: u32) {
     let mut out = [0u8; ROW];
     let n = job_salvage::report::count_row(records, &mut out);
-    job_streams::print(b"salvage", &out[..n]);
+    job_streams::print(rt, b"salvage", &out[..n]);
 }
 
 // Keeps what can be kept of what was read; false where a line or kept.lr could not be written.
-fn keep(file: &[u8]) -> bool
+fn keep(rt: &HostRuntime, file: &[u8]) -> bool
     requires { length file.now ≤ 65536 }
 {
-    let mut room = io::large_buffer();
+    let mut room = job_streams::large_buffer();
     let done = job_salvage::salvage(file, &mut room);
     let Salvaged::Kept { records, bytes } = done else {
         return false; // the room is as long as any file
     };
-    if !write_kept(&room[..bytes]) {
+    if !write_kept(rt, &room[..bytes]) {
         return false;
     }
-    if !print_stretches(file) {
+    if !print_stretches(rt, file) {
         return false;
     }
-    print_count(records as u32);
+    print_count(rt, records as u32);
     true
 }
 
 // Reads standard input into the room, keeps what can be kept, and tells if there is more behind it.
-fn run(room: &mut [u8]) {
-    let came = job_streams::read_all(b"salvage", room);
+fn run(rt: &HostRuntime, room: &mut [u8]) {
+    let came = job_streams::read_all(rt, b"salvage", room);
     let n = came.bytes;
     if came.failed {
         return;
     }
-    if keep(&room[..n]) {
-        job_streams::tell_behind(b"salvage", n);
+    if keep(rt, &room[..n]) {
+        job_streams::tell_behind(rt, b"salvage", n);
     }
 }
 
-fn main() {
+fn main(rt: HostRuntime) {
     if !job_streams::starts(
+        &rt,
         b"salvage",
         b"salvage <damaged.lr",
         b"Puts the records of a damaged job file that can be kept into kept.lr, and prints the start and length of each\n\
@@ -283,6 +326,6 @@ stretch that was dropped, and last how many records were kept. A kept.lr that is
     ) {
         return;
     }
-    let mut buffer = io::large_buffer();
-    run(&mut buffer);
+    let mut buffer = job_streams::large_buffer();
+    run(&rt, &mut buffer);
 }
