@@ -22,7 +22,7 @@ pub const MARK: [u8; 2] = [0x4C, 0x52];
 pub const HEAD: usize = 5;
 
 // The cutoff as a record states it.
-#[derive(Drop)]
+#[derive(Clone, Copy)]
 pub enum Cutoff {
     House,
     Stated(u8),
@@ -30,7 +30,7 @@ pub enum Cutoff {
 
 // A record that the whole call accepts: its coefficient bytes are `len` bytes of the file from `start` on, and `next`
 // is the place behind it.
-#[derive(Drop)]
+#[derive(Clone, Copy)]
 pub struct Job {
     pub m: u8,
     pub cutoff: Cutoff,
