@@ -6,23 +6,22 @@
 --   Flipped, flipped        what flips make of a word: its number with 2^j added for each place j
 -- Assumes nothing.
 use mathlib.Core.Path.{◌≡◌, refl, sym, ap, ap₂, ◌∙◌, subst, fun_ext}
-use mathlib.Core.Logic.{⊎_elim}
 use mathlib.Core.Bool.{Bool, true, false}
 use mathlib.Core.List.{List, [], ◌∷◌, map}
-use Prim.Native.Nat.{ℕ, zero, suc, ◌+◌, ◌-◌, ◌*◌, ◌/◌, ◌%◌, ◌^◌, ◌≤◌, ◌<◌}
-use native.Mathlib.Nat.{not-suc-le-zero, pow-suc, add-suc, suc-add, zero-add, zero-lt-suc, div-lt_iff_lt-mul, mul_assoc as times-assoc, mul-one, zero-div, div-one}
+use Prim.Native.Nat.{ℕ, zero, suc, ◌+◌, ◌-◌, ◌*◌, ◌/◌, ◌%◌, ◌^◌, ◌<◌}
+use native.Mathlib.Nat.{pow-suc, suc-add, zero-add, mul_assoc as times-assoc, mul-one, zero-div, div-one}
 use native.Mathlib.Decide.{dec_lt}
 use native.Mathlib.Omega.{arith}
 use lib.Bits.{bit_xor, xor_comm, xor_shifted, xor_lt, xor_zero_r}
 use lib.Dec.{eqb}
 use lib.ListN.{length, get_or, set, length-set}
 use lib.Seq.{get_or-set_same, get_or-set_other}
-use lib.Pow.{shr-shr, pow-add, pow-lt, pow_pos}
+use lib.Pow.{shr-shr, pow-add, pow-lt}
 use Rattle.algebra.specs.Trial.{All, up_from}
 use Rattle.field.proofs.Xor.{xor_assoc}
-use Rattle.corrector_code.specs.Word.{difference, places}
+use Rattle.corrector_code.specs.Word.{places}
 use Rattle.corrector_code.specs.Digits.{bytes_number, digits}
-use Rattle.corrector_code.proofs.Flips.{digits-xor, flip-number}
+use Rattle.corrector_code.proofs.Flips.{flip-number}
 use Rattle.corrector.specs.Correcting.{bit_at}
 use Rattle.corrector.specs.Places.{xor_over, flip_all}
 

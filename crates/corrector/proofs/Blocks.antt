@@ -7,9 +7,9 @@
 --   within-bits, within_block  from bytes to bits, and back
 -- Assumes nothing.
 use mathlib.Core.Path.{◌≡◌, refl, sym, ap, ap₂, ◌∙◌, subst, fun_ext}
-use mathlib.Core.Bool.{Bool, true, false, not, cond}
+use mathlib.Core.Bool.{Bool, not, cond}
 use mathlib.Core.List.{List, [], ◌∷◌, map}
-use Prim.Native.Nat.{ℕ, zero, suc, ◌*◌, ◌/◌, ◌%◌, ◌^◌, ◌≤◌, ◌<◌}
+use Prim.Native.Nat.{ℕ, zero, suc, ◌/◌, ◌%◌, ◌^◌, ◌≤◌, ◌<◌}
 use native.Mathlib.Omega.{arith}
 use borrow.Author.Tests.{eq-eqb}
 use lib.Dec.{eqb}
@@ -21,7 +21,7 @@ use Rattle.field.proofs.Digits.{bit-cases}
 use Rattle.corrector_code.specs.Word.{differs, difference, bit, word_value, places}
 use Rattle.corrector_code.specs.Word as words
 use Rattle.corrector_code.specs.Eleven.{F11}
-use Rattle.corrector.specs.Correcting.{bit_at, polynomial, distance, IsBlock, IsCodeword, Within}
+use Rattle.corrector.specs.Correcting.{bit_at, polynomial, distance, IsBlock, Within}
 use Rattle.corrector.proofs.Bits.{bits_of}
 use Rattle.corrector.proofs.Reordering.{places-kept}
 

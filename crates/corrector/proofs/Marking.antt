@@ -5,20 +5,18 @@
 --   places-distinct   each place once;  places-member  exactly these;  places-below  all in the word
 -- Assumes nothing.
 use mathlib.Core.Path.{◌≡◌, refl, sym, ap, ap₂, ◌∙◌, subst}
-use mathlib.Core.Logic.{◌≢◌, ◌↔◌, ◌⊎◌, inl, inr, ⊎_elim}
-use mathlib.Core.Bool.{Bool, true, false, cond}
+use mathlib.Core.Logic.{◌≢◌, ◌↔◌, ⊎_elim}
 use mathlib.Core.List.Memᴰ
 use mathlib.Core.List.{List, [], ◌∷◌, map, Memᴰ}
-use Prim.Native.Nat.{ℕ, zero, suc, ◌+◌, ◌-◌, ◌*◌, ◌^◌, ◌≤◌, ◌<◌}
+use Prim.Native.Nat.{ℕ, zero, suc, ◌+◌, ◌-◌, ◌<◌}
 use native.Mathlib.Omega.{arith}
-use lib.Bits.{bit_xor, xor_zero_r}
-use lib.Dec.{T, eqb, eqb→eq}
-use lib.ListN.{length, get_or, length-map}
+use lib.Bits.{bit_xor}
+use lib.Dec.{T, eqb→eq}
+use lib.ListN.{get_or}
 use Rattle.algebra.specs.Field.{power}
-use Rattle.algebra.specs.Trial.{All, Distinct, up_from}
+use Rattle.algebra.specs.Trial.{All, Distinct}
 use Rattle.algebra.specs.Polynomial.{eval, is_root}
 use Rattle.algebra.proofs.RootList.{roots_of-distinct, roots_of-member}
-use Rattle.algebra.proofs.Trial.{all-at}
 use Rattle.field.specs.Field.{field_at, mul, inverse, position, roots_at}
 use Rattle.field.proofs.Ring.{ring, power-lt, power-add}
 use Rattle.field.proofs.Generator.{one_below, inverse-lt, inverse-only, mul-inverse, position-only, position-is, power-order}

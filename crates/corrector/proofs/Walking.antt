@@ -7,19 +7,18 @@
 --   agree_on, agree-not                                                the comparison of the sums
 --   false-never                                                        false is not true
 -- Assumes nothing.
-use mathlib.Core.Path.{◌≡◌, refl, sym, ap, ap₂, ◌∙◌, subst}
+use mathlib.Core.Path.{◌≡◌, refl, sym, ap, ap₂, ◌∙◌}
 use mathlib.Core.Logic.{◌≢◌, ⊎_elim}
-use mathlib.Core.Bool.{Bool, true, false}
-use mathlib.Core.List.{List, [], ◌∷◌, ◌++◌, map}
-use Prim.Native.Nat.{ℕ, zero, suc, ◌+◌, ◌-◌, ◌*◌, ◌/◌, ◌%◌, ◌^◌, ◌≤◌, ◌<◌}
+use mathlib.Core.Bool.{true, false}
+use mathlib.Core.List.{List, [], ◌∷◌, ◌++◌}
+use Prim.Native.Nat.{ℕ, zero, suc, ◌+◌, ◌*◌, ◌/◌, ◌%◌, ◌^◌, ◌≤◌, ◌<◌}
 use native.Mathlib.Nat.{eq-or-lt_of_le, mul-le-mul_right}
 use native.Mathlib.Numerals.{add-one}
 use native.Mathlib.Omega.{arith}
-use lib.Bits.{bit_xor, xor_zero_r, xor_comm}
-use lib.ListN.{length, get_or, set, take, length-set, length-take, replicate}
-use lib.Seq.{take-suc, get_or-set_same, get_or-set_other, get_or-take, ext_get_or, take_all}
+use lib.Bits.{bit_xor, xor_zero_r}
+use lib.ListN.{length, get_or, set, take, length-set, replicate}
+use lib.Seq.{take-suc, get_or-set_same, get_or-set_other}
 use Rattle.algebra.specs.Field.{power}
-use Rattle.algebra.specs.Trial.{All}
 use Rattle.field.specs.Field.{field_at, mul}
 use Rattle.field.specs.Tables.{antilog_of}
 use Rattle.field.proofs.Xor.{xor_assoc}
@@ -29,8 +28,7 @@ use Rattle.field.proofs.Logarithms.{antilog-even}
 use Rattle.field_elements.specs.Calls.{position_under}
 use Rattle.corrector_code.specs.Eleven.{F11}
 use Rattle.corrector_code.proofs.Eleven.{gen11}
-use Rattle.corrector.specs.Places.{xor_over, sum_at, flip_all, places_in, Placing, Placed, Few8, Agrees}
-use Rattle.corrector.specs.declared.Places.{Places}
+use Rattle.corrector.specs.Places.{xor_over, sum_at, flip_all, Agrees}
 open ring (field_at 11) gen11.monic use {mul-one-l}
 
 -- ---- powers

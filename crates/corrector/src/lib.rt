@@ -43,7 +43,7 @@ pub enum Corrected {
 }
 
 // Where the wrong bits may stand: the first n of at, if they are good; else nowhere.
-#[derive(Drop)]
+#[derive(Clone, Copy)]
 pub struct Places {
     pub at: [u16; 8],
     pub n: u16,
