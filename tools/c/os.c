@@ -1,10 +1,10 @@
-/* The C of the toolchain's crate os for machines other than x86-64, for which the toolchain has it compiled: the
-   functions that the programs of crates/ reach, as that crate declares them (its c.rt), with the flags that its own C
-   has. What is assumed of them stands there (axioms= on the last line of a program's check). */
+/* The C of the toolchain's crates os and libc for machines other than x86-64, for which the toolchain has it compiled:
+   the functions that the programs of crates/ reach, as those crates declare them (c.rt, heap.rt). What is assumed of
+   them stands there (axioms= on the last line of a program's check). */
 #define _POSIX_C_SOURCE 200809L
 #include <errno.h>
-#include <fcntl.h>
 #include <stdint.h>
+#include <stdlib.h>
 
 /* tests/c/fuzz-records.c has these two itself. */
 #define MAY_BE_REPLACED __attribute__((weak))
@@ -50,14 +50,32 @@ void rattle_set_errno(int32_t error)
     errno = error;
 }
 
-/* Opens the file for reading: a descriptor, or -1. path ends in a 0. */
-int32_t rattle_open_to_read(const uint8_t *path)
+/* What a try for memory answers: 1 and where it is, or 0. */
+typedef struct {
+    uint64_t ok;
+    void *place;
+} tried;
+
+static tried told(void *place)
 {
-    return open((const char *)path, O_RDONLY | O_NOCTTY | O_CLOEXEC);
+    static uint64_t nothing[2];
+    return (tried){place != NULL, place != NULL ? place : nothing};
 }
 
-/* Makes the file: a descriptor that is open for writing, or -1, as where the name is taken. path ends in a 0. */
-int32_t rattle_open_new(const uint8_t *path, uint32_t mode)
+/* New memory of n bytes; a, its alignment, is 16 at most. Of no bytes there is a block too. */
+tried rattle_alloc(uint64_t n, uint64_t a)
 {
-    return open((const char *)path, O_WRONLY | O_CREAT | O_EXCL | O_NOCTTY | O_CLOEXEC, (mode_t)mode);
+    return told(malloc(n != 0 ? n : a));
+}
+
+/* The block at p becomes one of n bytes, and its first bytes stay. */
+tried rattle_realloc(void *p, uint64_t kept, uint64_t n, uint64_t a)
+{
+    (void)kept;
+    return told(realloc(p, n != 0 ? n : a));
+}
+
+void rattle_dealloc(void *p)
+{
+    free(p);
 }
