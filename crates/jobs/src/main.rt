@@ -10,7 +10,6 @@ ghost use Rattle.job_lists.specs.Lines.{line_end};
 use job_lists::Listed;
 use job_streams::Behind;
 use job_writer::{RECORD, Written};
-use libc::STDERR_FILENO;
 
 // What became of lines: they were taken, one is cut off, or a record could not be written.
 #[derive(Drop)]
@@ -28,40 +27,40 @@ struct LineTaken {
 }
 
 // Says which line is meant.
-fn tell_line(k: u32) {
-    io::write_all(STDERR_FILENO, b"jobs: line ");
-    io::print_decimal(STDERR_FILENO, k as u64);
+fn tell_line(rt: &HostRuntime, k: u32) {
+    job_streams::say(rt, b"jobs: line ");
+    job_streams::say_number(rt, k as u64);
 }
 
 // Says that the line k asks for no record that can be read.
-fn tell_illegible(k: u32) {
-    tell_line(k);
-    io::write_all(
-        STDERR_FILENO,
+fn tell_illegible(rt: &HostRuntime, k: u32) {
+    tell_line(rt, k);
+    job_streams::say(
+        rt,
         b": not decimal numbers: m, a cutoff and roots\n",
     );
 }
 
 // Says that the line k is cut off where the program stops reading.
-fn tell_cut(k: u32) {
-    tell_line(k);
-    io::write_all(
-        STDERR_FILENO,
+fn tell_cut(rt: &HostRuntime, k: u32) {
+    tell_line(rt, k);
+    job_streams::say(
+        rt,
         b" is cut off at byte 65,536: no record of it was written; the rest was not read\n",
     );
 }
 
 // Says under which number the line k is refused.
-fn tell_refused(k: u32, number: u16) {
-    tell_line(k);
-    io::write_all(STDERR_FILENO, b": refused under ");
-    io::print_decimal(STDERR_FILENO, number as u64);
-    io::write_all(STDERR_FILENO, b"\n");
+fn tell_refused(rt: &HostRuntime, k: u32, number: u16) {
+    tell_line(rt, k);
+    job_streams::say(rt, b": refused under ");
+    job_streams::say_number(rt, number as u64);
+    job_streams::say(rt, b"\n");
 }
 
 // Writes a record to standard output; that it could not be written is told.
-fn print_record(bytes: &[u8]) -> Fate {
-    if job_streams::print(b"jobs", bytes) {
+fn print_record(rt: &HostRuntime, bytes: &[u8]) -> Fate {
+    if job_streams::print(rt, b"jobs", bytes) {
         return Fate::Taken;
     }
     Fate::Failed
@@ -69,7 +68,7 @@ fn print_record(bytes: &[u8]) -> Fate {
 
 // Writes the record that the line at a place asks for, which is the line k, or says why there is none. Where `ended`
 // holds the input ends with the text.
-fn take_line(text: &[u8], at: usize, ended: bool, k: u32) -> LineTaken
+fn take_line(rt: &HostRuntime, text: &[u8], at: usize, ended: bool, k: u32) -> LineTaken
     requires { at ≤ length text.now }
     ensures { result.end ≡ line_end text.now at }
 {
@@ -80,21 +79,21 @@ fn take_line(text: &[u8], at: usize, ended: bool, k: u32) -> LineTaken
     let fate = match listed {
         Listed::Blank => Fate::Taken,
         Listed::CutOff => {
-            tell_cut(k);
+            tell_cut(rt, k);
             Fate::CutOff
         }
         Listed::Illegible => {
-            tell_illegible(k);
+            tell_illegible(rt, k);
             Fate::Taken
         }
         Listed::Answer(answer) => match answer {
             Written::NotWritten(refusal) => {
-                tell_refused(k, refusals::number(refusal));
+                tell_refused(rt, k, refusals::number(refusal));
                 Fate::Taken
             }
             Written::Bytes(bytes) => {
                 let n = bytes as usize;
-                print_record(&room[..n])
+                print_record(rt, &room[..n])
             }
         },
     };
@@ -102,13 +101,13 @@ fn take_line(text: &[u8], at: usize, ended: bool, k: u32) -> LineTaken
 }
 
 // Takes each line of the text, in order, up to one that is cut off or whose record could not be written.
-fn take_lines(text: &[u8], ended: bool) -> Fate
+fn take_lines(rt: &HostRuntime, text: &[u8], ended: bool) -> Fate
     requires { length text.now ≤ 65536 }
 {
     let mut at = 0;
     let mut k = 1;
     while at < text.len() {
-        let line = take_line(text, at, ended, k);
+        let line = take_line(rt, text, at, ended, k);
         let fate = line.fate;
         match fate {
             Fate::CutOff => return Fate::CutOff,
@@ -123,11 +122,11 @@ fn take_lines(text: &[u8], ended: bool) -> Fate
 }
 
 // Takes the lines of a text behind which there is more input, and says that it is ignored unless a line is cut off there.
-fn take_front(text: &[u8])
+fn take_front(rt: &HostRuntime, text: &[u8])
     requires { length text.now ≤ 65536 }
 {
-    match take_lines(text, false) {
-        Fate::Taken => job_streams::tell_ignored(b"jobs"),
+    match take_lines(rt, text, false) {
+        Fate::Taken => job_streams::tell_ignored(rt, b"jobs"),
         Fate::CutOff => {}
         Fate::Failed => {}
     }
@@ -135,31 +134,32 @@ fn take_front(text: &[u8])
 
 // Reads standard input into the room and takes its lines. Where it is not known whether the input ends, a last line
 // without a line feed is not known to be whole.
-fn run(room: &mut [u8]) {
-    let came = job_streams::read_all(b"jobs", room);
+fn run(rt: &HostRuntime, room: &mut [u8]) {
+    let came = job_streams::read_all(rt, b"jobs", room);
     let n = came.bytes;
     if came.failed {
         return;
     }
-    match job_streams::ask_behind(b"jobs", n) {
+    match job_streams::ask_behind(rt, b"jobs", n) {
         Behind::Nothing => {
-            take_lines(&room[..n], true);
+            take_lines(rt, &room[..n], true);
         }
         Behind::Unknown => {
-            take_lines(&room[..n], false);
+            take_lines(rt, &room[..n], false);
         }
-        Behind::More => take_front(&room[..n]),
+        Behind::More => take_front(rt, &room[..n]),
     }
 }
 
-fn main() {
+fn main(rt: HostRuntime) {
     if !job_streams::starts(
+        &rt,
         b"jobs",
         b"jobs <list >jobs.lr",
         b"Writes the job record of each line of a list of roots: m, a cutoff and up to 64 ascending roots, in decimal.\n",
     ) {
         return;
     }
-    let mut buffer = io::large_buffer();
-    run(&mut buffer);
+    let mut buffer = job_streams::large_buffer();
+    run(&rt, &mut buffer);
 }
