@@ -8,7 +8,7 @@ use mathlib.Core.List.{List, [], ◌∷◌}
 use Prim.Native.Nat.{ℕ}
 use lib.ListN.{length}
 use Rattle.refusals.specs.Order.{outcome}
-use Rattle.refusals.proofs.Numbers.{accepted-back, by_number, refused-back}
+use Rattle.refusals.proofs.Numbers.{by_number, refused-back}
 use Rattle.refusals.proofs.Order.{accepted, refused}
 use Rattle.refusals.proofs.Told.{way_back}
 use Rattle.claim_rules.specs.Claims.{Claim}

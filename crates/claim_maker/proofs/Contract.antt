@@ -3,7 +3,7 @@
 --   PROVE-ROOTS      the roots and their multiplicities stand at the fronts of their lists, which stay as they were
 --                    behind them
 -- Assumes nothing.
-use mathlib.Core.Path.{◌≡◌, refl, sym, ap, ap₂, subst, ◌∙◌}
+use mathlib.Core.Path.{◌≡◌, sym, ap, ap₂, subst, ◌∙◌}
 use mathlib.Core.List.{List}
 use Prim.Native.Nat.{ℕ, suc}
 use lib.ListN.{length, take}

@@ -6,11 +6,11 @@
 -- Assumes nothing.
 use mathlib.Core.Path.{◌≡◌, refl, sym, ap, ap₂, subst, ◌∙◌}
 use mathlib.Core.Logic.{◌≢◌}
-use mathlib.Core.List.{List, [], ◌∷◌, ◌++◌}
+use mathlib.Core.List.{List, ◌++◌}
 use Prim.Native.Nat.{ℕ, suc, ◌+◌, ◌-◌, ◌^◌, ◌≤◌, ◌<◌}
 use native.Mathlib.Numerals.{add-one}
 use native.Mathlib.Omega.{arith}
-use lib.ListN.{get_or-eq_default, drop, drop_of_length-le, get_or, length, length-append, length-drop, length-map, length-replicate, length-take, replicate, take}
+use lib.ListN.{get_or-eq_default, drop, drop_of_length-le, get_or, length, length-append, length-map, length-replicate, length-take, replicate, take}
 use lib.Seq.{drop-cons, length-take-le, take_at, take-take}
 use Rattle.algebra.specs.Field.{OnNumbers}
 use Rattle.algebra.specs.Polynomial.{Below, DividesBelow, add, coef, eval, from_roots, mul}
@@ -18,18 +18,18 @@ use Rattle.algebra.specs.Routines.{monic, monic_roots, quo}
 use Rattle.algebra.specs.Multiplicity.{multiplicity, spread, total}
 use Rattle.algebra.proofs.Crossing.{by-elements, elems, laws, low, low-from_roots, low-monic, low-monic_roots}
 use Rattle.algebra.proofs.Factors.{monic-roots}
-use Rattle.algebra.proofs.Lengths.{length-from_roots, length-monic_roots, length-quo}
+use Rattle.algebra.proofs.Lengths.{length-from_roots, length-quo}
 use Rattle.algebra.proofs.NumberDivision.{division-unique}
-use Rattle.algebra.proofs.NumberEvaluation.{eval-same, top-coef}
+use Rattle.algebra.proofs.NumberEvaluation.{eval-same}
 use Rattle.algebra.proofs.NumberMultiplicity.{factored}
-use Rattle.algebra.proofs.StaysBelow.{append-below, drop-below, monic_roots-below, mul-below, quo-below, replicate-below, roots_of-below, take_below}
+use Rattle.algebra.proofs.StaysBelow.{append-below, drop-below, monic_roots-below, quo-below, replicate-below, roots_of-below, take_below}
 use Rattle.field.specs.Field.{G, field_at, multiplicities_at, roots_at}
 use Rattle.field.specs.Tables.{log_of}
 use Rattle.slices.specs.Lists.{copied}
 use Rattle.slices.proofs.Lists.{copied-front, length-copied}
 use Rattle.poly.specs.Lent.{LogRow, Loggable, held, log_row}
 use Rattle.poly.specs.Division.{Divisible, divided}
-use Rattle.poly.proofs.Divisions.{divided-behind, length-divided}
+use Rattle.poly.proofs.Divisions.{divided-behind}
 use Rattle.poly.proofs.Logs.{held-long, held-row, numbers_of, row-is-row}
 use Rattle.poly.specs.Products.{Multipliable}
 use Rattle.poly.proofs.RootProducts.{product-below}
