@@ -3,7 +3,7 @@
 // word that is full, and 1 in the last one of a stream, whose data end in front of its last byte 80 (hex).
 #![tactic(auto)]
 
-ghost use Rattle.std.specs.Prelude.{◌≡◌, ◌+◌, ◌-◌, ◌*◌, ◌^◌, ◌≤◌, length};
+ghost use Rattle.std.specs.Prelude.{◌≡◌, ◌+◌, ◌-◌, ◌*◌, ◌^◌, ◌≤◌, ◌++◌, length, take, drop};
 ghost use Rattle.corrector.specs.Correcting.{IsBlock, IsStrength};
 ghost use Rattle.corrector.specs.Places.{Tells};
 ghost use Rattle.corrector_stream.specs.Words.{data_start, Fills, Fits, content};
@@ -78,14 +78,23 @@ pub fn capacity(strength: u16) -> usize
     MARK - data_start(strength)
 }
 
+// Writes all of the bytes to the front of a room.
+fn copy(src: &[u8], dst: &mut [u8])
+    requires { length src.now ≤ length dst.old }
+    ensures { dst.new ≡ take (length src.now) src.now ++ drop (length src.now) dst.old }
+{
+    let n = src.len();
+    dst[..n].copy_from_slice(src);
+}
+
 // Makes a word zeros, the data from a place on, and zeros.
 fn lay(start: usize, piece: &[u8], word: &mut [u8])
     requires { (length word.old ≡ 256) × (start + length piece.now ≤ 256) }
     ensures { word.new ≡ laid start piece.now }
 {
     let zeros = [0u8; WORD];
-    bytes::copy(&zeros, word);
-    bytes::copy(piece, &mut word[start..]);
+    copy(&zeros, word);
+    copy(piece, &mut word[start..]);
 }
 
 // Makes a word the content of the data.
@@ -197,7 +206,7 @@ fn take_out(strength: u16, flips: u16, word: &[u8], room: &mut [u8]) -> Unpacked
         Held::Bytes(bytes, last) => {
             let start = data_start(strength);
             let end = start + bytes;
-            bytes::copy(&word[start..end], room);
+            copy(&word[start..end], room);
             Unpacked::Data { bytes, last, flips }
         }
     }

@@ -6,7 +6,7 @@ ghost use Rattle.job_records.specs.Reading.{told_read, read_at, bytes_of};
 use crate::{Read, body_of, read_record};
 
 // A reader: the lent file and the place where it stands.
-#[derive(Drop)]
+#[derive(Clone, Copy)]
 pub struct Reader<'a> {
     pub file: &'a [u8],
     pub at: usize,
