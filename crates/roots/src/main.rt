@@ -17,14 +17,14 @@ const OVER: usize = usize::MAX - 1;
 const FAILED: usize = usize::MAX;
 
 // Prints the line of what was read; where reading goes on, or a number past the end of any file.
-fn print_turn(read: Read, bytes: &[u8], k: u32) -> usize
+fn print_turn(rt: &HostRuntime, read: Read, bytes: &[u8], k: u32) -> usize
     requires { Stands read bytes.now }
     ensures { Ahead read bytes.now result }
 {
     let mut out = [0u8; LINE];
     let turn = job_lines::take_turn(read, bytes, k, &mut out);
     let len = turn.len;
-    if !job_streams::print(b"roots", &out[..len]) {
+    if !job_streams::print(rt, b"roots", &out[..len]) {
         return FAILED;
     }
     let next = turn.next;
@@ -36,7 +36,7 @@ fn print_turn(read: Read, bytes: &[u8], k: u32) -> usize
 
 // Prints the line of each record, by a reader that is made once and moved on; FAILED where a line could not be
 // printed, else a number behind the last record.
-fn run(file: &[u8]) -> usize
+fn run(rt: &HostRuntime, file: &[u8]) -> usize
     requires { length file.now ≤ 65536 }
     ensures { length file.now ≤ result }
 {
@@ -45,8 +45,8 @@ fn run(file: &[u8]) -> usize
     let mut k = 1;
     while at < file.len() {
         let read = job_records::held::next(reader);
-        let bytes = job_records::held::bytes(reader, read);
-        at = print_turn(read, bytes, k);
+        let bytes = job_records::held::bytes(reader, job_records::held::next(reader));
+        at = print_turn(rt, read, bytes, k);
         reader = job_records::held::moved(reader, at);
         k += 1;
     }
@@ -54,12 +54,13 @@ fn run(file: &[u8]) -> usize
 }
 
 // Says where reading stopped.
-fn tell_stop(file: &[u8]) {
+fn tell_stop(rt: &HostRuntime, file: &[u8]) {
     match job_records::read_through(file) {
         Ending::Whole => {}
         Ending::Halted(stop) => {
             let refusal = stop.refusal;
             job_streams::tell_stop(
+                rt,
                 b"roots",
                 stop.record_number,
                 stop.at,
@@ -70,21 +71,22 @@ fn tell_stop(file: &[u8]) {
 }
 
 // Prints the lines of what was read, and says what was not.
-fn print_lines(file: &[u8])
+fn print_lines(rt: &HostRuntime, file: &[u8])
     requires { length file.now ≤ 65536 }
 {
-    let place = run(file);
+    let place = run(rt, file);
     if place == FAILED {
         return;
     }
     if place == OVER {
-        tell_stop(file);
+        tell_stop(rt, file);
     }
-    job_streams::tell_behind(b"roots", file.len());
+    job_streams::tell_behind(rt, b"roots", file.len());
 }
 
-fn main() {
+fn main(rt: HostRuntime) {
     if !job_streams::starts(
+        &rt,
         b"roots",
         b"roots <jobs.lr",
         b"Prints a line for each record of a job file: its number, 0 or the number of its refusal, and where it is\n\
@@ -92,11 +94,11 @@ accepted how many roots, the steps and the roots.\n",
     ) {
         return;
     }
-    let mut buffer = io::large_buffer();
-    let came = job_streams::read_all(b"roots", &mut buffer);
+    let mut buffer = job_streams::large_buffer();
+    let came = job_streams::read_all(&rt, b"roots", &mut buffer);
     let n = came.bytes;
     if came.failed {
         return;
     }
-    print_lines(&buffer[..n]);
+    print_lines(&rt, &buffer[..n]);
 }
