@@ -21,7 +21,6 @@ use Rattle.table_rules.proofs.Counting.{count-bound}
 use Rattle.find_solve.proofs.Tracing.{powers-fit}
 use Rattle.job_records.specs.Layout.{degree_byte, cutoff_byte, record_length, coefficients}
 use Rattle.job_records.specs.Reading.{start_tests, record_tests}
-use Rattle.job_records.proofs.Forward.Numbers.{one}
 use Rattle.job_sheet.specs.Entries.{Entry, goes_on, entry_here, entries_behind, entries}
 use Rattle.job_sheet.specs.Figures.{sum_of, accepted_in, FieldFigures, Figures, figures_at}
 use Rattle.job_sheet.specs.Calls.{total_of, told_field, Sheets}

@@ -5,7 +5,7 @@
 --   AcceptedEntry, read-accepted   what its entry counts
 --   accepted-roots          its roots are fewer than its bytes
 -- Assumes nothing.
-use Rattle.std.proofs.Common.{◌≡◌, ℕ, ◌+◌, ◌-◌, ◌*◌, ◌<◌, ◌≤◌, Bool, true, false, List, [], ◌∷◌, length, get_or, take, drop, sym, refl, ap, ◌∙◌, subst, ap₂, arith, length-take, get_or-drop, drop-drop}
+use Rattle.std.proofs.Common.{◌≡◌, ℕ, ◌+◌, ◌*◌, ◌<◌, ◌≤◌, Bool, true, false, List, [], ◌∷◌, length, get_or, take, drop, sym, refl, ap, ◌∙◌, subst, ap₂, arith, length-take, get_or-drop, drop-drop}
 use native.Mathlib.Nat.{min-le_left}
 use borrow.Author.Tests.{not-false}
 use Rattle.refusals.specs.Order.{Given}

@@ -21,7 +21,7 @@ pub mod text; // the lines that the program `sheet` prints
 pub const REFUSALS: usize = 5;
 
 // A total of steps, high * 2^64 + low: a file of 2^64 bytes may need more steps than one word holds.
-#[derive(Drop)]
+#[derive(Clone, Copy)]
 pub struct Total {
     pub high: u64,
     pub low: u64,
@@ -29,7 +29,7 @@ pub struct Total {
 
 // The record whose steps stand highest against their limit: its number in the file from 1, its steps and its limit; 0
 // where there is none.
-#[derive(Drop)]
+#[derive(Clone, Copy)]
 pub struct Highest {
     pub record_number: u64,
     pub steps: u16,
@@ -37,7 +37,7 @@ pub struct Highest {
 }
 
 // What the sheet has of a field: refused under 2, 3, 4, 5 and 6.
-#[derive(Drop)]
+#[derive(Clone, Copy)]
 pub struct FieldLine {
     pub accepted: u64,
     pub refused: [u64; REFUSALS],
