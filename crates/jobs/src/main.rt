@@ -35,10 +35,7 @@ fn tell_line(rt: &HostRuntime, k: u32) {
 // Says that the line k asks for no record that can be read.
 fn tell_illegible(rt: &HostRuntime, k: u32) {
     tell_line(rt, k);
-    job_streams::say(
-        rt,
-        b": not decimal numbers: m, a cutoff and roots\n",
-    );
+    job_streams::say(rt, b": not decimal numbers: m, a cutoff and roots\n");
 }
 
 // Says that the line k is cut off where the program stops reading.
