@@ -3,7 +3,7 @@
 --   above_zero   a number below 2^s has no bit from s on
 --   zero-above   and back: a byte with no bit from s on is below 2^s
 -- Assumes nothing.
-use mathlib.Core.Path.{◌≡◌, refl, sym, ap, ◌∙◌, subst}
+use mathlib.Core.Path.{◌≡◌, sym, ap, ◌∙◌, subst}
 use Prim.Native.Nat.{ℕ, zero, suc, ◌+◌, ◌-◌, ◌*◌, ◌/◌, ◌%◌, ◌^◌, ◌≤◌, ◌<◌}
 use native.Mathlib.Nat.{pow-suc, zero-lt-suc, div-eq_of_lt, div-lt_iff_lt-mul, pow-le-pow_right, lt_of_lt_of_le}
 use native.Mathlib.Nat.{div-one}

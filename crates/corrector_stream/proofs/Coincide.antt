@@ -1,17 +1,17 @@
 -- Two answers that a contract admits for one input are one, and so is every byte that they leave.
 --   capacity-coincide, pack-coincide, unpack-coincide
 -- Assumes nothing.
-use mathlib.Core.Path.{◌≡◌, refl, sym, ap, ap₂, ◌∙◌}
+use mathlib.Core.Path.{◌≡◌, refl, sym, ap, ◌∙◌}
 use mathlib.Core.Bool.{Bool}
 use mathlib.Core.List.{List, [], ◌∷◌}
-use Prim.Native.Nat.{ℕ, ◌≤◌, ◌<◌}
+use Prim.Native.Nat.{ℕ}
 use native.Mathlib.Omega.{arith}
 use lib.ListN.{length, get_or}
 use Rattle.slices.specs.Lists.{copied}
 use Rattle.refusals.specs.Numbers.{number_of}
 use Rattle.refusals.specs.declared.Refusal.{Refusal}
 use Rattle.refusals.proofs.Numbers.{by_number, refused-back}
-use Rattle.corrector.specs.Correcting.{IsBlock, IsStrength, Corrects}
+use Rattle.corrector.specs.Correcting.{Corrects}
 use Rattle.corrector.proofs.Coincide as correcting
 use Rattle.corrector.proofs.Contract.{found-codeword}
 use Rattle.corrector_encoder.proofs.Coincide as encoding
@@ -22,7 +22,7 @@ use Rattle.corrector_stream.specs.Calls.Packs.{no_block, no-strength, unfit, pac
 use Rattle.corrector_stream.specs.Calls.Unpacks.{no_room, refused, strange, given}
 use Rattle.corrector_stream.specs.declared.Packed.{Packed}
 use Rattle.corrector_stream.specs.declared.Unpacked.{Unpacked}
-use Rattle.corrector_stream.specs.declared.Unpacked.TheVariants.{Data, Strange, NotUnpacked}
+use Rattle.corrector_stream.specs.declared.Unpacked.TheVariants.{Strange, NotUnpacked}
 use Rattle.corrector_stream.proofs.Shapes.{carried-unique}
 
 pub capacity-coincide : {t m n : ℕ} → CapacityIs t m → CapacityIs t n → m ≡ n

@@ -10,12 +10,11 @@
 use mathlib.Core.Path.{◌≡◌, refl, sym, ap, ◌∙◌}
 use mathlib.Core.Bool.{Bool}
 use mathlib.Core.List.{List, [], ◌∷◌}
-use Prim.Native.Nat.{ℕ, ◌*◌, ◌≤◌, ◌<◌}
+use Prim.Native.Nat.{ℕ, ◌*◌, ◌≤◌}
 use native.Mathlib.Omega.{arith}
 use lib.ListN.{length, get_or, take}
-use Rattle.slices.specs.Lists.{copied}
 use Rattle.slices.proofs.Lists.{copied-front}
-use Rattle.corrector.specs.Correcting.{distance, IsBlock, IsStrength, Corrects}
+use Rattle.corrector.specs.Correcting.{distance, IsBlock, IsStrength}
 use Rattle.corrector.proofs.Blocks.{distance_self}
 use Rattle.corrector.proofs.Contract.{found-codeword}
 use Rattle.corrector_encoder.specs.Encoding.{Encodes}

@@ -6,16 +6,15 @@
 --   ending-from, ending-on, ending-found, ending-other, ending-none   its start, a turn, and its three ends
 -- Assumes nothing.
 use mathlib.Core.Path.{◌≡◌, refl, sym, ap, ◌∙◌, subst}
-use mathlib.Core.List.{List, [], ◌∷◌, ◌++◌}
+use mathlib.Core.List.{List, ◌∷◌, ◌++◌}
 use Prim.Native.Nat.{ℕ, zero, suc, ◌+◌, ◌-◌, ◌≤◌, ◌<◌}
 use native.Mathlib.Decide.{dec_lt}
 use native.Mathlib.Omega.{arith}
-use lib.ListN.{length, get_or, take, drop, replicate, length-drop, length-replicate, get_or-replicate, get_or-eq_default}
+use lib.ListN.{length, get_or, take, drop, replicate, length-drop, length-replicate, get_or-eq_default}
 use lib.Seq.{length-take-le, split_at, take_at, get_or_at, get_or-drop, get_or-append-add, ext_get_or}
 use Rattle.corrector_stream.specs.Words.{end_byte}
 use Rattle.corrector_stream.specs.Parts.{Padded, EndsAt}
 use Rattle.corrector_stream.specs.Parts.EndsAt.{at, nowhere}
-use Rattle.corrector_stream.specs.declared.End.{End}
 use Rattle.corrector_stream.specs.declared.End.TheVariants.{At, Nowhere}
 
 -- zeros are 0 at every place

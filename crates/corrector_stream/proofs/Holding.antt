@@ -13,15 +13,15 @@
 use mathlib.Core.Path.{◌≡◌, refl, sym, ap, ap₂, ◌∙◌, subst}
 use mathlib.Core.Bool.{Bool, true, false}
 use mathlib.Core.List.{List, [], ◌∷◌, ◌++◌}
-use Prim.Native.Nat.{ℕ, zero, suc, ◌+◌, ◌-◌, ◌*◌, ◌^◌, ◌≤◌, ◌<◌}
+use Prim.Native.Nat.{ℕ, zero, suc, ◌+◌, ◌-◌, ◌^◌, ◌≤◌, ◌<◌}
 use native.Mathlib.Omega.{arith}
 use lib.ListN.{length, get_or, take, drop, length-drop}
 use lib.Seq.{length-take-le, take-length, get_or-drop}
 use Rattle.slices.specs.Lists.{copied}
 use Rattle.corrector.specs.Correcting.{IsBlock, IsStrength, Corrects}
-use Rattle.corrector_stream.specs.Words.{data_start, capacity, mark_of, Fits, carried, Carries}
+use Rattle.corrector_stream.specs.Words.{data_start, capacity, Fits, carried, Carries}
 use Rattle.corrector_stream.specs.Calls.{CapacityIs, Roomy, Unpacks}
-use Rattle.corrector_stream.specs.Parts.{Padded, EndsAt, Holds, TakesOut}
+use Rattle.corrector_stream.specs.Parts.{EndsAt, Holds, TakesOut}
 use Rattle.corrector_stream.specs.Calls.CapacityIs.{of-strength, of_none}
 use Rattle.corrector_stream.specs.Parts.TakesOut.{strange as out-strange, given as out-given}
 use Rattle.corrector_stream.specs.Calls.Unpacks.{strange, given}
@@ -35,7 +35,7 @@ use Rattle.corrector_stream.specs.declared.End.{End}
 use Rattle.corrector_stream.specs.declared.End.TheVariants.{At, Nowhere}
 use Rattle.corrector_stream.proofs.Contents.{AreBytes, start-most, mark-small, fits-short}
 use Rattle.corrector_stream.proofs.Ends.{padded-front}
-use Rattle.corrector_stream.proofs.Shapes.{check_bits, Shaped, carries-shape, shape-carries, shape-mark}
+use Rattle.corrector_stream.proofs.Shapes.{check_bits, carries-shape, shape-carries, shape-mark}
 use Rattle.corrector_stream.proofs.Shapes.{shape-carried, shape-data, whole-shape, carried-padded}
 use Rattle.corrector_stream.proofs.Shapes.{padded-carried}
 

@@ -9,12 +9,12 @@
 use mathlib.Core.Path.{◌≡◌, refl, sym, ap, ap₂, ◌∙◌, subst}
 use mathlib.Core.Bool.{Bool, true, false}
 use mathlib.Core.List.{List, [], ◌∷◌, ◌++◌, append_assoc}
-use Prim.Native.Nat.{ℕ, zero, suc, ◌+◌, ◌-◌, ◌*◌, ◌/◌, ◌%◌, ◌^◌, ◌≤◌, ◌<◌}
+use Prim.Native.Nat.{ℕ, ◌+◌, ◌-◌, ◌*◌, ◌/◌, ◌%◌, ◌^◌, ◌≤◌, ◌<◌}
 use native.Mathlib.Nat.{zero-div}
 use native.Mathlib.Decide.{dec_lt}
 use native.Mathlib.Omega.{arith}
 use lib.ListN.{length, get_or, take, drop, replicate, length-append, length-drop, drop_of_length-le, take-append-drop}
-use lib.Seq.{take_at, drop_at, get_or_at, get_or-drop, drop-cons, drop-drop, length-take-le, ext_get_or}
+use lib.Seq.{take_at, get_or_at, get_or-drop, drop-cons, drop-drop, length-take-le, ext_get_or}
 use Rattle.corrector.specs.Correcting.{bit_at, IsBlock, IsStrength}
 use Rattle.corrector_stream.specs.Words.{data_start, capacity, end_byte, mark_of, Fits, carried, content, Carries}
 use Rattle.corrector_stream.specs.Parts.{Padded}
