@@ -8,7 +8,6 @@ use mathlib.Core.List.{List, ◌∷◌}
 use Prim.Native.Nat.{ℕ, ◌≤◌}
 use native.Mathlib.Omega.{arith}
 use borrow.Author.Tests.{le-ltb}
-use lib.Dec.{ltb}
 use Rattle.field.specs.Field.{roots_at}
 use Rattle.input.specs.Cutoff.{highest_cutoff, in_force_by, in_force}
 use Rattle.input.specs.Polynomials.{polynomial_tests}

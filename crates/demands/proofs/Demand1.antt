@@ -31,7 +31,7 @@ use Rattle.find_search.proofs.Coincide.{search-coincide}
 use Rattle.find_affine.specs.Calls.{affine_tests}
 use Rattle.find_affine.proofs.Coincide.{affine-coincide}
 use Rattle.job_lines.proofs.Coincide.{turned-once}
-use Rattle.corrector.specs.Correcting.{distance, Corrects}
+use Rattle.corrector.specs.Correcting.{Corrects}
 use Rattle.corrector.specs.Correcting.Corrects.{no_block, no-strength, none-near, mended}
 use Rattle.corrector.proofs.Coincide.{correct-coincide}
 use Rattle.corrector_encoder.specs.Encoding.{Encodes}

@@ -1,7 +1,7 @@
 -- The three ways to the roots agree on every polynomial that the whole call accepts: `Engines` of specs/Engines.antt.
 --   engines   they do
 -- Assumes nothing.
-use mathlib.Core.Path.{◌≡◌, sym, ap, ◌∙◌}
+use mathlib.Core.Path.{sym, ap, ◌∙◌}
 use mathlib.Core.List.{List}
 use Prim.Native.Nat.{ℕ}
 use borrow.Author.Tests.{ltb-false}

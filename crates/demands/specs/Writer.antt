@@ -16,7 +16,6 @@ use Rattle.job_records.specs.Reading.{Outcome, read_at}
 use Rattle.job_records.specs.Files.{Reads}
 use Rattle.job_writer.specs.Records.{root_polynomial, record_of, length_for}
 use Rattle.job_writer.specs.Calls.{Writes}
-use Rattle.job_writer.specs.declared.Written.{Written}
 use Rattle.job_writer.specs.declared.Written.TheVariants.{Bytes}
 use Rattle.demands.specs.Demand2.{Holds}
 

@@ -2,9 +2,6 @@
 -- Assumes nothing.
 use mathlib.Core.Path.{refl}
 use Rattle.locator.proofs.Exports.{told-as}
-use borrow.Author.Rules.{rules}
-use Rattle.claims.proofs.check.Reads as check-reads
-use Rattle.refusals.proofs.number.Reads as number-reads
 use Rattle.locator.proofs.locator_check.Goals as goal
 
 pub returns-in-Accepted : goal.returns-in-Accepted

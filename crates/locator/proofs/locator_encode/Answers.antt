@@ -2,7 +2,6 @@
 -- Assumes nothing.
 use mathlib.Core.Path.{refl}
 use Rattle.locator.proofs.Exports.{told-as}
-use borrow.Author.Rules.{rules}
 use Rattle.locator.proofs.locator_encode.Goals as goal
 
 pub returns-in-Checks : goal.returns-in-Checks

@@ -1,7 +1,6 @@
 -- `locator::locator_finish` meets its contract: what the library's call answers is told as the struct, case by case.
 -- Assumes nothing.
 use Rattle.locator.proofs.Exports.{told-as}
-use borrow.Author.Rules.{rules}
 use Rattle.locator.proofs.locator_finish.Goals as goal
 
 pub returns-in-Listed : goal.returns-in-Listed

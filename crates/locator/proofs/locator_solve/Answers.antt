@@ -1,7 +1,6 @@
 -- `locator::locator_solve` meets its contract: what the library's call answers is told as the struct, case by case.
 -- Assumes nothing.
 use Rattle.locator.proofs.Exports.{told-as}
-use borrow.Author.Rules.{rules}
 use Rattle.locator.proofs.locator_solve.Goals as goal
 
 pub returns-in-Found : goal.returns-in-Found

@@ -4,7 +4,6 @@ use mathlib.Core.Path.{ap}
 use mathlib.Core.List.{[]}
 use Prim.Native.Nat.{ℕ}
 use Rattle.locator.specs.Calls.{as_found}
-use borrow.Author.Rules.{rules}
 use Rattle.locator.proofs.answers.refused.Goals as goal
 
 pub returns : goal.returns

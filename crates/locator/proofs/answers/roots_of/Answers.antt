@@ -5,7 +5,6 @@ use mathlib.Core.List.{◌∷◌}
 use Rattle.field.specs.Quadratics.{roots_in, times_in, doubles}
 use Rattle.field.specs.declared.solver.Quadratic.{Quadratic}
 use Rattle.locator.specs.Calls.{as_pair}
-use borrow.Author.Rules.{rules}
 use Rattle.locator.proofs.answers.roots_of.Goals as goal
 
 pub returns-in-NoRoot : goal.returns-in-NoRoot

@@ -6,7 +6,6 @@ use Prim.Native.Nat.{ℕ}
 use Rattle.field_elements.specs.Calls.{told_answer}
 use Rattle.field_elements.specs.declared.Answer.{Answer}
 use Rattle.locator.specs.Calls.{as_value}
-use borrow.Author.Rules.{rules}
 use Rattle.locator.proofs.answers.value_of.Goals as goal
 
 pub returns-in-Value : goal.returns-in-Value
