@@ -10,7 +10,7 @@ ghost use Rattle.corrector_stream.specs.Words.{data_start, Fills, Fits, content}
 ghost use Rattle.corrector_stream.specs.Parts.{laid};
 ghost use Rattle.corrector_stream.specs.Calls.{CapacityIs, Packs, Unpacks};
 ghost use Rattle.corrector_stream.specs.Parts.{Holds, TakesOut, EndsAt};
-ghost use Rattle.corrector_stream.specs.Words.{capacity as Words·capacity};
+ghost use Rattle.corrector_stream.specs.Words.{capacity as capacity_of};
 
 use corrector::Corrected;
 use refusals::Refusal;
@@ -198,7 +198,7 @@ fn held_in(strength: u16, word: &[u8]) -> Held
 
 // Copies the data of a codeword to the front of the room.
 fn take_out(strength: u16, flips: u16, word: &[u8], room: &mut [u8]) -> Unpacked
-    requires { IsStrength strength × IsBlock word.now × (Words·capacity strength ≤ length room.old) }
+    requires { IsStrength strength × IsBlock word.now × (capacity_of strength ≤ length room.old) }
     ensures { TakesOut strength flips word.now room.old result room.new }
 {
     match held_in(strength, word) {
