@@ -47,7 +47,7 @@ pub struct FieldLine {
 }
 
 // The sheet of a file: a line for each field, ascending, and how many outcomes were 1, 11 and 12.
-#[derive(Drop)]
+#[derive(Clone, Copy)]
 pub struct Sheet {
     pub lines: [FieldLine; FIELDS],
     pub unknown: u64,

@@ -13,20 +13,20 @@ use job_sheet::text::{APART_LINE, FIELD_LINE};
 use job_sheet::{FieldLine, Sheet};
 
 // Prints the line of the field of degree m; false where that fails, which is told.
-fn print_field(m: u16, line: FieldLine) -> bool
+fn print_field(rt: &HostRuntime, m: u16, line: FieldLine) -> bool
     requires { FitsLine line }
 {
     let mut out = [0u8; FIELD_LINE];
     let n = job_sheet::text::field_line(m, line, &mut out);
-    job_streams::print(b"sheet", &out[..n])
+    job_streams::print(rt, b"sheet", &out[..n])
 }
 
 // Prints the line of each field, ascending; false where that fails, which is told.
-fn print_fields(lines: [FieldLine; FIELDS]) -> bool
+fn print_fields(rt: &HostRuntime, lines: [FieldLine; FIELDS]) -> bool
     requires { All FitsLine lines }
 {
     for i in 0..FIELDS {
-        if !print_field(ROWS[i].degree, lines[i]) {
+        if !print_field(rt, ROWS[i].degree, lines[i]) {
             return false;
         }
     }
@@ -34,27 +34,28 @@ fn print_fields(lines: [FieldLine; FIELDS]) -> bool
 }
 
 // Prints how many outcomes were 1, 11 and 12; false where that fails, which is told.
-fn print_apart(unknown: u64, mark: u64, short: u64) -> bool {
+fn print_apart(rt: &HostRuntime, unknown: u64, mark: u64, short: u64) -> bool {
     let mut out = [0u8; APART_LINE];
     let n = job_sheet::text::apart_line(unknown, mark, short, &mut out);
-    job_streams::print(b"sheet", &out[..n])
+    job_streams::print(rt, b"sheet", &out[..n])
 }
 
 // Prints the lines of a sheet; false where one could not be printed.
-fn print_lines(sheet: Sheet) -> bool
+fn print_lines(rt: &HostRuntime, sheet: Sheet) -> bool
     requires { All FitsLine sheet.lines }
 {
     let lines = sheet.lines;
     if !job_streams::print(
+        rt,
         b"sheet",
         b"field accepted 2 3 4 5 6 roots steps record its-steps its-limit\n",
     ) {
         return false;
     }
-    if !print_fields(lines) {
+    if !print_fields(rt, lines) {
         return false;
     }
-    print_apart(sheet.unknown, sheet.mark, sheet.short)
+    print_apart(rt, sheet.unknown, sheet.mark, sheet.short)
 }
 
 // Did reading stop, under 11 or 12?
@@ -66,12 +67,13 @@ fn has_stopped(sheet: Sheet) -> bool {
 }
 
 // Says where reading stopped.
-fn tell_stop(file: &[u8]) {
+fn tell_stop(rt: &HostRuntime, file: &[u8]) {
     match job_records::read_through(file) {
         Ending::Whole => {}
         Ending::Halted(stop) => {
             let refusal = stop.refusal;
             job_streams::tell_stop(
+                rt,
                 b"sheet",
                 stop.record_number,
                 stop.at,
@@ -82,37 +84,38 @@ fn tell_stop(file: &[u8]) {
 }
 
 // Prints the sheet of what was read, and says what was not read.
-fn print_sheet(file: &[u8])
+fn print_sheet(rt: &HostRuntime, file: &[u8])
     requires { length file.now ≤ 65536 }
 {
     let sheet = job_sheet::sheet_of(file);
-    if !print_lines(sheet) {
+    if !print_lines(rt, sheet) {
         return;
     }
     if has_stopped(sheet) {
-        tell_stop(file);
+        tell_stop(rt, file);
     }
-    job_streams::tell_behind(b"sheet", file.len());
+    job_streams::tell_behind(rt, b"sheet", file.len());
 }
 
 // Reads standard input into the room and prints its sheet.
-fn run(room: &mut [u8]) {
-    let came = job_streams::read_all(b"sheet", room);
+fn run(rt: &HostRuntime, room: &mut [u8]) {
+    let came = job_streams::read_all(rt, b"sheet", room);
     let n = came.bytes;
     if came.failed {
         return;
     }
-    print_sheet(&room[..n]);
+    print_sheet(rt, &room[..n]);
 }
 
-fn main() {
+fn main(rt: HostRuntime) {
     if !job_streams::starts(
+        &rt,
         b"sheet",
         b"sheet <jobs.lr",
         b"Prints for each field how many records of a job file are accepted and refused, and their roots and steps.\n",
     ) {
         return;
     }
-    let mut buffer = io::large_buffer();
-    run(&mut buffer);
+    let mut buffer = job_streams::large_buffer();
+    run(&rt, &mut buffer);
 }
