@@ -37,19 +37,19 @@ fn strength_of(digit: u8) -> Word {
 }
 
 fn word_of(text: &[u8]) -> Word {
-    if check::same(text, b"encode") {
+    if job_streams::same(text, b"encode") {
         return Word::Encode;
     }
-    if check::same(text, b"correct") {
+    if job_streams::same(text, b"correct") {
         return Word::Correct;
     }
-    if check::same(text, b"--strict") {
+    if job_streams::same(text, b"--strict") {
         return Word::Strict;
     }
-    if check::same(text, b"--help") {
+    if job_streams::same(text, b"--help") {
         return Word::Help;
     }
-    if check::same(text, b"--version") {
+    if job_streams::same(text, b"--version") {
         return Word::Version;
     }
     if text.len() == 1 {
@@ -59,9 +59,9 @@ fn word_of(text: &[u8]) -> Word {
 }
 
 // The word at a place; one that is missing or too long to be known is another.
-fn word_at(i: usize) -> Word {
+fn word_at(rt: &HostRuntime, i: usize) -> Word {
     let mut room = [0u8; LONGEST];
-    let n = os::arg(i, &mut room);
+    let n = job_streams::word_at(rt, i, &mut room);
     word_of(&room[..n])
 }
 
@@ -80,13 +80,13 @@ fn correct_at(strength: Word, strict: bool) -> Asked {
 }
 
 // The strength alone, or with `--strict` behind it.
-fn correct_with(words: usize) -> Asked {
+fn correct_with(rt: &HostRuntime, words: usize) -> Asked {
     if words == 3 {
-        return correct_at(word_at(2), false);
+        return correct_at(word_at(rt, 2), false);
     }
     if words == 4 {
-        if let Word::Strict = word_at(3) {
-            return correct_at(word_at(2), true);
+        if let Word::Strict = word_at(rt, 3) {
+            return correct_at(word_at(rt, 2), true);
         }
     }
     Asked::Wrong
@@ -100,11 +100,21 @@ fn where_so_many(words: usize, wanted: usize, asked: Asked) -> Asked {
     Asked::Wrong
 }
 
-pub fn read() -> Asked {
-    let words = os::arg_count();
-    match word_at(1) {
-        Word::Encode => where_so_many(words, 3, encode_at(word_at(2))),
-        Word::Correct => correct_with(words),
+// How many words the command line has, the program's name among them; 5 where there are more than 4.
+fn count_words(rt: &HostRuntime) -> usize {
+    for i in 1..5 {
+        if !job_streams::has_word(rt, i) {
+            return i;
+        }
+    }
+    5
+}
+
+pub fn read(rt: &HostRuntime) -> Asked {
+    let words = count_words(rt);
+    match word_at(rt, 1) {
+        Word::Encode => where_so_many(words, 3, encode_at(word_at(rt, 2))),
+        Word::Correct => correct_with(rt, words),
         Word::Help => where_so_many(words, 2, Asked::Help),
         Word::Version => where_so_many(words, 2, Asked::Version),
         Word::Strict => Asked::Wrong,

@@ -8,7 +8,7 @@ use corrector_stream::{Unpacked, WORD};
 const WORDS: usize = 256;
 
 // What is known of the words so far: at is where the next one stands in the input.
-#[derive(Drop)]
+#[derive(Clone, Copy)]
 struct Tally {
     at: u64,
     words: u64,
@@ -161,7 +161,7 @@ fn step_bad(tally: Tally, strict: bool, room: &mut [u8]) -> Step
 }
 
 // Takes a word: its data, or zeros, to the front of the room.
-fn take(strength: u16, strict: bool, tally: Tally, word: &mut [u8], room: &mut [u8]) -> Step
+fn take(rt: &HostRuntime, strength: u16, strict: bool, tally: Tally, word: &mut [u8], room: &mut [u8]) -> Step
     requires { length word.old ≡ 256 }
     ensures { result.bytes ≤ length room.old }
 {
@@ -173,7 +173,7 @@ fn take(strength: u16, strict: bool, tally: Tally, word: &mut [u8], room: &mut [
             stop: false,
         },
         Unpacked::Strange(flips) => {
-            messages::tell_strange(tally.at, strict, room.len() as u64);
+            messages::tell_strange(rt, tally.at, strict, room.len() as u64);
             step_bad(
                 with_strange(tally, sum(flips as u64, cleared)),
                 strict,
@@ -181,7 +181,7 @@ fn take(strength: u16, strict: bool, tally: Tally, word: &mut [u8], room: &mut [
             )
         }
         Unpacked::NotUnpacked(_) => {
-            messages::tell_far(tally.at, strict, room.len() as u64);
+            messages::tell_far(rt, tally.at, strict, room.len() as u64);
             step_bad(with_far(tally), strict, room)
         }
     }
@@ -189,6 +189,7 @@ fn take(strength: u16, strict: bool, tally: Tally, word: &mut [u8], room: &mut [
 
 // Takes a word that is not behind the last one. That one is behind it is said once.
 fn take_unless_behind(
+    rt: &HostRuntime,
     strength: u16,
     strict: bool,
     tally: Tally,
@@ -200,7 +201,7 @@ fn take_unless_behind(
 {
     if tally.last {
         if !tally.behind {
-            messages::tell_behind(tally.at);
+            messages::tell_behind(rt, tally.at);
         }
         return Step {
             tally: with_behind(tally),
@@ -208,7 +209,7 @@ fn take_unless_behind(
             stop: false,
         };
     }
-    take(strength, strict, tally, word, room)
+    take(rt, strength, strict, tally, word, room)
 }
 
 // What the words of a turn gave: so many bytes to write.
@@ -221,6 +222,7 @@ struct Given {
 
 // Takes the words one by one; their data stand in the room one behind the other.
 fn take_words(
+    rt: &HostRuntime,
     strength: u16,
     size: usize,
     strict: bool,
@@ -240,6 +242,7 @@ fn take_words(
         let end = at + WORD;
         let to = done + size;
         let one = take_unless_behind(
+            rt,
             strength,
             strict,
             tally,
@@ -278,6 +281,7 @@ fn turn_of(n: usize, stop: bool) -> Turn {
 
 // Reads WORDS words, or what is left, and writes their data.
 fn one_turn(
+    rt: &HostRuntime,
     strength: u16,
     size: usize,
     strict: bool,
@@ -287,7 +291,7 @@ fn one_turn(
 ) -> Turned
     requires { (size ≤ 255) × (length «data».old ≡ 65536) × (length out.old ≡ 65536) }
 {
-    let came = job_streams::read_all(b"blocks", data);
+    let came = job_streams::read_all(rt, b"blocks", data);
     let n = came.bytes;
     if came.failed {
         return Turned {
@@ -295,10 +299,10 @@ fn one_turn(
             turn: Turn::Fail,
         };
     }
-    let given = take_words(strength, size, strict, before, &mut data[..n], out);
+    let given = take_words(rt, strength, size, strict, before, &mut data[..n], out);
     let bytes = given.bytes;
     let tally = given.tally;
-    if !job_streams::print(b"blocks", &out[..bytes]) {
+    if !job_streams::print(rt, b"blocks", &out[..bytes]) {
         return Turned {
             tally,
             turn: Turn::Fail,
@@ -311,26 +315,26 @@ fn one_turn(
 }
 
 // Says what the end of the input shows, where it ends in so many bytes that are no word.
-fn tell_end(tally: Tally, short: usize) {
+fn tell_end(rt: &HostRuntime, tally: Tally, short: usize) {
     if short > 0 {
-        messages::tell_short(tally.at, short as u64);
+        messages::tell_short(rt, tally.at, short as u64);
     }
     if tally.last {
         return;
     }
     if tally.bad && short == 0 {
-        messages::tell_end_unknown();
+        messages::tell_end_unknown(rt);
         return;
     }
-    messages::tell_last_missing();
+    messages::tell_last_missing(rt);
 }
 
-fn tell_summary(tally: Tally) {
-    messages::tell_summary(tally.words, tally.flips, tally.far, tally.strange);
+fn tell_summary(rt: &HostRuntime, tally: Tally) {
+    messages::tell_summary(rt, tally.words, tally.flips, tally.far, tally.strange);
 }
 
 // As often as there is something to read: no input has more turns than a number of 64 bits.
-fn turns(strength: u16, size: usize, strict: bool, data: &mut [u8], out: &mut [u8])
+fn turns(rt: &HostRuntime, strength: u16, size: usize, strict: bool, data: &mut [u8], out: &mut [u8])
     requires { (size ≤ 255) × (length «data».old ≡ 65536) × (length out.old ≡ 65536) }
 {
     let mut tally = Tally {
@@ -345,18 +349,18 @@ fn turns(strength: u16, size: usize, strict: bool, data: &mut [u8], out: &mut [u
     };
     let mut left = u64::MAX;
     while left > 0 {
-        let turned = one_turn(strength, size, strict, tally, data, out);
+        let turned = one_turn(rt, strength, size, strict, tally, data, out);
         tally = turned.tally;
         let how = turned.turn;
         match how {
             Turn::More => {}
             Turn::Over(short) => {
-                tell_end(tally, short);
-                tell_summary(tally);
+                tell_end(rt, tally, short);
+                tell_summary(rt, tally);
                 return;
             }
             Turn::Stop => {
-                tell_summary(tally);
+                tell_summary(rt, tally);
                 return;
             }
             Turn::Fail => return,
@@ -365,9 +369,9 @@ fn turns(strength: u16, size: usize, strict: bool, data: &mut [u8], out: &mut [u
     }
 }
 
-pub fn run(strength: u16, strict: bool) {
+pub fn run(rt: &HostRuntime, strength: u16, strict: bool) {
     let size = corrector_stream::capacity(strength);
-    let mut data = io::large_buffer();
-    let mut out = io::large_buffer();
-    turns(strength, size, strict, &mut data, &mut out);
+    let mut data = job_streams::large_buffer();
+    let mut out = job_streams::large_buffer();
+    turns(rt, strength, size, strict, &mut data, &mut out);
 }

@@ -36,51 +36,51 @@ fn make_full(strength: u16, room: usize, bytes: &[u8], out: &mut [u8]) -> Made
 
 // Makes words of what was read, and writes them; whether there is more to read. What does not fill WORDS words is the
 // end of the input.
-fn write_words(strength: u16, room: usize, bytes: &[u8], out: &mut [u8]) -> bool
+fn write_words(rt: &HostRuntime, strength: u16, room: usize, bytes: &[u8], out: &mut [u8]) -> bool
     requires { (room ≤ 255) × (length out.old ≡ 65536) }
 {
     let made = make_full(strength, room, bytes, out);
     let at = made.data;
     let k = made.words;
     if k == WORDS {
-        return job_streams::print(b"blocks", out);
+        return job_streams::print(rt, b"blocks", out);
     }
     let to = WORD * k;
     let next = to + WORD;
     corrector_stream::pack(strength, &bytes[at..], true, &mut out[to..next]);
-    job_streams::print(b"blocks", &out[..next]);
+    job_streams::print(rt, b"blocks", &out[..next]);
     false
 }
 
 // Reads what fills WORDS words, and writes them; whether there is more to read.
-fn turn(strength: u16, room: usize, data: &mut [u8], out: &mut [u8]) -> bool
+fn turn(rt: &HostRuntime, strength: u16, room: usize, data: &mut [u8], out: &mut [u8]) -> bool
     requires { (room ≤ 255) × (length «data».old ≡ 65536) × (length out.old ≡ 65536) }
 {
     let most = WORDS * room;
-    let came = job_streams::read_all(b"blocks", &mut data[..most]);
+    let came = job_streams::read_all(rt, b"blocks", &mut data[..most]);
     let n = came.bytes;
     if came.failed {
         return false;
     }
-    write_words(strength, room, &data[..n], out)
+    write_words(rt, strength, room, &data[..n], out)
 }
 
 // As often as there is something to read: no input has more turns than a number of 64 bits.
-fn turns(strength: u16, room: usize, data: &mut [u8], out: &mut [u8])
+fn turns(rt: &HostRuntime, strength: u16, room: usize, data: &mut [u8], out: &mut [u8])
     requires { (room ≤ 255) × (length «data».old ≡ 65536) × (length out.old ≡ 65536) }
 {
     let mut left = u64::MAX;
     while left > 0 {
-        if !turn(strength, room, data, out) {
+        if !turn(rt, strength, room, data, out) {
             break;
         }
         left -= 1;
     }
 }
 
-pub fn run(strength: u16) {
+pub fn run(rt: &HostRuntime, strength: u16) {
     let room = corrector_stream::capacity(strength);
-    let mut data = io::large_buffer();
-    let mut out = io::large_buffer();
-    turns(strength, room, &mut data, &mut out);
+    let mut data = job_streams::large_buffer();
+    let mut out = job_streams::large_buffer();
+    turns(rt, strength, room, &mut data, &mut out);
 }

@@ -9,12 +9,12 @@ mod correcting; // words to data
 mod encoding; // data to words
 mod messages; // what is said of words, and of the program
 
-fn main() {
-    match arguments::read() {
-        Asked::Encode(strength) => encoding::run(strength),
-        Asked::Correct(strength, strict) => correcting::run(strength, strict),
-        Asked::Help => messages::print_help(),
-        Asked::Version => messages::print_version(),
-        Asked::Wrong => messages::tell_usage(),
+fn main(rt: HostRuntime) {
+    match arguments::read(&rt) {
+        Asked::Encode(strength) => encoding::run(&rt, strength),
+        Asked::Correct(strength, strict) => correcting::run(&rt, strength, strict),
+        Asked::Help => messages::print_help(&rt),
+        Asked::Version => messages::print_version(&rt),
+        Asked::Wrong => messages::tell_usage(&rt),
     }
 }

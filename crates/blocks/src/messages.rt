@@ -1,12 +1,12 @@
 // What the program says: of words on standard error, and of itself.
-use libc::STDERR_FILENO;
 
-pub fn print_version() {
-    job_streams::print_version(b"blocks");
+pub fn print_version(rt: &HostRuntime) {
+    job_streams::print_version(rt, b"blocks");
 }
 
-pub fn print_help() {
+pub fn print_help(rt: &HostRuntime) {
     job_streams::print(
+        rt,
         b"blocks",
         b"usage: blocks encode T             data on standard input to words of 256 bytes on standard output
        blocks correct T            words on standard input to data on standard output: standard error names
@@ -19,82 +19,83 @@ T, the strength, is how many wrong bits of a word are corrected, 1 to 8. A word 
     );
 }
 
-pub fn tell_usage() {
+pub fn tell_usage(rt: &HostRuntime) {
     say(
+        rt,
         b"blocks: usage: blocks encode T, blocks correct T [--strict], blocks --help or --version; T is 1 to 8\n",
     );
 }
 
-fn say(text: &[u8]) {
-    io::write_all(STDERR_FILENO, text);
+fn say(rt: &HostRuntime, text: &[u8]) {
+    job_streams::say(rt, text);
 }
 
-fn say_number(text: &[u8], n: u64) {
-    say(text);
-    io::print_decimal(STDERR_FILENO, n);
+fn say_number(rt: &HostRuntime, text: &[u8], n: u64) {
+    say(rt, text);
+    job_streams::say_number(rt, n);
 }
 
 // Says which word stands at a byte of the input.
-fn say_word(at: u64) {
-    say_number(b"blocks: word ", at / 256 + 1);
-    say_number(b" (byte ", at);
-    say(b"): ");
+fn say_word(rt: &HostRuntime, at: u64) {
+    say_number(rt, b"blocks: word ", at / 256 + 1);
+    say_number(rt, b" (byte ", at);
+    say(rt, b"): ");
 }
 
 // Says what is done about a bad word.
-fn say_done(strict: bool, bytes: u64) {
+fn say_done(rt: &HostRuntime, strict: bool, bytes: u64) {
     if strict {
-        say(b": stopped in front of it\n");
+        say(rt, b": stopped in front of it\n");
         return;
     }
-    say_number(b": ", bytes);
-    say(b" bytes of zeros stand in its place\n");
+    say_number(rt, b": ", bytes);
+    say(rt, b" bytes of zeros stand in its place\n");
 }
 
 // The word at a byte of the input cannot be corrected; it would carry so many bytes.
-pub fn tell_far(at: u64, strict: bool, bytes: u64) {
-    say_word(at);
-    say(b"cannot be corrected");
-    say_done(strict, bytes);
+pub fn tell_far(rt: &HostRuntime, at: u64, strict: bool, bytes: u64) {
+    say_word(rt, at);
+    say(rt, b"cannot be corrected");
+    say_done(rt, strict, bytes);
 }
 
 // The word at a byte of the input is a codeword that `blocks encode` does not write.
-pub fn tell_strange(at: u64, strict: bool, bytes: u64) {
-    say_word(at);
-    say(b"not a word that blocks encode writes");
-    say_done(strict, bytes);
+pub fn tell_strange(rt: &HostRuntime, at: u64, strict: bool, bytes: u64) {
+    say_word(rt, at);
+    say(rt, b"not a word that blocks encode writes");
+    say_done(rt, strict, bytes);
 }
 
 // At a byte of the input words begin that stand behind the last one.
-pub fn tell_behind(at: u64) {
-    say_word(at);
-    say(b"behind the last word: nothing from here on is written\n");
+pub fn tell_behind(rt: &HostRuntime, at: u64) {
+    say_word(rt, at);
+    say(rt, b"behind the last word: nothing from here on is written\n");
 }
 
 // The input ends in so many bytes that are no word.
-pub fn tell_short(at: u64, bytes: u64) {
-    say_word(at);
-    say_number(b"", bytes);
-    say(b" bytes in place of 256: nothing of it is written\n");
+pub fn tell_short(rt: &HostRuntime, at: u64, bytes: u64) {
+    say_word(rt, at);
+    say_number(rt, b"", bytes);
+    say(rt, b" bytes in place of 256: nothing of it is written\n");
 }
 
 // The final word is bad.
-pub fn tell_end_unknown() {
-    say(b"blocks: the final word is lost: the end of the data is not known\n");
+pub fn tell_end_unknown(rt: &HostRuntime) {
+    say(rt, b"blocks: the final word is lost: the end of the data is not known\n");
 }
 
 // No word is marked as the last.
-pub fn tell_last_missing() {
-    say(b"blocks: the last word is missing: data may be missing at the end\n");
+pub fn tell_last_missing(rt: &HostRuntime) {
+    say(rt, b"blocks: the last word is missing: data may be missing at the end\n");
 }
 
 // How many words were read, bits flipped and words lost.
-pub fn tell_summary(words: u64, flips: u64, far: u64, strange: u64) {
-    say_number(b"blocks: words ", words);
-    say_number(b", flips ", flips);
-    say_number(b", uncorrectable ", far);
+pub fn tell_summary(rt: &HostRuntime, words: u64, flips: u64, far: u64, strange: u64) {
+    say_number(rt, b"blocks: words ", words);
+    say_number(rt, b", flips ", flips);
+    say_number(rt, b", uncorrectable ", far);
     if strange > 0 {
-        say_number(b", not ours ", strange);
+        say_number(rt, b", not ours ", strange);
     }
-    say(b"\n");
+    say(rt, b"\n");
 }
