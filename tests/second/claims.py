@@ -349,4 +349,5 @@ def main():
                 print(line(*case))
 
 
-main()
+if __name__ == "__main__":
+    main()
