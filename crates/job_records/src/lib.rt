@@ -41,7 +41,7 @@ pub struct Job {
 
 // What stands at a place: no more, a record, one that is refused with the place to go on, or something at which
 // reading stops.
-#[derive(Drop)]
+#[derive(Clone, Copy)]
 pub enum Read {
     End,
     Record(Job),

@@ -6,7 +6,7 @@ ghost use Rattle.refusals.specs.Numbers.{number_of};
 ghost use Rattle.refusals.specs.Admitting.{with_test};
 
 // Each reason to turn an input away.
-#[derive(Drop)]
+#[derive(Clone, Copy)]
 pub enum Refusal {
     Field,
     Empty,

@@ -45,7 +45,7 @@ fn run(rt: &HostRuntime, file: &[u8]) -> usize
     let mut k = 1;
     while at < file.len() {
         let read = job_records::held::next(reader);
-        let bytes = job_records::held::bytes(reader, job_records::held::next(reader));
+        let bytes = job_records::held::bytes(reader, read);
         at = print_turn(rt, read, bytes, k);
         reader = job_records::held::moved(reader, at);
         k += 1;
