@@ -161,7 +161,14 @@ fn step_bad(tally: Tally, strict: bool, room: &mut [u8]) -> Step
 }
 
 // Takes a word: its data, or zeros, to the front of the room.
-fn take(rt: &HostRuntime, strength: u16, strict: bool, tally: Tally, word: &mut [u8], room: &mut [u8]) -> Step
+fn take(
+    rt: &HostRuntime,
+    strength: u16,
+    strict: bool,
+    tally: Tally,
+    word: &mut [u8],
+    room: &mut [u8],
+) -> Step
     requires { length word.old ≡ 256 }
     ensures { result.bytes ≤ length room.old }
 {
@@ -334,7 +341,14 @@ fn tell_summary(rt: &HostRuntime, tally: Tally) {
 }
 
 // As often as there is something to read: no input has more turns than a number of 64 bits.
-fn turns(rt: &HostRuntime, strength: u16, size: usize, strict: bool, data: &mut [u8], out: &mut [u8])
+fn turns(
+    rt: &HostRuntime,
+    strength: u16,
+    size: usize,
+    strict: bool,
+    data: &mut [u8],
+    out: &mut [u8],
+)
     requires { (size ≤ 255) × (length «data».old ≡ 65536) × (length out.old ≡ 65536) }
 {
     let mut tally = Tally {

@@ -69,7 +69,10 @@ pub fn tell_strange(rt: &HostRuntime, at: u64, strict: bool, bytes: u64) {
 // At a byte of the input words begin that stand behind the last one.
 pub fn tell_behind(rt: &HostRuntime, at: u64) {
     say_word(rt, at);
-    say(rt, b"behind the last word: nothing from here on is written\n");
+    say(
+        rt,
+        b"behind the last word: nothing from here on is written\n",
+    );
 }
 
 // The input ends in so many bytes that are no word.
@@ -81,12 +84,18 @@ pub fn tell_short(rt: &HostRuntime, at: u64, bytes: u64) {
 
 // The final word is bad.
 pub fn tell_end_unknown(rt: &HostRuntime) {
-    say(rt, b"blocks: the final word is lost: the end of the data is not known\n");
+    say(
+        rt,
+        b"blocks: the final word is lost: the end of the data is not known\n",
+    );
 }
 
 // No word is marked as the last.
 pub fn tell_last_missing(rt: &HostRuntime) {
-    say(rt, b"blocks: the last word is missing: data may be missing at the end\n");
+    say(
+        rt,
+        b"blocks: the last word is missing: data may be missing at the end\n",
+    );
 }
 
 // How many words were read, bits flipped and words lost.
