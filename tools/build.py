@@ -19,6 +19,7 @@ import shutil
 import subprocess
 import sys
 import tempfile
+from concurrent.futures import ThreadPoolExecutor
 
 sys.dont_write_bytecode = True
 from repository import CRATES, TOP, command, crates, say
@@ -26,8 +27,16 @@ from repository import CRATES, TOP, command, crates, say
 MADE = TOP / "target"
 # What `rt ci` left in the out/ of the libraries, by crate: the sum of the crate's content, and of the library.
 LEFT = MADE / "libraries.json"
+# The memory that a check from nothing may take, in bytes.
+ROOM = 4_000_000_000
 # The processor: every x86-64.
 CPU = ["--target", "x86_64-unknown-linux-gnu", "--cpu", "x86-64"]
+
+
+def free():
+    """The memory that is free, in bytes."""
+    found = re.search(r"MemAvailable: +(\d+)", pathlib.Path("/proc/meminfo").read_text())
+    return 1024 * int(found[1])
 
 
 def kit():
@@ -115,13 +124,13 @@ def told(words, folder, shown):
             if line.startswith(shown):
                 sys.stderr.write(line)
     if run.returncode:
-        sys.stderr.write("".join([line for line in lines if re.search(r"\berror\b", line)][:10] or lines[-30:]))
+        sys.stderr.write("".join([line for line in lines if re.search(r"\berror\b|: not proved|: no proof|it is not proved", line)][:10] or lines[-30:]))
         say(f"{folder.name} is not proved, or not built")
         sys.exit(1)
     return lines
 
 
-def build(crate, every, at, sum):
+def build(crate, every, at, sum, jobs):
     """Proves and builds one crate."""
     say(f"proves {crate} and builds it")
     folder, libraries = CRATES / crate, below(crate, every)
@@ -135,7 +144,7 @@ def build(crate, every, at, sum):
         words += ["--extern", f"{name}={rlib(name) if name in every else at / 'rlibs' / f'{name}.rlib'}"]
     for place in [at / "rlibs", *(rlib(name).parent for name in libraries)]:
         words += ["-L", f"dependency={place}"]
-    words += ["--antt-project", at / "rattle/logic/antt-project.json", "--logic-built", at / "logic_built", "--jobs", str(min(4, len(os.sched_getaffinity(0))))]
+    words += ["--antt-project", at / "rattle/logic/antt-project.json", "--logic-built", at / "logic_built", "--jobs", str(jobs)]
     words += [*CPU, "--backend", "llvm", *keeps, *(["--crate-type", "staticlib"] if every[crate].kind == "staticlib" else [])]
     with tempfile.TemporaryDirectory() as room:
         room = pathlib.Path(room)
@@ -188,10 +197,16 @@ def main():
     if opt.after_ci:
         note(every, opt.after_ci)
     version = subprocess.run(["rt", "version"], stdout=subprocess.PIPE, check=True, text=True).stdout.strip()
-    for name in opt.crates:
-        sum = content(name, every, version)
-        if not is_built(name, every, sum):
-            build(name, every, kit(), sum)
+    sums = {name: content(name, every, version) for name in dict.fromkeys(opt.crates)}
+    left = [name for name, sum in sums.items() if not is_built(name, every, sum)]
+    # over what rt ci left several at a time, as memory holds them; over what rt check keeps one after the other
+    cores, apart = len(os.sched_getaffinity(0)), all(are_left(below(name, every), every) for name in left)
+    lanes = max(1, min(cores, len(left), free() // ROOM)) if apart else 1
+    with ThreadPoolExecutor(lanes) as pool:
+        made = [pool.submit(build, name, every, kit(), sums[name], max(1, min(4, cores) // lanes)) for name in left]
+        # a failure ends with 1, which ends this run too
+        for one in made:
+            one.result()
 
 
 if __name__ == "__main__":
