@@ -1,7 +1,7 @@
 #!/usr/bin/env python3
 """Brings the repository's own definitions and lemmas to today's spelling: words in snake case.
 
-usage: tools/respell.py [--list]     at the top of the repository, once, after /opt/rattle/port/port.py
+usage: tools/respell.py [--list]     at the top of the repository, once, after the kit's port/port.py
 
 port.py respells the words of the library and some of the repository's own. This script does the rest: each word of specs/, proofs/ and
 of the contracts in src/ that has a capital behind a small letter (`rootsOf-exactly`) is written in snake case (`roots_of-exactly`), in
