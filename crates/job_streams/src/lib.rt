@@ -2,7 +2,7 @@
 // Each function is given the runtime and the program's name, as b"roots", and puts that name ahead of what it says.
 #![tactic(auto)]
 
-ghost use Rattle.std.specs.Prelude.{◌≡◌, ◌≤◌, length, take};
+ghost use Rattle.std.specs.Prelude.{◌≡◌, ◌≤◌, length, take, Decides};
 
 use std::env::{Env, FillError};
 use std::io;
@@ -94,7 +94,9 @@ fn fail(rt: &HostRuntime, program: &[u8], stream: &[u8], error: io::Error) {
 }
 
 // Are these the same bytes?
-pub fn same(a: &[u8], b: &[u8]) -> bool {
+pub fn same(a: &[u8], b: &[u8]) -> bool
+    ensures { Decides result (a.now ≡ b.now) }
+{
     a == b
 }
 
