@@ -1,5 +1,4 @@
-"""The numbers that a field's tables hold, from its degree and polynomial: what tools/tables.py prints for the tables by value
-and tools/constant_words.py packs for those in place."""
+"""The numbers that a field's tables hold, from its degree and polynomial: what tools/tables.py prints."""
 
 
 def double(m, poly, x):

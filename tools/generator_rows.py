@@ -2,13 +2,11 @@
 """generator_rows.py: writes the constants of the block corrector and encoder from the field polynomial alone.
 
   crates/corrector_generator/specs/Polynomials.antt   the generators of strengths 1 to 8, as numbers
-  crates/corrector_generator/src/rows8.rt, rows5.rt   the remainders by those of strengths 8 and 5; proofs/rows8, proofs/rows5 have
-                                                      the proofs of their arms, proofs/Bases8.antt, Bases5.antt what those cite
+  crates/corrector_generator/src/rows5.rt, rows8.rt   the remainders by those of strengths 5 and 8
   crates/corrector_remainder/src/raised.rt            the generators, moved up to the highest digit of a register
   crates/corrector_syndromes/src/powers.rt            the powers of a, a^3, .., a^15
 The generator of strength t is the product of the minimal polynomials of a, a^3, .., a^(2t-1) in field 11, where a is 2;
-its degree d is 11 t. A row function of digits k to k + w - 1 is a match: its arm c has the remainder of c x^(d + k), at
-strength 8 the 64 low digits and the others."""
+its degree d is 11 t. The table of digits k to k + w - 1 has the remainder of c x^(d + k) at place c."""
 import collections
 import sys
 
@@ -18,10 +16,9 @@ from repository import CRATES, command
 FIELD = 0b100000000101  # x^11 + x^2 + 1
 PARTS = [(0, 7), (7, 7), (14, 6), (20, 6), (26, 6)]
 
-# The rows of a generator: its strength, what a row returns, and the number that this holds.
-Rows = collections.namedtuple("Rows", "strength type result")
-TWO_PARTS = Rows(8, "Remainder", "remainder_of result")
-ONE_NUMBER = Rows(5, "u64", "result")
+# The rows of a generator: its strength, and the type of its remainders.
+Rows = collections.namedtuple("Rows", "strength type")
+ROWS = [Rows(5, "u64"), Rows(8, "u128")]
 STRONGEST = 8
 CRATE = "corrector_generator"
 SCRIPT = "Written by tools/generator_rows.py."
@@ -105,65 +102,29 @@ def listing(name, numbers, width=90):
     return "\n".join(lines) + "\n"
 
 
-def told(r, rows):
-    """A remainder as an arm tells it."""
-    return str(r) if rows is ONE_NUMBER else f"{rows.type}({r % 2 ** 64}, {r >> 64})"
+def places(k, w):
+    """The digits k to k + w - 1 of t, as a place in a table."""
+    return "t as usize" + (f" / {1 << k}" if k else "") + f" % {1 << w}"
 
 
-def function(k, w, rows):
-    """The row function of digits k to k + w - 1."""
+def table(k, w, rows):
+    """The table of digits k to k + w - 1."""
     degree, g = 11 * rows.strength, generator(rows.strength)
-    yield f"\n// The remainder of c x^{degree + k}: digits {k} to {k + w - 1} of what leaves at the top.\n"
-    yield f"pub fn row{k}(c: u64) -> {rows.type}\n    requires {{ c < {1 << w} }}\n"
-    yield f"    ensures {{ {rows.result} ≡ back_from_top (generator_at {rows.strength}) (c * {1 << k}) }}\n{{\n    match c {{\n"
-    for c in range(1 << w):
-        yield f"        {c} => {told(remainder(c << (degree + k), g), rows)},\n"
-    yield f"        _ => {told(0, rows)},\n    }}\n}}\n"
+    yield f"\n// The remainder of c x^{degree + k}, for digits {k} to {k + w - 1}.\n"
+    yield f"static ROW{k}: [{rows.type}; {1 << w}] = [\n" + filled(remainder(c << (degree + k), g) for c in range(1 << w)) + "];\n"
 
 
-def functions(rows):
-    """The file of the row functions."""
-    names = "generator_at, back_from_top" + (", remainder_of" if rows is TWO_PARTS else "")
-    yield f"// Remainders by the generator of strength {rows.strength}, as constants in place: a match whose arms are numbers is a table in\n"
-    yield f"// the program's read-only part, and nothing is built at a call. {SCRIPT}\n"
-    yield "ghost use Rattle.std.specs.Prelude.{◌≡◌, ◌*◌, ◌<◌};\n"
-    yield f"ghost use Rattle.{CRATE}.specs.Generators.{{{names}}};\n" + (f"\nuse crate::{rows.type};\n" if rows is TWO_PARTS else "")
-    for k, w in PARTS:
-        yield from function(k, w, rows)
-
-
-def bases(rows):
-    """The law file of the arms of a generator."""
+def tables(rows):
+    """The file of the tables, and of the function that reads them."""
     s = rows.strength
-    yield f"-- The arms of rows{s}, each the sum over its key's digits of a basis: `by-sum` of Bases at the generator of strength {s}.\n-- {SCRIPT}\n"
-    yield "--   sum0 ..   the sum of the basis of row0 .. over the digits of a number\n"
-    yield "--   arm0 ..   so an arm of row0 .. is the remainder of its key\n-- Assumes nothing.\n"
-    yield "use mathlib.Core.Path.{◌≡◌, refl}\nuse mathlib.Core.List.{List, [], ◌∷◌}\nuse Prim.Native.Nat.{ℕ, ◌*◌, ◌<◌}\n"
-    yield "use Rattle.field.specs.Field.{reduce, horner, cut}\nuse Rattle.field.proofs.Additive.{linear_map, basis}\n"
-    yield f"use Rattle.{CRATE}.specs.Generators.{{generator_of, generator_at, back_from_top}}\n"
-    yield f"use Rattle.{CRATE}.proofs.Bases.{{by-sum}}\n"
+    yield f"// Remainders by the generator of strength {s}, in tables that are read in place. {SCRIPT}\n"
+    yield "ghost use Rattle.std.specs.Prelude.{◌≡◌};\n"
+    yield f"ghost use Rattle.{CRATE}.specs.Generators.{{generator_at, back_from_top}};\n"
+    yield f"\n// The remainder of t x^{11 * s}: what comes back where t leaves a register of {11 * s} digits at the top.\n"
+    yield f"pub fn back(t: u32) -> {rows.type}\n    ensures {{ result ≡ back_from_top (generator_at {s}) t }}\n{{\n    "
+    yield "\n        ^ ".join(f"ROW{k}[{places(k, w)}]" for k, w in PARTS) + "\n}\n"
     for k, w in PARTS:
-        d, g = 11 * s + k, generator(s)
-        yield f"\n-- the remainders of x^{d}, x^{d + 1}, ..\nbasis{k} : List ℕ\n" + listing(f"basis{k}", (remainder(1 << (d + i), g) for i in range(w)))
-        yield f"\n-- their sum over the digits of a number\nunfoldable pub sum{k} : ℕ → ℕ\nunfolding linear_map basis{k}\nsum{k} c = linear_map basis{k} c\n"
-        yield f"\n-- an arm of row{k}\npub arm{k} : {{c m v : ℕ}} → c < {1 << w} → c ≡ m → v ≡ sum{k} m → v ≡ back_from_top (generator_at {s}) (c * {1 << k})\n"
-        yield f"unfolding sum{k} basis{k} basis back_from_top generator_of reduce horner cut\n"
-        yield f"arm{k} h key f = by-sum (generator_at {s}) {k} {w} basis{k} refl h key f\n"
-
-
-def arm(k, c):
-    """The answer of arm c of a row function."""
-    name = f"returns-in-{c}"
-    return f"pub {name} : goal.{name}\nunfolding sum{k}\n{name} c = arm{k} c.requires c.in-{c}.is refl\n"
-
-
-def answers(k, w, rows):
-    """The answers of a row function: each arm by its key. That no other number is below the bound the check finds."""
-    own, module = f"Rattle.{CRATE}.proofs", f"rows{rows.strength}"
-    yield f"-- `{CRATE}::{module}::row{k}` meets its contract: each arm is the sum of the basis over its key's digits.\n"
-    yield f"-- {SCRIPT} Assumes nothing.\nuse mathlib.Core.Path.{{refl}}\nuse {own}.Bases{rows.strength}.{{sum{k}, arm{k}}}\n"
-    yield f"use {own}.{module}.row{k}.Goals as goal\n\n"
-    yield "\n".join(arm(k, c) for c in range(1 << w))
+        yield from table(k, w, rows)
 
 
 def raised(t, rows):
@@ -171,42 +132,35 @@ def raised(t, rows):
     return (generator(t) << (11 * (rows.strength - t))) // 2
 
 
-def raised_functions():
+def generators():
     """The file of the generators, moved up."""
-    yield f"// The generators, moved up to the highest digit of a register of 88 or 55 binary digits.\n// {SCRIPT}\n"
-    yield "ghost use Rattle.std.specs.Prelude.{◌≡◌, ◌-◌, ◌*◌, ◌/◌, ◌^◌, ◌≤◌};\n"
-    yield f"ghost use Rattle.{CRATE}.specs.Generators.{{generator_of}};\n"
-    yield "ghost use Rattle.corrector_remainder.specs.Remainder.{rest_of};\n\nuse crate::Rest;\n"
-    for rows, least, result, value in ((TWO_PARTS, 6, "Rest", "rest_of result"), (ONE_NUMBER, 1, "u64", "result")):
+    yield f"// The generators from strength 1 on, moved up to the highest digit of a register. At the register's own strength, where\n"
+    yield f"// no digit is cut, the half. {SCRIPT}\n"
+    for rows in ROWS:
         s = rows.strength
-        yield f"\n// The generator of a strength from {least} to {s}, its highest digit at {11 * s - 1}; at strength {s}, where no digit is cut, its half.\n"
-        yield f"pub fn raised{s}(t: u16) -> {result}\n    requires {{ ({least} ≤ t) × (t ≤ {s}) }}\n"
-        yield f"    ensures {{ {value} ≡ generator_of t * 2 ^ ({11 * s} - 11 * t) / 2 }}\n{{\n    match t {{\n"
-        for t in range(least, s + 1):
-            key, g = (t if t < s else "_"), raised(t, rows)
-            if rows is ONE_NUMBER:
-                yield f"        {key} => {g},\n"
-            else:
-                yield f"        {key} => Rest {{\n            lo: {g % 2 ** 64},\n            hi: {g >> 64},\n        }},\n"
-        yield "    }\n}\n"
+        yield f"\n// The highest digit is digit {11 * s - 1}.\npub static RAISED{s}: [{rows.type}; {s}] = [\n"
+        yield filled(raised(t, rows) for t in range(1, s + 1)) + "];\n"
 
 
 def powers():
     """The file of the powers: x^j at a, a^3, .., a^15."""
-    yield f"// The constant table of the syndromes. {SCRIPT}\nuse crate::POWERS;\n\n"
-    yield f"// x^j at a, a^3, .., a^15, for j below {11 * STRONGEST}: eight in a row.\npub const ODD_POWERS: [u16; POWERS] = [\n"
-    yield filled(power(power(2, 2 * k + 1), j) for j in range(11 * STRONGEST) for k in range(STRONGEST)) + "];\n"
+    yield f"// The constant table of the syndromes. {SCRIPT}\nuse crate::{{DIGITS, ODD}};\n\n"
+    yield f"// x^j at a, a^3, .., a^15, for j below {11 * STRONGEST}.\npub static ODD_POWERS: [[u16; ODD]; DIGITS] = [\n"
+    for j in range(11 * STRONGEST):
+        yield f"    [{', '.join(str(power(power(2, 2 * k + 1), j)) for k in range(STRONGEST))}],\n"
+    yield "];\n"
 
 
-def filled(numbers, width=99):
-    """The rows of an array, as rt fmt lays them out."""
+def filled(numbers, width=99, short=10):
+    """The rows of an array, as rt fmt lays them out: where a number is not short each has a line."""
+    words = [f"{n}," for n in numbers]
+    if any(len(word) > short + 1 for word in words):
+        return "".join(f"    {word}\n" for word in words)
     lines = [""]
-    for n in numbers:
-        word = f" {n}," if lines[-1] else f"    {n},"
-        if len(lines[-1]) + len(word) > width:
+    for word in words:
+        if len(lines[-1]) + 1 + len(word) > width:
             lines.append("")
-            word = f"    {n},"
-        lines[-1] += word
+        lines[-1] += f" {word}" if lines[-1] else f"    {word}"
     return "\n".join(lines) + "\n"
 
 
@@ -218,14 +172,10 @@ def main():
     own = CRATES / CRATE
     files = {
         CRATES / "corrector_syndromes/src/powers.rt": powers(),
-        CRATES / "corrector_remainder/src/raised.rt": raised_functions(),
+        CRATES / "corrector_remainder/src/raised.rt": generators(),
         own / "specs/Polynomials.antt": polynomials(),
     }
-    for rows in (TWO_PARTS, ONE_NUMBER):
-        s = rows.strength
-        files[own / f"src/rows{s}.rt"] = functions(rows)
-        files[own / f"proofs/Bases{s}.antt"] = bases(rows)
-        files.update({own / f"proofs/rows{s}/row{k}/Answers.antt": answers(k, w, rows) for k, w in PARTS})
+    files.update({own / f"src/rows{rows.strength}.rt": tables(rows) for rows in ROWS})
     files = {path: "".join(text) for path, text in files.items()}
     bad = [path for path, text in files.items() if not path.exists() or path.read_text() != text]
     if opt.check:

@@ -16,7 +16,7 @@ OWN = {"x86_64": "x86-64"}.get(platform.machine(), platform.machine())
 WIDE = ("x86-64", "x86-64-v3", "aarch64")
 NARROW = ("armhf", "cortex-m3", "wasm32")
 # The sources that scripts of tools/ write.
-GENERATED = {"field_tables/halves.rt", "field_tables/logtables.rt", "field_tables/antilogs.rt", "poly_values/tables.rt", "corrector_generator/rows8.rt", "corrector_generator/rows5.rt", "corrector_remainder/raised.rt", "corrector_syndromes/powers.rt", "field_constants/words.rt"}
+GENERATED = {"field_tables/halves.rt", "field_tables/logtables.rt", "field_tables/antilogs.rt", "poly_values/tables.rt", "corrector_generator/rows8.rt", "corrector_generator/rows5.rt", "corrector_remainder/raised.rt", "corrector_syndromes/powers.rt"}
 
 
 def command(text, status):

@@ -1,17 +1,16 @@
 // What the words of the command line ask for.
 
 // What is asked for: the strength, and whether to stop in front of a word that is bad.
-#[derive(Drop)]
+#[derive(Clone, Copy)]
 pub enum Asked {
     Encode(u16),
-    Correct(u16, bool),
+    Correct { strength: u16, strict: bool },
     Help,
     Version,
-    Wrong,
 }
 
-// A word of the command line.
-#[derive(Drop)]
+// A word of the command line that is known.
+#[derive(Clone, Copy, PartialEq, Eq)]
 enum Word {
     Encode,
     Correct,
@@ -19,85 +18,37 @@ enum Word {
     Help,
     Version,
     Strength(u16),
-    Other,
 }
 
 // Room for any word that is known.
 const LONGEST: usize = 16;
 
-// A digit from 1 to 8.
-fn strength_of(digit: u8) -> Word {
-    if digit < b'1' {
-        return Word::Other;
+// What a text is, if it is known: a strength is a digit from 1 to 8.
+fn word_of(text: &[u8]) -> Option<Word> {
+    match text {
+        b"encode" => Some(Word::Encode),
+        b"correct" => Some(Word::Correct),
+        b"--strict" => Some(Word::Strict),
+        b"--help" => Some(Word::Help),
+        b"--version" => Some(Word::Version),
+        [digit @ b'1'..=b'8'] => Some(Word::Strength((*digit - b'0') as u16)),
+        _ => None,
     }
-    if digit > b'8' {
-        return Word::Other;
-    }
-    Word::Strength((digit - b'0') as u16)
 }
 
-fn word_of(text: &[u8]) -> Word {
-    if job_streams::same(text, b"encode") {
-        return Word::Encode;
-    }
-    if job_streams::same(text, b"correct") {
-        return Word::Correct;
-    }
-    if job_streams::same(text, b"--strict") {
-        return Word::Strict;
-    }
-    if job_streams::same(text, b"--help") {
-        return Word::Help;
-    }
-    if job_streams::same(text, b"--version") {
-        return Word::Version;
-    }
-    if text.len() == 1 {
-        return strength_of(text[0]);
-    }
-    Word::Other
-}
-
-// The word at a place; one that is missing or too long to be known is another.
-fn word_at(rt: &HostRuntime, i: usize) -> Word {
-    let mut room = [0u8; LONGEST];
+// The word at a place; none where it is missing or too long to be known.
+fn word_at(rt: &HostRuntime, i: usize) -> Option<Word> {
+    let mut room = [0; LONGEST];
     let n = job_streams::word_at(rt, i, &mut room);
     word_of(&room[..n])
 }
 
-fn encode_at(strength: Word) -> Asked {
-    if let Word::Strength(t) = strength {
-        return Asked::Encode(t);
+// The strength at a place, if one stands there.
+fn strength_at(rt: &HostRuntime, i: usize) -> Option<u16> {
+    match word_at(rt, i)? {
+        Word::Strength(t) => Some(t),
+        _ => None,
     }
-    Asked::Wrong
-}
-
-fn correct_at(strength: Word, strict: bool) -> Asked {
-    if let Word::Strength(t) = strength {
-        return Asked::Correct(t, strict);
-    }
-    Asked::Wrong
-}
-
-// The strength alone, or with `--strict` behind it.
-fn correct_with(rt: &HostRuntime, words: usize) -> Asked {
-    if words == 3 {
-        return correct_at(word_at(rt, 2), false);
-    }
-    if words == 4 {
-        if let Word::Strict = word_at(rt, 3) {
-            return correct_at(word_at(rt, 2), true);
-        }
-    }
-    Asked::Wrong
-}
-
-// What is asked for where it needs so many words, the program's name among them.
-fn where_so_many(words: usize, wanted: usize, asked: Asked) -> Asked {
-    if words == wanted {
-        return asked;
-    }
-    Asked::Wrong
 }
 
 // How many words the command line has, the program's name among them; 5 where there are more than 4.
@@ -110,15 +61,20 @@ fn count_words(rt: &HostRuntime) -> usize {
     5
 }
 
-pub fn read(rt: &HostRuntime) -> Asked {
-    let words = count_words(rt);
-    match word_at(rt, 1) {
-        Word::Encode => where_so_many(words, 3, encode_at(word_at(rt, 2))),
-        Word::Correct => correct_with(rt, words),
-        Word::Help => where_so_many(words, 2, Asked::Help),
-        Word::Version => where_so_many(words, 2, Asked::Version),
-        Word::Strict => Asked::Wrong,
-        Word::Strength(_) => Asked::Wrong,
-        Word::Other => Asked::Wrong,
+// What the command line asks for; none where that is nothing known.
+pub fn read(rt: &HostRuntime) -> Option<Asked> {
+    match (count_words(rt), word_at(rt, 1)?) {
+        (2, Word::Help) => Some(Asked::Help),
+        (2, Word::Version) => Some(Asked::Version),
+        (3, Word::Encode) => Some(Asked::Encode(strength_at(rt, 2)?)),
+        (3, Word::Correct) => Some(Asked::Correct {
+            strength: strength_at(rt, 2)?,
+            strict: false,
+        }),
+        (4, Word::Correct) if word_at(rt, 3) == Some(Word::Strict) => Some(Asked::Correct {
+            strength: strength_at(rt, 2)?,
+            strict: true,
+        }),
+        _ => None,
     }
 }

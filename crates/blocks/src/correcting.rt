@@ -1,11 +1,32 @@
 // Words to data.
-ghost use Rattle.std.specs.Prelude.{◌≤◌, ◌<◌, ◌*◌, ◌≡◌, length};
+ghost use Rattle.std.specs.Prelude.{◌≤◌, ◌≡◌, length};
 
 use crate::messages;
-use corrector_stream::{Unpacked, WORD};
+use crate::messages::{Done, Fault};
+use corrector_stream::WORD;
+use job_streams::{Program, Told};
+use std::fmt;
 
 // How many words are read before their data are written.
 const WORDS: usize = 256;
+
+// What is asked for: a strength, the bytes of data of a word of that strength, and whether to stop in front of a bad one.
+#[derive(Clone, Copy)]
+struct Plan {
+    strength: u16,
+    size: usize,
+    strict: bool,
+    ghost short: { size ≤ 255 },
+}
+
+// What the newest word was: there is none yet or it is full, it is the last, it is bad, or it stands behind the last one.
+#[derive(Clone, Copy, PartialEq, Eq)]
+enum Newest {
+    Full,
+    Last,
+    Bad,
+    Behind,
+}
 
 // What is known of the words so far: at is where the next one stands in the input.
 #[derive(Clone, Copy)]
@@ -15,377 +36,217 @@ struct Tally {
     flips: u64,
     far: u64,
     strange: u64,
-    last: bool, // the last word has come
-    bad: bool, // the word before could not be taken
-    behind: bool, // words stand behind the last one
+    newest: Newest,
 }
 
-// What a word gave: so many bytes, and whether to stop in front of it.
-#[derive(Drop)]
-struct Step {
-    tally: Tally,
-    bytes: usize,
-    stop: bool,
+impl Tally {
+    // No word yet.
+    fn new() -> Tally {
+        Tally {
+            at: 0,
+            words: 0,
+            flips: 0,
+            far: 0,
+            strange: 0,
+            newest: Newest::Full,
+        }
+    }
+
+    // One more word, with so many flips.
+    fn count(&mut self, flips: u64, newest: Newest) {
+        self.words = self.words.saturating_add(1);
+        self.flips = self.flips.saturating_add(flips);
+        self.newest = newest;
+    }
 }
 
-// How a turn ended.
-#[derive(Drop)]
+impl fmt::Display for Tally {
+    fn fmt<W: fmt::Write>(&self, f: &mut fmt::Formatter<W>) -> fmt::Result {
+        write!(
+            f,
+            "words {}, flips {}, uncorrectable {}",
+            self.words, self.flips, self.far
+        )?;
+        if self.strange > 0 {
+            write!(f, ", not ours {}", self.strange)?;
+        }
+        Ok(())
+    }
+}
+
+// How a turn ended: there is more to read, the input ended in so many bytes that are no word, or it is to stop.
+#[derive(Clone, Copy)]
 enum Turn {
     More,
-    Over(usize), // the input ended in so many bytes that are no word
+    Over(usize),
     Stop,
-    Fail,
-}
-
-#[derive(Drop)]
-struct Turned {
-    tally: Tally,
-    turn: Turn,
-}
-
-// A sum, or the highest number where it is higher.
-fn sum(x: u64, y: u64) -> u64 {
-    if x > u64::MAX - y {
-        return u64::MAX;
-    }
-    x + y
-}
-
-// The next word stands one word on.
-fn moved(tally: Tally) -> Tally {
-    Tally {
-        at: sum(tally.at, 256),
-        words: tally.words,
-        flips: tally.flips,
-        far: tally.far,
-        strange: tally.strange,
-        last: tally.last,
-        bad: tally.bad,
-        behind: tally.behind,
-    }
-}
-
-// One more word, with so many flips, that could be taken.
-fn with_good(tally: Tally, flips: u64, last: bool) -> Tally {
-    Tally {
-        at: tally.at,
-        words: sum(tally.words, 1),
-        flips: sum(tally.flips, flips),
-        far: tally.far,
-        strange: tally.strange,
-        last,
-        bad: false,
-        behind: false,
-    }
-}
-
-// One more word that could not be corrected.
-fn with_far(tally: Tally) -> Tally {
-    Tally {
-        at: tally.at,
-        words: sum(tally.words, 1),
-        flips: tally.flips,
-        far: sum(tally.far, 1),
-        strange: tally.strange,
-        last: false,
-        bad: true,
-        behind: false,
-    }
-}
-
-// One more word, with so many flips, that `blocks encode` does not write.
-fn with_strange(tally: Tally, flips: u64) -> Tally {
-    Tally {
-        at: tally.at,
-        words: sum(tally.words, 1),
-        flips: sum(tally.flips, flips),
-        far: tally.far,
-        strange: sum(tally.strange, 1),
-        last: false,
-        bad: true,
-        behind: false,
-    }
-}
-
-// A word behind the last one.
-fn with_behind(tally: Tally) -> Tally {
-    Tally {
-        at: tally.at,
-        words: tally.words,
-        flips: tally.flips,
-        far: tally.far,
-        strange: tally.strange,
-        last: true,
-        bad: false,
-        behind: true,
-    }
-}
-
-// Writes 0 to every byte.
-fn clear(s: &mut [u8]) {
-    let mut i = 0;
-    while i < s.len() {
-        s[i] = 0;
-        i += 1;
-    }
 }
 
 // The highest bit of the last byte is no bit of a word: it becomes 0. Whether it was 1.
 fn clear_last_bit(word: &mut [u8]) -> u64
     requires { length word.old ≡ 256 }
+    ensures { result ≤ 1 }
 {
     if word[255] < 128 {
         return 0;
     }
-    word[255] = word[255] - 128;
+    word[255] -= 128;
     1
 }
 
-// A bad word: zeros in its place, unless it is to stop here.
-fn step_bad(tally: Tally, strict: bool, room: &mut [u8]) -> Step
-    ensures { result.bytes ≤ length room.old }
-{
-    if strict {
-        return Step {
-            tally,
-            bytes: 0,
-            stop: true,
-        };
-    }
-    clear(room);
-    Step {
-        tally,
-        bytes: room.len(),
-        stop: false,
-    }
-}
-
-// Takes a word: its data, or zeros, to the front of the room.
-fn take(
-    rt: &HostRuntime,
-    strength: u16,
-    strict: bool,
-    tally: Tally,
-    word: &mut [u8],
-    room: &mut [u8],
-) -> Step
+// Takes a word: its data, or zeros, to the front of the room. Returns how many bytes they are.
+fn take(rt: &HostRuntime, plan: &Plan, tally: &mut Tally, word: &mut [u8], room: &mut [u8]) -> usize
     requires { length word.old ≡ 256 }
-    ensures { result.bytes ≤ length room.old }
+    ensures { result ≤ length room.old }
 {
     let cleared = clear_last_bit(word);
-    match corrector_stream::unpack(strength, word, room) {
-        Unpacked::Data { bytes, last, flips } => Step {
-            tally: with_good(tally, sum(flips as u64, cleared), last),
-            bytes,
-            stop: false,
-        },
-        Unpacked::Strange(flips) => {
-            messages::tell_strange(rt, tally.at, strict, room.len() as u64);
-            step_bad(
-                with_strange(tally, sum(flips as u64, cleared)),
-                strict,
-                room,
-            )
+    let fault = match corrector_stream::unpack(plan.strength, word, room) {
+        Ok(unpacked) => {
+            let flips = unpacked.flips as u64 + cleared;
+            if let Some(held) = unpacked.held {
+                let newest = if held.last {
+                    Newest::Last
+                } else {
+                    Newest::Full
+                };
+                tally.count(flips, newest);
+                return held.bytes;
+            }
+            tally.count(flips, Newest::Bad);
+            tally.strange = tally.strange.saturating_add(1);
+            Fault::Strange
         }
-        Unpacked::NotUnpacked(_) => {
-            messages::tell_far(rt, tally.at, strict, room.len() as u64);
-            step_bad(with_far(tally), strict, room)
+        Err(_) => {
+            tally.count(0, Newest::Bad);
+            tally.far = tally.far.saturating_add(1);
+            Fault::Far
         }
+    };
+    if plan.strict {
+        messages::tell_bad(rt, tally.at, fault, Done::Stopped);
+        return 0;
     }
+    messages::tell_bad(rt, tally.at, fault, Done::Zeros(room.len()));
+    room.fill(0);
+    room.len()
 }
 
 // Takes a word that is not behind the last one. That one is behind it is said once.
 fn take_unless_behind(
     rt: &HostRuntime,
-    strength: u16,
-    strict: bool,
-    tally: Tally,
+    plan: &Plan,
+    tally: &mut Tally,
     word: &mut [u8],
     room: &mut [u8],
-) -> Step
+) -> usize
     requires { length word.old ≡ 256 }
-    ensures { result.bytes ≤ length room.old }
+    ensures { result ≤ length room.old }
 {
-    if tally.last {
-        if !tally.behind {
-            messages::tell_behind(rt, tally.at);
+    match tally.newest {
+        Newest::Full | Newest::Bad => take(rt, plan, tally, word, room),
+        Newest::Last => {
+            messages::tell(rt, tally.at, Fault::Behind);
+            tally.newest = Newest::Behind;
+            0
         }
-        return Step {
-            tally: with_behind(tally),
-            bytes: 0,
-            stop: false,
-        };
+        Newest::Behind => 0,
     }
-    take(rt, strength, strict, tally, word, room)
 }
 
-// What the words of a turn gave: so many bytes to write.
-#[derive(Drop)]
-struct Given {
-    tally: Tally,
-    bytes: usize,
-    stop: bool,
+// Is it to stop in front of the newest word?
+fn stops(plan: &Plan, tally: &Tally) -> bool {
+    plan.strict && tally.newest == Newest::Bad
 }
 
-// Takes the words one by one; their data stand in the room one behind the other.
+// Takes the words one by one; their data stand in the room one behind the other. Returns how many bytes they are.
 fn take_words(
     rt: &HostRuntime,
-    strength: u16,
-    size: usize,
-    strict: bool,
-    before: Tally,
+    plan: &Plan,
+    tally: &mut Tally,
     words: &mut [u8],
     out: &mut [u8],
-) -> Given
-    requires { (size ≤ 255) × (length words.old ≤ 65536) × (length out.old ≡ 65536) }
-    ensures { result.bytes ≤ 65536 }
+) -> usize
+    requires { (length words.old ≤ 65536) × (length out.old ≡ 65536) }
+    ensures { result ≤ 65536 }
 {
-    let count = words.len() / WORD;
-    let mut tally = before;
     let mut done = 0;
-    let mut k = 0;
-    while k < count {
+    for k in 0..words.len() / WORD {
         let at = WORD * k;
         let end = at + WORD;
-        let to = done + size;
-        let one = take_unless_behind(
-            rt,
-            strength,
-            strict,
-            tally,
-            &mut words[at..end],
-            &mut out[done..to],
-        );
-        done += one.bytes;
-        tally = one.tally;
-        if one.stop {
-            return Given {
-                tally,
-                bytes: done,
-                stop: true,
-            };
+        let to = done + plan.size;
+        done += take_unless_behind(rt, plan, tally, &mut words[at..end], &mut out[done..to]);
+        if stops(plan, tally) {
+            break;
         }
-        tally = moved(tally);
-        k += 1;
+        tally.at = tally.at.saturating_add(WORD as u64);
     }
-    Given {
-        tally,
-        bytes: done,
-        stop: false,
-    }
-}
-
-// How a turn ended that read n bytes, of WORDS words at most, and wrote all its data.
-fn turn_of(n: usize, stop: bool) -> Turn {
-    if stop {
-        return Turn::Stop;
-    }
-    if n == WORDS * WORD {
-        return Turn::More;
-    }
-    Turn::Over(n % WORD)
+    done
 }
 
 // Reads WORDS words, or what is left, and writes their data.
 fn one_turn(
-    rt: &HostRuntime,
-    strength: u16,
-    size: usize,
-    strict: bool,
-    before: Tally,
-    data: &mut [u8],
+    program: &Program,
+    plan: &Plan,
+    tally: &mut Tally,
+    words: &mut [u8],
     out: &mut [u8],
-) -> Turned
-    requires { (size ≤ 255) × (length «data».old ≡ 65536) × (length out.old ≡ 65536) }
+) -> Result<Turn, Told>
+    requires { (length words.old ≡ 65536) × (length out.old ≡ 65536) }
 {
-    let came = job_streams::read_all(rt, b"blocks", data);
-    let n = came.bytes;
-    if came.failed {
-        return Turned {
-            tally: before,
-            turn: Turn::Fail,
-        };
+    let n = program.read_all(words)?;
+    let bytes = take_words(program.rt, plan, tally, &mut words[..n], out);
+    program.print(&out[..bytes])?;
+    if stops(plan, tally) {
+        return Ok(Turn::Stop);
     }
-    let given = take_words(rt, strength, size, strict, before, &mut data[..n], out);
-    let bytes = given.bytes;
-    let tally = given.tally;
-    if !job_streams::print(rt, b"blocks", &out[..bytes]) {
-        return Turned {
-            tally,
-            turn: Turn::Fail,
-        };
+    if n == WORDS * WORD {
+        return Ok(Turn::More);
     }
-    Turned {
-        tally,
-        turn: turn_of(n, given.stop),
-    }
+    Ok(Turn::Over(n % WORD))
 }
 
 // Says what the end of the input shows, where it ends in so many bytes that are no word.
-fn tell_end(rt: &HostRuntime, tally: Tally, short: usize) {
+fn tell_end(rt: &HostRuntime, tally: &Tally, short: usize) {
     if short > 0 {
-        messages::tell_short(rt, tally.at, short as u64);
+        messages::tell(rt, tally.at, Fault::Short(short));
     }
-    if tally.last {
-        return;
+    match tally.newest {
+        Newest::Last | Newest::Behind => {}
+        Newest::Bad if short == 0 => messages::tell_end_unknown(rt),
+        Newest::Bad | Newest::Full => messages::tell_last_missing(rt),
     }
-    if tally.bad && short == 0 {
-        messages::tell_end_unknown(rt);
-        return;
-    }
-    messages::tell_last_missing(rt);
-}
-
-fn tell_summary(rt: &HostRuntime, tally: Tally) {
-    messages::tell_summary(rt, tally.words, tally.flips, tally.far, tally.strange);
 }
 
 // As often as there is something to read: no input has more turns than a number of 64 bits.
-fn turns(
-    rt: &HostRuntime,
-    strength: u16,
-    size: usize,
-    strict: bool,
-    data: &mut [u8],
-    out: &mut [u8],
-)
-    requires { (size ≤ 255) × (length «data».old ≡ 65536) × (length out.old ≡ 65536) }
+fn turns(program: &Program, plan: &Plan, words: &mut [u8], out: &mut [u8]) -> Result<(), Told>
+    requires { (length words.old ≡ 65536) × (length out.old ≡ 65536) }
 {
-    let mut tally = Tally {
-        at: 0,
-        words: 0,
-        flips: 0,
-        far: 0,
-        strange: 0,
-        last: false,
-        bad: false,
-        behind: false,
-    };
-    let mut left = u64::MAX;
-    while left > 0 {
-        let turned = one_turn(rt, strength, size, strict, tally, data, out);
-        tally = turned.tally;
-        let how = turned.turn;
-        match how {
+    let mut tally = Tally::new();
+    for _ in 0..u64::MAX {
+        match one_turn(program, plan, &mut tally, words, out)? {
             Turn::More => {}
             Turn::Over(short) => {
-                tell_end(rt, tally, short);
-                tell_summary(rt, tally);
-                return;
+                tell_end(program.rt, &tally, short);
+                break;
             }
-            Turn::Stop => {
-                tell_summary(rt, tally);
-                return;
-            }
-            Turn::Fail => return,
+            Turn::Stop => break,
         }
-        left -= 1;
     }
+    messages::tell_summary(program.rt, &tally);
+    Ok(())
 }
 
-pub fn run(rt: &HostRuntime, strength: u16, strict: bool) {
-    let size = corrector_stream::capacity(strength);
-    let mut data = job_streams::large_buffer();
+// What fails is told where it fails.
+pub fn run(program: &Program, strength: u16, strict: bool) {
+    let Some(size) = corrector_stream::capacity(strength) else {
+        return;
+    };
+    let plan = Plan {
+        strength,
+        size,
+        strict,
+    };
+    let mut words = job_streams::large_buffer();
     let mut out = job_streams::large_buffer();
-    turns(rt, strength, size, strict, &mut data, &mut out);
+    let _ = turns(program, &plan, &mut words, &mut out);
 }

@@ -3,6 +3,7 @@
 #![tactic(auto)]
 
 use arguments::Asked;
+use job_streams::Program;
 
 mod arguments; // what the command line asks for
 mod correcting; // words to data
@@ -10,11 +11,15 @@ mod encoding; // data to words
 mod messages; // what is said of words, and of the program
 
 fn main(rt: HostRuntime) {
+    let program = Program {
+        rt: &rt,
+        name: b"blocks",
+    };
     match arguments::read(&rt) {
-        Asked::Encode(strength) => encoding::run(&rt, strength),
-        Asked::Correct(strength, strict) => correcting::run(&rt, strength, strict),
-        Asked::Help => messages::print_help(&rt),
-        Asked::Version => messages::print_version(&rt),
-        Asked::Wrong => messages::tell_usage(&rt),
+        Some(Asked::Encode(strength)) => encoding::run(&program, strength),
+        Some(Asked::Correct { strength, strict }) => correcting::run(&program, strength, strict),
+        Some(Asked::Help) => messages::print_help(&program),
+        Some(Asked::Version) => program.print_version(),
+        None => messages::tell_usage(&rt),
     }
 }

@@ -1,13 +1,49 @@
-// What the program says: of words on standard error, and of itself.
+// What the program says: of words on standard error, and of itself. That a line cannot be said can be told nowhere.
 
-pub fn print_version(rt: &HostRuntime) {
-    job_streams::print_version(rt, b"blocks");
+use job_streams::Program;
+use std::fmt;
+
+// What is wrong with a word.
+#[derive(Clone, Copy)]
+pub enum Fault {
+    Far, // it cannot be corrected
+    Strange, // it is a codeword that `blocks encode` does not write
+    Behind, // it stands behind the last one
+    Short(usize), // the input ends in so many bytes of it
 }
 
-pub fn print_help(rt: &HostRuntime) {
-    job_streams::print(
-        rt,
-        b"blocks",
+impl fmt::Display for Fault {
+    fn fmt<W: fmt::Write>(&self, f: &mut fmt::Formatter<W>) -> fmt::Result {
+        match self {
+            Fault::Far => write!(f, "cannot be corrected"),
+            Fault::Strange => write!(f, "not a word that blocks encode writes"),
+            Fault::Behind => write!(f, "behind the last word: nothing from here on is written"),
+            Fault::Short(bytes) => write!(
+                f,
+                "{bytes} bytes in place of 256: nothing of it is written"
+            ),
+        }
+    }
+}
+
+// What is done about a bad word.
+#[derive(Clone, Copy)]
+pub enum Done {
+    Stopped, // the program stops in front of it
+    Zeros(usize), // so many zeros stand in its place
+}
+
+impl fmt::Display for Done {
+    fn fmt<W: fmt::Write>(&self, f: &mut fmt::Formatter<W>) -> fmt::Result {
+        match self {
+            Done::Stopped => write!(f, "stopped in front of it"),
+            Done::Zeros(bytes) => write!(f, "{bytes} bytes of zeros stand in its place"),
+        }
+    }
+}
+
+pub fn print_help(program: &Program) {
+    let _ = program.print(
         b"usage: blocks encode T             data on standard input to words of 256 bytes on standard output
        blocks correct T            words on standard input to data on standard output: standard error names
                                    each word that cannot be corrected, and zeros stand in its place
@@ -20,91 +56,35 @@ T, the strength, is how many wrong bits of a word are corrected, 1 to 8. A word 
 }
 
 pub fn tell_usage(rt: &HostRuntime) {
-    say(
-        rt,
-        b"blocks: usage: blocks encode T, blocks correct T [--strict], blocks --help or --version; T is 1 to 8\n",
+    let _ = eprintln!(rt;
+        "blocks: usage: blocks encode T, blocks correct T [--strict], blocks --help or --version; T is 1 to 8"
     );
 }
 
-fn say(rt: &HostRuntime, text: &[u8]) {
-    job_streams::say(rt, text);
+// Says what is wrong with the word at a byte of the input.
+pub fn tell(rt: &HostRuntime, at: u64, fault: Fault) {
+    let _ = eprintln!(rt; "blocks: word {} (byte {at}): {fault}", at / 256 + 1);
 }
 
-fn say_number(rt: &HostRuntime, text: &[u8], n: u64) {
-    say(rt, text);
-    job_streams::say_number(rt, n);
-}
-
-// Says which word stands at a byte of the input.
-fn say_word(rt: &HostRuntime, at: u64) {
-    say_number(rt, b"blocks: word ", at / 256 + 1);
-    say_number(rt, b" (byte ", at);
-    say(rt, b"): ");
-}
-
-// Says what is done about a bad word.
-fn say_done(rt: &HostRuntime, strict: bool, bytes: u64) {
-    if strict {
-        say(rt, b": stopped in front of it\n");
-        return;
-    }
-    say_number(rt, b": ", bytes);
-    say(rt, b" bytes of zeros stand in its place\n");
-}
-
-// The word at a byte of the input cannot be corrected; it would carry so many bytes.
-pub fn tell_far(rt: &HostRuntime, at: u64, strict: bool, bytes: u64) {
-    say_word(rt, at);
-    say(rt, b"cannot be corrected");
-    say_done(rt, strict, bytes);
-}
-
-// The word at a byte of the input is a codeword that `blocks encode` does not write.
-pub fn tell_strange(rt: &HostRuntime, at: u64, strict: bool, bytes: u64) {
-    say_word(rt, at);
-    say(rt, b"not a word that blocks encode writes");
-    say_done(rt, strict, bytes);
-}
-
-// At a byte of the input words begin that stand behind the last one.
-pub fn tell_behind(rt: &HostRuntime, at: u64) {
-    say_word(rt, at);
-    say(
-        rt,
-        b"behind the last word: nothing from here on is written\n",
+// Says so, and what is done about it.
+pub fn tell_bad(rt: &HostRuntime, at: u64, fault: Fault, done: Done) {
+    let _ = eprintln!(rt;
+        "blocks: word {} (byte {at}): {fault}: {done}",
+        at / 256 + 1
     );
-}
-
-// The input ends in so many bytes that are no word.
-pub fn tell_short(rt: &HostRuntime, at: u64, bytes: u64) {
-    say_word(rt, at);
-    say_number(rt, b"", bytes);
-    say(rt, b" bytes in place of 256: nothing of it is written\n");
 }
 
 // The final word is bad.
 pub fn tell_end_unknown(rt: &HostRuntime) {
-    say(
-        rt,
-        b"blocks: the final word is lost: the end of the data is not known\n",
-    );
+    let _ = eprintln!(rt; "blocks: the final word is lost: the end of the data is not known");
 }
 
 // No word is marked as the last.
 pub fn tell_last_missing(rt: &HostRuntime) {
-    say(
-        rt,
-        b"blocks: the last word is missing: data may be missing at the end\n",
-    );
+    let _ = eprintln!(rt; "blocks: the last word is missing: data may be missing at the end");
 }
 
-// How many words were read, bits flipped and words lost.
-pub fn tell_summary(rt: &HostRuntime, words: u64, flips: u64, far: u64, strange: u64) {
-    say_number(rt, b"blocks: words ", words);
-    say_number(rt, b", flips ", flips);
-    say_number(rt, b", uncorrectable ", far);
-    if strange > 0 {
-        say_number(rt, b", not ours ", strange);
-    }
-    say(rt, b"\n");
+// Says how many words were read, bits flipped and words lost.
+pub fn tell_summary(rt: &HostRuntime, summary: &impl fmt::Display) {
+    let _ = eprintln!(rt; "blocks: {summary}");
 }

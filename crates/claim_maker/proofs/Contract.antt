@@ -4,9 +4,12 @@
 --                    behind them
 -- Assumes nothing.
 use mathlib.Core.Path.{◌≡◌, sym, ap, ap₂, subst, ◌∙◌}
+use mathlib.Core.Bool.{Bool, true}
 use mathlib.Core.List.{List}
 use Prim.Native.Nat.{ℕ, suc}
 use lib.ListN.{length, take}
+use Rattle.std.specs.Prelude.{Result, Ok}
+use Rattle.refusals.specs.declared.Refusal.{Refusal}
 use Rattle.field.specs.Field.{multiplicities_at, roots_at}
 use Rattle.slices.specs.Lists.{copied}
 use Rattle.slices.proofs.Lists.{copied-front}
@@ -14,12 +17,9 @@ use Rattle.input.specs.Limit.{limit}
 use Rattle.claim_rules.specs.Claims.{Claim, claim_of}
 use Rattle.claim_rules.proofs.Complete.{claim-complete}
 use Rattle.claims.specs.Calls.{Checks}
-use Rattle.claims.specs.declared.Checked.{Checked}
-use Rattle.claims.specs.declared.Checked.TheVariants.{Accepted}
 use Rattle.claims.proofs.Coincide.{check-coincide}
 use Rattle.claims.proofs.Contract.{claim-passes}
 use Rattle.claim_maker.specs.Calls.{Makes, Proves, sent_claim}
-use Rattle.claim_maker.specs.declared.Proved.TheVariants.{Proven}
 
 module _ {m : ℕ} {f : List ℕ} {n : ℕ} {b x : Claim} (k : Makes m f n b x) where
   -- what is sent is the claim that was made
@@ -33,18 +33,18 @@ module _ {m : ℕ} {f : List ℕ} {n : ℕ} {b x : Claim} (k : Makes m f n b x) 
       (copied-front c.cofactor b.cofactor k.full.cofactor) (copied-front c.first b.first k.full.first)
       ∙ ap (claim_of c.roots c.times c.cofactor c.first) (copied-front c.second b.second k.full.second)
 
-  accepted : Checks m f (sent_claim n x) Accepted
-  accepted = subst (λ c. Checks m f c Accepted) (sym sent_is) (claim-passes m f k.claim k.let-in, k.acceptable)
+  accepted : Checks m f (sent_claim n x) (Ok true)
+  accepted = subst (λ c. Checks m f c (Ok true)) (sym sent_is) (claim-passes m f k.claim k.let-in, k.acceptable)
 
 -- PROVE-ACCEPTED: the check accepts what was made, and gives no other answer
-pub prove-accepted : (m : ℕ) (f : List ℕ) (n : ℕ) (b x : Claim) → Proves m f b (Proven n) x
-    → Checks m f (sent_claim n x) Accepted × ((r : Checked) → Checks m f (sent_claim n x) r → r ≡ Accepted)
+pub prove-accepted : (m : ℕ) (f : List ℕ) (n : ℕ) (b x : Claim) → Proves m f b (Ok n) x
+    → Checks m f (sent_claim n x) (Ok true) × ((r : Result Bool Refusal) → Checks m f (sent_claim n x) r → r ≡ (Ok true))
 prove-accepted m f n b x h =
-    let a : Checks m f (sent_claim n x) Accepted = accepted h.1 in
-    (a, λ r k. check-coincide m f (sent_claim n x) r Accepted k a)
+    let a : Checks m f (sent_claim n x) (Ok true) = accepted h.1 in
+    (a, λ r k. check-coincide m f (sent_claim n x) r (Ok true) k a)
 
 -- PROVE-ROOTS: the roots and multiplicities of the polynomial
-pub prove-roots : (m : ℕ) (f : List ℕ) (n : ℕ) (b x : Claim) → Proves m f b (Proven n) x
+pub prove-roots : (m : ℕ) (f : List ℕ) (n : ℕ) (b x : Claim) → Proves m f b (Ok n) x
     → (n ≡ length (roots_at m f)) × (x.roots ≡ copied (roots_at m f) b.roots) × (x.times ≡ copied (multiplicities_at m f) b.times)
 prove-roots m f n b x h =
     let k : Makes m f n b x = h.1 in

@@ -1,5 +1,5 @@
 -- The call: from the roots to the five buffers.
---   make-solves .. make-is    `make_lent`: what each routine asks, and what is left
+--   make-solves .. make-is    `make`: what each routine asks, and what is left
 --   admit-all                 the tests of the five buffers, one behind the other
 --   prove-told                what is known of what was let in
 -- Assumes nothing.
@@ -15,7 +15,8 @@ use lib.Seq.{length-take-le, take_at}
 use Rattle.refusals.specs.Order.{Passed}
 use Rattle.refusals.specs.Admitting.{Admits, with_test}
 use Rattle.refusals.specs.declared.Refusal.TheVariants.{Room}
-use Rattle.refusals.specs.declared.Admission.{Admission}
+use Rattle.refusals.specs.declared.Refusal.{Refusal}
+use Rattle.std.specs.Prelude.{⊤, Result}
 use Rattle.refusals.proofs.Admitting.{admits-also}
 use Rattle.refusals.proofs.Order.{failed, others}
 use Rattle.algebra.specs.Multiplicity.{multiplicity}
@@ -23,17 +24,18 @@ use Rattle.algebra.specs.Polynomial.{Below, from_roots}
 use Rattle.algebra.proofs.NumberMonic.{norm-made}
 use Rattle.algebra.proofs.RootList.{roots_of-ascending}
 use Rattle.algebra.proofs.StaysBelow.{roots_of-below}
-use Rattle.field.specs.Field.{G, multiplicities_at, roots_at}
+use Rattle.field.specs.Field.{field_at, G, multiplicities_at, roots_at}
 use Rattle.slices.specs.Lists.{copied}
 use Rattle.slices.proofs.Lists.{copied-front, length-copied}
 use Rattle.poly.specs.Lent.{Lent}
+use Rattle.field.specs.Tables.{Halves}
 use Rattle.poly.proofs.Logs.{numbers_of}
 use Rattle.poly.proofs.RootProducts.{product-below}
 use Rattle.input.specs.Cutoff.{house_default}
 use Rattle.input.specs.Limit.{limit, widest}
 use Rattle.input.specs.Polynomials.{PolynomialIn, polynomial_tests}
 use Rattle.input.proofs.Polynomials.{passed-rest, polynomial-told, roots_few}
-use Rattle.find_multiplicities.specs.Counting.{CountableLent}
+use Rattle.find_multiplicities.specs.Counting.{Countable}
 use Rattle.find_multiplicities.proofs.Asking.{countable}
 use Rattle.find_solve.specs.Solving.{Solvable}
 use Rattle.claim_rules.specs.Claims.{Claim, claim_of, spread_out}
@@ -41,32 +43,28 @@ use Rattle.claim_rules.specs.Admitting.{Sent}
 use Rattle.claim_rules.proofs.Claimable.{least-times}
 use Rattle.claim_rules.proofs.OneClaim.{spread-below}
 use Rattle.claim_maker.specs.Calls.{Makes, buffer_sizes, prove_tests}
-use Rattle.claim_maker.specs.Making.{AsField, IsPower, Makeable, MakeableLent, Pairable, Paired, Powerable, Rooted, SplitOff, Splittable}
+use Rattle.claim_maker.specs.Making.{AsField, IsPower, Makeable, Pairable, Paired, Powerable, Rooted, SplitOff, Splittable}
 use Rattle.claim_maker.proofs.Powering.{reduced}
 
-module _ {m : ℕ} {f ls ts hs roots mults h u v : List ℕ} (g : MakeableLent m f ls ts hs (claim_of roots mults h u v)) where
-  -- the tables that it is given
-  lent : Lent m ls ts
-  lent = record { degree = g.makeable.polynomial.field; logs = g.logs; antilogs = g.antilogs }
-
+module _ {m : ℕ} {f ls ts hs roots mults h u v : List ℕ} (lent : Lent m ls ts) (halves : Halves (field_at m) hs) (makeable : Makeable m f (claim_of roots mults h u v)) where
   t : PolynomialIn m f
-  t = g.makeable.polynomial
+  t = makeable.polynomial
 
   -- the fronts of the buffers
   pub make-cofactor : length (take (suc limit) h) ≡ suc limit
-  make-cofactor = length-take-le (suc limit) h g.makeable.cofactor
+  make-cofactor = length-take-le (suc limit) h makeable.cofactor
 
   pub make-first : length (take (suc limit) u) ≡ suc limit
-  make-first = length-take-le (suc limit) u g.makeable.first
+  make-first = length-take-le (suc limit) u makeable.first
 
   pub make-second : length (take (suc limit) v) ≡ suc limit
-  make-second = length-take-le (suc limit) v g.makeable.second
+  make-second = length-take-le (suc limit) v makeable.second
 
   -- what finding the roots asks
-  pub make-solves : Solvable m house_default f ls ts hs roots × (widest * limit ≤ length (replicate {A = ℕ} (widest * limit) 0))
+  pub make-solves : Solvable m house_default f hs roots × (widest * limit ≤ length (replicate {A = ℕ} (widest * limit) 0))
   unfolding t
   make-solves = (
-    record { polynomial = t; least = omega arith; most = omega arith; tables = lent; halves = g.halves; room = g.makeable.roots },
+    record { polynomial = t; least = omega arith; most = omega arith; halves = halves; room = makeable.roots },
     omega (arith, length-replicate {A = ℕ} (widest * limit) 0),
   )
 
@@ -76,26 +74,26 @@ module _ {m : ℕ} {f ls ts hs roots mults h u v : List ℕ} (g : MakeableLent m
     unfolding t
     make-within =
         let few = roots_few t in
-        let room = g.makeable.roots in
+        let room = makeable.roots in
         omega (arith, o.count, ap length o.slots-are, length-copied (roots_at m f) roots (omega arith))
 
     -- which is as long as it was
     pub make-kept : length roots' ≡ length roots
     unfolding t
-    make-kept = let few = roots_few t in let room = g.makeable.roots in ap length o.slots-are ∙ length-copied (roots_at m f) roots (omega arith)
+    make-kept = let few = roots_few t in let room = makeable.roots in ap length o.slots-are ∙ length-copied (roots_at m f) roots (omega arith)
 
     -- what z^(2^m) + z asks
-    pub make-powers : Powerable m ls ts f rows (replicate (suc limit) 0)
+    pub make-powers : Powerable m f rows (replicate (suc limit) 0)
     unfolding t
-    make-powers = record { tables = lent; polynomial = t; degree = o.degree; powers = o.powers; room = o.room; zeros = refl }
+    make-powers = record { polynomial = t; degree = o.degree; powers = o.powers; room = o.room; zeros = refl }
 
     front : take n roots' ≡ roots_at m f
     front = ap (take n) o.slots-are ∙ copied-front (roots_at m f) roots (sym o.count)
 
     -- and can be counted
-    pub make-counts : CountableLent m f (take n roots') ls ts mults
+    pub make-counts : Countable m f (take n roots') mults
     unfolding t
-    make-counts = record { countable = countable roots t o.count o.slots-are g.makeable.times; tables = lent }
+    make-counts = countable roots t o.count o.slots-are makeable.times
 
     module _ {mults' : List ℕ} (x : mults' ≡ copied (multiplicities_at m f) mults) where
       -- as many multiplicities
@@ -106,14 +104,13 @@ module _ {m : ℕ} {f ls ts hs roots mults h u v : List ℕ} (g : MakeableLent m
       unfolding t
       make-beside =
           let few = roots_few t in
-          let room = g.makeable.times in
+          let room = makeable.times in
           omega (arith, count, o.count, ap length x, length-copied (multiplicities_at m f) mults (omega (arith, count, o.count)))
 
       -- what the cofactor asks
-      pub make-splits : Splittable m ls ts f (take n roots') (take n mults') (take (suc limit) h)
+      pub make-splits : Splittable m f (take n roots') (take n mults') (take (suc limit) h)
       unfolding t
       make-splits = record {
-        tables = lent;
         polynomial = t;
         all = front;
         beside = ap (take n) x ∙ copied-front (multiplicities_at m f) mults count;
@@ -146,9 +143,8 @@ module _ {m : ℕ} {f ls ts hs roots mults h u v : List ℕ} (g : MakeableLent m
             d.exact s.product q.exact p.power
 
         -- what u and v ask
-        pub make-pairs : {b : List ℕ} → IsPower m f b → Pairable m ls ts (take (suc limit) (y ++ drop (suc limit) h)) b (take (suc limit) u) (take (suc limit) v)
-        make-pairs {b} p = subst (λ l. Pairable m ls ts l b (take (suc limit) u) (take (suc limit) v)) (sym whole) (record {
-          tables = lent;
+        pub make-pairs : {b : List ℕ} → IsPower m f b → Pairable m (take (suc limit) (y ++ drop (suc limit) h)) b (take (suc limit) u) (take (suc limit) v)
+        make-pairs {b} p = subst (λ l. Pairable m l b (take (suc limit) u) (take (suc limit) v)) (sym whole) (record {
           small = s.small;
           small_b = p.small;
           same = as-field p;
@@ -204,7 +200,7 @@ module _ {m : ℕ} {f ls ts hs roots mults h u v : List ℕ} (g : MakeableLent m
 -- ---- the tests
 
 -- of the five buffers, one behind the other
-pub admit-all : (m : ℕ) (f : List ℕ) (a b c d e : ℕ) (r₁ r₂ r₃ r₄ : Admission) {r₅ : Admission}
+pub admit-all : (m : ℕ) (f : List ℕ) (a b c d e : ℕ) (r₁ r₂ r₃ r₄ : Result ⊤ Refusal) {r₅ : Result ⊤ Refusal}
     → Admits (polynomial_tests m f ((7, ltb a limit) ∷ [])) r₁ → r₂ ≡ with_test r₁ (ltb b limit) Room → r₃ ≡ with_test r₂ (ltb c (suc limit)) Room
     → r₄ ≡ with_test r₃ (ltb d (suc limit)) Room → r₅ ≡ with_test r₄ (ltb e (suc limit)) Room → Admits (polynomial_tests m f (buffer_sizes a b c d e)) r₅
 admit-all m f a b c d e r₁ r₂ r₃ r₄ h x y z w =

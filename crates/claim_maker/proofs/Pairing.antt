@@ -15,6 +15,7 @@ use Rattle.algebra.proofs.NumberEvaluation.{eval-same}
 use Rattle.algebra.proofs.NumberMonic.{Made, made-degree, norm-made, norm-none}
 use Rattle.algebra.proofs.StaysBelow.{mul-below, take_below}
 use Rattle.field.specs.Field.{G}
+use Rattle.poly.specs.Lent.{Lent}
 use Rattle.poly.proofs.Logs.{numbers_of}
 use Rattle.slices.specs.Lists.{copied}
 use Rattle.input.specs.Limit.{limit}
@@ -28,9 +29,9 @@ use Rattle.claims.proofs.Adding.{add_comm, cut-same}
 use Rattle.claim_maker.specs.Making.{Pairable, Paired, Residable, Unitable, United}
 use Rattle.claim_maker.proofs.Fitting.{copied_all}
 
-module _ {m : ℕ} {ls ts h b u v : List ℕ} (g : Pairable m ls ts h b u v) where
+module _ {m : ℕ} {ls ts h b u v : List ℕ} (lent : Lent m ls ts) (g : Pairable m h b u v) where
   numbers : OnNumbers (G m) (2 ^ m)
-  numbers = numbers_of g.tables
+  numbers = numbers_of lent
 
   -- h is not 0
   made_of : (x : List ℕ) × (norm (G m) (length h) h ≡ some x)
@@ -44,12 +45,11 @@ module _ {m : ℕ} {ls ts h b u v : List ℕ} (g : Pairable m ls ts h b u v) whe
       go (some x) e = (x, e)
 
   -- what the remainder asks
-  pub pair-remains : Residable m ls ts h b (replicate (suc limit) 0) (replicate limit 0)
+  pub pair-remains : Residable m h b (replicate (suc limit) 0) (replicate limit 0)
   unfolding numbers
   pair-remains =
       let d = norm-made numbers h g.small made_of.1 in
       record {
-        tables = g.tables;
         cofactor = record { some = omega (arith, g.room-h); few = omega (arith, g.room-h); small = g.small };
         place = length made_of.0;
         nonzero = λ z. d.nonzero (sym (made-degree numbers d).0 ∙ z);
@@ -71,7 +71,7 @@ module _ {m : ℕ} {ls ts h b u v : List ℕ} (g : Pairable m ls ts h b u v) whe
     pair_size = length-take-le d w r.within
 
     small-w : Below (2 ^ m) (take d w)
-    small-w = subst (Below (2 ^ m)) (sym r.front) (remainder-below m g.tables.degree h g.small)
+    small-w = subst (Below (2 ^ m)) (sym r.front) (remainder-below m lent.degree h g.small)
 
     w-is : take d w ≡ rem (G m) (take d low) (field_poly (G m) m)
     w-is = r.front ∙ remainder_of m h r.made
@@ -81,7 +81,7 @@ module _ {m : ℕ} {ls ts h b u v : List ℕ} (g : Pairable m ls ts h b u v) whe
     unfolding numbers
     coprime =
         ap (gcd (G m) (take d low)) w-is
-        ∙ rootless-coprime numbers m refl numbers.one_below (known-field m g.tables.degree).fermat h (take d low) g.small r.made g.bare
+        ∙ rootless-coprime numbers m refl numbers.one_below (known-field m lent.degree).fermat h (take d low) g.small r.made g.bare
 
     pair : Pair (G m) (2 ^ m) (suc d) h (take d w)
     unfolding numbers
@@ -125,11 +125,10 @@ module _ {m : ℕ} {ls ts h b u v : List ℕ} (g : Pairable m ls ts h b u v) whe
       pair-front = omega (arith, ap length p-is, r.count, g.room-h)
 
       -- what Euclid's algorithm asks
-      unitable : Unitable m ls ts (take d w) short v u
+      unitable : Unitable m (take d w) short v u
       unfolding numbers
       unitable = record {
         reducible = record {
-          tables = g.tables;
           small-a = small-w;
           small_b = small-short;
           some = omega (arith, long-short);
@@ -157,8 +156,8 @@ module _ {m : ℕ} {ls ts h b u v : List ℕ} (g : Pairable m ls ts h b u v) whe
           last : d ≡ length short - 1
           last = omega (arith, long-short)
 
-      pub pair-unites : Unitable m ls ts (take d w) (take (d + 1) p) v u
-      pair-unites = subst (λ l. Unitable m ls ts (take d w) l v u) (sym front) unitable
+      pub pair-unites : Unitable m (take d w) (take (d + 1) p) v u
+      pair-unites = subst (λ l. Unitable m (take d w) l v u) (sym front) unitable
 
       pub pair_is : {u' v' : List ℕ} → United m (take d w) (take (d + 1) p) v' u' → Paired m h u' v'
       unfolding numbers

@@ -34,12 +34,13 @@ use Rattle.field.specs.Field.{G, field_at}
 use Rattle.field.specs.Tables.{log_of}
 use Rattle.slices.specs.Lists.{copied}
 use Rattle.slices.proofs.Lists.{drop-zeros, take-zeros}
-use Rattle.poly.specs.Division.{Reducible}
-use Rattle.poly.specs.Lent.{Addable, Lent, LogRow, Loggable, held, log_row}
+use Rattle.poly.specs.Asking.{Addable, Loggable, Reducible}
+use Rattle.poly.specs.Lent.{Lent, LogRow, held, log_row}
 use Rattle.poly.specs.Monic.{MadeMonic}
 use Rattle.poly.proofs.Logs.{held-row, numbers_of, row-is-row}
 use Rattle.poly.proofs.Sums.{add-nil}
-use Rattle.poly_powers.specs.Powers.{Squarable, power_rows}
+use Rattle.poly_powers.specs.Asking.{Squarable}
+use Rattle.poly_powers.specs.Powers.{power_rows}
 use Rattle.input.specs.Cutoff.{house_default}
 use Rattle.input.specs.Limit.{limit, widest}
 use Rattle.input.proofs.Polynomials.{nonzero-place}
@@ -149,17 +150,17 @@ module _ {H : Ops ℕ} {q : ℕ} (N : OnNumbers H q) where
 
 -- ---- finding the roots
 
-module _ {m : ℕ} {f ls ts hs roots : List ℕ} (g : Solvable m house_default f ls ts hs roots) {n : ℕ} {table rows : List ℕ}
+module _ {m : ℕ} {f hs roots : List ℕ} (g : Solvable m house_default f hs roots) {n : ℕ} {table rows : List ℕ}
     (b : table ≡ slots_begun by_factor slots m house_default f) (q : Powered m f n rows) where
   -- the rows fit
   pub find-fits : m * n ≤ widest * limit
   find-fits = powered-fit g q
 
-  pub find_runs : {traces : List ℕ} → traces ≡ replicate (widest * limit) 0 → Running m house_default f ls ts n rows traces table
-  find_runs e = record { tables = g.tables; polynomial = g.polynomial; powers = q; zeros = e; stepping = begun-stepping g b }
+  pub find_runs : Running m house_default f n rows table
+  find_runs = record { polynomial = g.polynomial; powers = q; stepping = begun-stepping g b }
 
   module _ {table' : List ℕ} (r : RunOut m house_default f table') where
-    pub find-lists : Listable ls ts hs table' roots
+    pub find-lists : Listable m hs table' roots
     find-lists = out-asks g (begun-stepping g b) r
 
     pub find-is : (all : List ℕ) {k : ℕ} {roots' : List ℕ} → rows ≡ take (m * n) all → m * n ≤ length all → k ≡ length (slots_roots by_factor table')
@@ -186,19 +187,18 @@ same_some : {x y : List ℕ} → some x ≡ some y → x ≡ y
 same_some e = cc
 
 -- the room is that of a polynomial
-pub power-long : {m : ℕ} {ls ts f rows b : List ℕ} → Powerable m ls ts f rows b → length b ≡ suc limit
+pub power-long : {m : ℕ} {f rows b : List ℕ} → Powerable m f rows b → length b ≡ suc limit
 power-long g = ap length g.zeros ∙ length-replicate {A = ℕ} (suc limit) 0
 
-module _ {m : ℕ} {ls ts f rows b : List ℕ} (g : Powerable m ls ts f rows b) {out : List ℕ} (c : out ≡ copied f (replicate (suc limit) 0)) where
+module _ {m : ℕ} {ls ts f rows b : List ℕ} (lent : Lent m ls ts) (g : Powerable m f rows b) {out : List ℕ} (c : out ≡ copied f (replicate (suc limit) 0)) where
   numbers : OnNumbers (G m) (2 ^ m)
-  numbers = numbers_of g.tables
+  numbers = numbers_of lent
 
   -- f as the check's cofactor is
-  pub power-residual : Residual m ls ts f (replicate (suc limit) 0) (replicate limit 0)
+  pub power-residual : Residual m f (replicate (suc limit) 0) (replicate limit 0)
   power-residual =
       let j = nonzero-place g.polynomial in
       record {
-        tables = g.tables;
         cofactor = record { some = g.polynomial.some; few = g.polynomial.few; small = g.polynomial.small };
         place = j.0;
         nonzero = j.1;
@@ -213,20 +213,20 @@ module _ {m : ℕ} {ls ts f rows b : List ℕ} (g : Powerable m ls ts f rows b) 
 
     made : norm (G m) (length f) f ≡ some x
     unfolding x
-    made = remain-made power-residual c d
+    made = remain-made lent power-residual c d
 
     small-x : Below (2 ^ m) x
     unfolding x numbers
     small-x = norm-below numbers (length f) f g.polynomial.small made
 
     pub power-room : j - 1 ≤ length (y ++ drop (length f) out)
-    power-room = remain-room power-residual c d
+    power-room = remain-room lent power-residual c d
 
     pub power-some : 0 < j
-    power-some = remain-some power-residual c d
+    power-some = remain-some lent power-residual c d
 
     pub power-few : j - 1 ≤ limit
-    power-few = remain-degree power-residual c d
+    power-few = remain-degree lent power-residual c d
 
     long-x : length x ≡ j - 1
     unfolding x
@@ -239,10 +239,9 @@ module _ {m : ℕ} {ls ts f rows b : List ℕ} (g : Powerable m ls ts f rows b) 
     degree-is = sym g.powers.long ∙ ap length low-is ∙ long-x
 
     -- what the row asks
-    pub power-logs : Loggable m ls ts (take (j - 1) (y ++ drop (length f) out)) (take (j - 1) (replicate limit 0))
+    pub power-logs : Loggable m (take (j - 1) (y ++ drop (length f) out)) (take (j - 1) (replicate limit 0))
     unfolding x
     power-logs = record {
-      tables = g.tables;
       small = small-x;
       room = long-x ∙ sym (length-take-le (j - 1) (replicate limit 0) (omega (arith, power-few, length-replicate {A = ℕ} limit 0)));
     }
@@ -293,12 +292,11 @@ module _ {m : ℕ} {ls ts f rows b : List ℕ} (g : Powerable m ls ts f rows b) 
       long-last = length-frobenius_mod (G m) x (m - 1) z (length-rem (G m) x (0 ∷ 1 ∷ [])) ∙ long-x
 
       -- what adding it asks
-      pub power-adds : Addable m ls ts 1 (take (e - (m - 1) * (j - 1)) (drop ((m - 1) * (j - 1)) rows)) (take (j - 1) b)
+      pub power-adds : Addable m 1 (take (e - (m - 1) * (j - 1)) (drop ((m - 1) * (j - 1)) rows)) (take (j - 1) b)
       unfolding numbers
       power-adds = record {
-        tables = g.tables;
         element = numbers.one_below;
-        logs = subst (LogRow m) (sym last) (row-is-row g.tables (frobenius_mod (G m) x (m - 1) z) small-last);
+        logs = subst (LogRow m) (sym last) (row-is-row lent (frobenius_mod (G m) x (m - 1) z) small-last);
         room = omega (arith, ap length last, length-map (frobenius_mod (G m) x (m - 1) z) (log_of (field_at m)), long-last, front_long);
       }
         where
@@ -311,7 +309,7 @@ module _ {m : ℕ} {ls ts f rows b : List ℕ} (g : Powerable m ls ts f rows b) 
         a-is =
             let t : List ℕ = frobenius_mod (G m) x (m - 1) z in
             h ∙ ap₂ (λ u v. add (G m) u (map ((G m).mul 1) v)) (ap (take (j - 1)) g.zeros ∙ take-zeros (j - 1) (suc limit) (omega (arith, power-few)))
-            (ap (held m) last ∙ held-row g.tables t small-last) ∙ ap (add (G m) (replicate (j - 1) 0)) (ones t small-last) ∙ add-comm-zeros t (j - 1) long-last
+            (ap (held m) last ∙ held-row lent t small-last) ∙ ap (add (G m) (replicate (j - 1) 0)) (ones t small-last) ∙ add-comm-zeros t (j - 1) long-last
           where
             ones : (t : List ℕ) → Below (2 ^ m) t → map ((G m).mul 1) t ≡ t
             ones [] b = refl
@@ -343,13 +341,12 @@ module _ {m : ℕ} {ls ts f rows b : List ℕ} (g : Powerable m ls ts f rows b) 
           row_is = take_at r rest (j - 1) long-r ∙ k
 
           held-is : held m (take (j - 1) (r ++ rest)) ≡ x
-          held-is = ap (held m) row_is ∙ held-row g.tables x small-x
+          held-is = ap (held m) row_is ∙ held-row lent x small-x
 
           -- what the squaring asks
-          pub power-squares : Squarable m ls ts (take (j - 1) (r ++ rest)) (take (j - 1) (a ++ drop (j - 1) b))
+          pub power-squares : Squarable m (take (j - 1) (r ++ rest)) (take (j - 1) (a ++ drop (j - 1) b))
           power-squares = record {
-            tables = g.tables;
-            logs = subst (LogRow m) (sym row_is) (row-is-row g.tables x small-x);
+            logs = subst (LogRow m) (sym row_is) (row-is-row lent x small-x);
             small = subst (Below (2 ^ m)) (sym (front-a ∙ a-is)) small-last;
             few = omega (arith, length-take-le (j - 1) (r ++ rest) power-row, power-few);
             long = length-take-le (j - 1) (a ++ drop (j - 1) b) power-front ∙ sym (length-take-le (j - 1) (r ++ rest) power-row);
@@ -410,45 +407,45 @@ module _ {m : ℕ} {ls ts f rows b : List ℕ} (g : Powerable m ls ts f rows b) 
 
 -- ---- the remainder
 
-module _ {m : ℕ} {ls ts h b low w : List ℕ} (g : Residable m ls ts h b low w) where
+module _ {m : ℕ} {ls ts h b low w : List ℕ} (lent : Lent m ls ts) (g : Residable m h b low w) where
   -- h as the check's cofactor is
-  residual : Residual m ls ts h low w
-  residual = record { tables = g.tables; cofactor = g.cofactor; place = g.place; nonzero = g.nonzero; room-low = g.room-low; room = g.room }
+  residual : Residual m h low w
+  residual = record { cofactor = g.cofactor; place = g.place; nonzero = g.nonzero; room-low = g.room-low; room = g.room }
 
   module _ {out : List ℕ} (c : out ≡ copied h low) where
     pub residue-fits : length h ≤ length out
-    residue-fits = remain-fits residual c
+    residue-fits = remain-fits lent residual c
 
-    pub residue-monic : Lent m ls ts × Below (2 ^ m) (take (length h) out)
-    residue-monic = remain-asks residual c
+    pub residue-monic : Below (2 ^ m) (take (length h) out)
+    residue-monic = remain-asks lent residual c
 
     module _ {j : ℕ} {y : List ℕ} (d : MadeMonic m (take (length h) out) j y) where
       pub residue-some : 0 < j
-      residue-some = remain-some residual c d
+      residue-some = remain-some lent residual c d
 
       pub residue-room : j - 1 ≤ length (y ++ drop (length h) out)
-      residue-room = remain-room residual c d
+      residue-room = remain-room lent residual c d
 
       pub residue-few : j - 1 ≤ limit
-      residue-few = remain-degree residual c d
+      residue-few = remain-degree lent residual c d
 
       p : List ℕ
       p = take (j - 1) (y ++ drop (length h) out)
 
       made-p : norm (G m) (length h) h ≡ some p
       unfolding p
-      made-p = remain-made residual c d
+      made-p = remain-made lent residual c d
 
       small-p : Below (2 ^ m) p
-      small-p = norm-below (numbers_of g.tables) (length h) h g.cofactor.small made-p
+      small-p = norm-below (numbers_of lent) (length h) h g.cofactor.small made-p
 
       long-p : length p ≡ j - 1
       unfolding p
       long-p = length-take-le (j - 1) (y ++ drop (length h) out) residue-room
 
-      pub residue-logs : {l : List ℕ} → j - 1 ≡ length l → Loggable m ls ts (take (j - 1) (y ++ drop (length h) out)) l
+      pub residue-logs : {l : List ℕ} → j - 1 ≡ length l → Loggable m (take (j - 1) (y ++ drop (length h) out)) l
       unfolding p
-      residue-logs e = record { tables = g.tables; small = small-p; room = long-p ∙ e }
+      residue-logs e = record { small = small-p; room = long-p ∙ e }
 
       module _ {r : List ℕ} (k : r ≡ log_row m (take (j - 1) (y ++ drop (length h) out))) (rest : List ℕ) where
         long-row : length r ≡ j - 1
@@ -463,10 +460,9 @@ module _ {m : ℕ} {ls ts h b low w : List ℕ} (g : Residable m ls ts h b low w
         row-front = take_at r rest (j - 1) long-row ∙ k
 
         -- what the division asks
-        pub residue-reduces : Reducible m ls ts (take (j - 1) (r ++ rest)) b (take (j - 1) w)
+        pub residue-reduces : Reducible m (take (j - 1) (r ++ rest)) b (take (j - 1) w)
         residue-reduces = record {
-          tables = g.tables;
-          logs = subst (LogRow m) (sym row-front) (row-is-row g.tables p small-p);
+          logs = subst (LogRow m) (sym row-front) (row-is-row lent p small-p);
           small = g.small;
           room = length-take-le (j - 1) w (omega (arith, residue-few, g.room)) ∙ sym (length-take-le (j - 1) (r ++ rest) residue-row);
         }
@@ -474,7 +470,7 @@ module _ {m : ℕ} {ls ts h b low w : List ℕ} (g : Residable m ls ts h b low w
         pub residue-is : {v : List ℕ} → v ≡ rem (G m) (held m (take (j - 1) (r ++ rest))) b → (more : List ℕ) → Residue m h (j - 1) (y ++ drop (length h) out) (v ++ more)
         unfolding p
         residue-is {v} e more =
-            let whole : v ≡ rem (G m) p (field_poly (G m) m) = e ∙ ap (λ u. rem (G m) u b) (ap (held m) row-front ∙ held-row g.tables p small-p) ∙ g.same p made-p in
+            let whole : v ≡ rem (G m) p (field_poly (G m) m) = e ∙ ap (λ u. rem (G m) u b) (ap (held m) row-front ∙ held-row lent p small-p) ∙ g.same p made-p in
             let n : length v ≡ j - 1 = ap length whole ∙ length-rem (G m) p (field_poly (G m) m) ∙ long-p in
             record {
               count = residue-few;

@@ -27,11 +27,11 @@ use Rattle.field.specs.Field.{G, field_at, multiplicities_at, roots_at}
 use Rattle.field.specs.Tables.{log_of}
 use Rattle.slices.specs.Lists.{copied}
 use Rattle.slices.proofs.Lists.{copied-front, length-copied}
-use Rattle.poly.specs.Lent.{LogRow, Loggable, held, log_row}
-use Rattle.poly.specs.Division.{Divisible, divided}
+use Rattle.poly.specs.Asking.{Divisible, Loggable, Multipliable}
+use Rattle.poly.specs.Lent.{Lent, LogRow, held, log_row}
+use Rattle.poly.specs.Division.{divided}
 use Rattle.poly.proofs.Divisions.{divided-behind}
 use Rattle.poly.proofs.Logs.{held-long, held-row, numbers_of, row-is-row}
-use Rattle.poly.specs.Products.{Multipliable}
 use Rattle.poly.proofs.RootProducts.{product-below}
 use Rattle.input.specs.Limit.{limit}
 use Rattle.input.proofs.Polynomials.{nonzero-place}
@@ -73,7 +73,7 @@ module _ {es : List ℕ} {n i : ℕ} (s : Summing es n i) where
 
 -- ---- the product as a row
 
-module _ {m : ℕ} {ls ts roots es row : List ℕ} (g : Rowable m ls ts roots es row) {n : ℕ} (c : n ≡ total es) where
+module _ {m : ℕ} {ls ts roots es row : List ℕ} (lent : Lent m ls ts) (g : Rowable m roots es row) {n : ℕ} (c : n ≡ total es) where
   pub row_fits : n ≤ limit
   row_fits = let f = g.few in omega arith
 
@@ -94,9 +94,8 @@ module _ {m : ℕ} {ls ts roots es row : List ℕ} (g : Rowable m ls ts roots es
     front-y : take n (y ++ rest) ≡ spread_out roots es
     front-y = take_at y rest n long-y ∙ e
 
-    pub row-multiplies : Multipliable m ls ts (take n (y ++ rest)) (replicate (suc limit) 0)
+    pub row-multiplies : Multipliable m (take n (y ++ rest)) (replicate (suc limit) 0)
     row-multiplies = record {
-      tables = g.tables;
       small = subst (Below (2 ^ m)) (sym front-y) (spread-below (2 ^ m) roots es g.elements);
       room = let f = row_fits in omega (arith, length-take-le n (y ++ rest) row_list, length-replicate {A = ℕ} (suc limit) 0);
     }
@@ -121,10 +120,9 @@ module _ {m : ℕ} {ls ts roots es row : List ℕ} (g : Rowable m ls ts roots es
           ∙ ap (λ k. take k (from_roots (G m) (spread_out roots es))) (c ∙ sym (spread-length roots es g.paired))
 
       -- what the logs ask
-      pub row-logs : Loggable m ls ts (take n p) (take n row)
+      pub row-logs : Loggable m (take n p) (take n row)
       row-logs = record {
-        tables = g.tables;
-        small = subst (Below (2 ^ m)) (sym low-p) (monic_roots-below (numbers_of g.tables) (spread_out roots es) (spread-below (2 ^ m) roots es g.elements));
+        small = subst (Below (2 ^ m)) (sym low-p) (monic_roots-below (numbers_of lent) (spread_out roots es) (spread-below (2 ^ m) roots es g.elements));
         room = length-take-le n p row_room ∙ sym (length-take-le n row (let f = row_fits in let r = g.room in omega arith));
       }
 
@@ -135,10 +133,10 @@ module _ {m : ℕ} {ls ts roots es row : List ℕ} (g : Rowable m ls ts roots es
 
 -- ---- a quotient
 
-module _ {m : ℕ} {ls ts row work q : List ℕ} (g : Quotable m ls ts row work q) where
+module _ {m : ℕ} {ls ts row work q : List ℕ} (lent : Lent m ls ts) (g : Quotable m row work q) where
   -- what the division asks
-  pub quotient-divides : Divisible m ls ts row work
-  quotient-divides = record { tables = g.tables; logs = g.logs; small = g.small; room = let r = g.room in omega arith }
+  pub quotient-divides : Divisible m row work
+  quotient-divides = record { logs = g.logs; small = g.small; room = let r = g.room in omega arith }
 
   pub quotient_is : {work' q' : List ℕ} {e : ℕ} → e ≡ length row + length q → work' ≡ divided m (held m row) work
       → q' ≡ copied (take (e - length row) (drop (length row) work')) q → q' ≡ take (length q) (quo (G m) (held m row) work)
@@ -159,9 +157,9 @@ roots-led : (m : ℕ) (N : OnNumbers (G m) (2 ^ m)) (s : List ℕ) → Below (2 
 roots-led m N = by-elements N (λ s. monic (G m) (monic_roots (G m) s) ≡ from_roots (G m) s) λ u.
     ap (monic (G m)) (sym (low-monic_roots N u)) ∙ sym (low-monic N (monic_roots (elems N) u)) ∙ ap (low N) (monic-roots (laws N) u) ∙ low-from_roots N u
 
-module _ {m : ℕ} {ls ts f roots es h : List ℕ} (g : Splittable m ls ts f roots es h) where
+module _ {m : ℕ} {ls ts f roots es h : List ℕ} (lent : Lent m ls ts) (g : Splittable m f roots es h) where
   N : OnNumbers (G m) (2 ^ m)
-  N = numbers_of g.tables
+  N = numbers_of lent
 
   -- the roots, each as often as its multiplicity
   s : List ℕ
@@ -172,9 +170,8 @@ module _ {m : ℕ} {ls ts f roots es h : List ℕ} (g : Splittable m ls ts f roo
   small-s = spread-below (2 ^ m) (roots_at m f) (multiplicities_at m f) (roots_of-below (G m) (2 ^ m) f)
 
   -- what the row asks
-  pub split-row : Rowable m ls ts roots es (replicate limit 0)
+  pub split-row : Rowable m roots es (replicate limit 0)
   split-row = record {
-    tables = g.tables;
     elements = subst (Below (2 ^ m)) (sym g.all) (roots_of-below (G m) (2 ^ m) f);
     paired = ap length g.all ∙ sym (ap length g.beside ∙ length-map (roots_at m f) (multiplicity (G m) f));
     few = subst (λ l. total l ≤ limit) (sym g.beside) (total-within m f g.polynomial);
@@ -186,7 +183,7 @@ module _ {m : ℕ} {ls ts f roots es h : List ℕ} (g : Splittable m ls ts f roo
     unfolding s N
     held-is =
         ap (held m) (r.front ∙ ap₂ (λ x y. log_row m (monic_roots (G m) (spread_out x y))) g.all g.beside)
-        ∙ held-row g.tables (monic_roots (G m) s) (monic_roots-below N s small-s)
+        ∙ held-row lent (monic_roots (G m) s) (monic_roots-below N s small-s)
 
     long-n : length (take n row) ≡ n
     long-n = length-take-le n row r.within
@@ -206,11 +203,10 @@ module _ {m : ℕ} {ls ts f roots es h : List ℕ} (g : Splittable m ls ts f roo
         (drop-below (2 ^ m) (length f) (replicate product_room 0) (replicate-below (2 ^ m) product_room 0 N.zero-below)))
 
     -- what the quotient asks
-    pub split-quotes : Quotable m ls ts (take n row) work h
+    pub split-quotes : Quotable m (take n row) work h
     unfolding N s
     split-quotes = record {
-      tables = g.tables;
-      logs = subst (LogRow m) (sym r.front) (row-is-row g.tables (monic_roots (G m) (spread_out roots es))
+      logs = subst (LogRow m) (sym r.front) (row-is-row lent (monic_roots (G m) (spread_out roots es))
           (monic_roots-below N (spread_out roots es) (spread-below (2 ^ m) roots es split-row.elements)));
       small = small-work;
       room = omega (arith, long-n, few-n, g.room, long-work);
@@ -267,6 +263,6 @@ module _ {m : ℕ} {ls ts f roots es h : List ℕ} (g : Splittable m ls ts f roo
           let d = there.0 in
           record {
             small = small-h;
-            product = mul-same N (from_roots (G m) s) h' (from_roots (G m) s) d.quotient (product-below m g.tables.degree s small-s) small-h (product-below m g.tables.degree s small-s) d.small refl same ∙ d.exact;
+            product = mul-same N (from_roots (G m) s) h' (from_roots (G m) s) d.quotient (product-below m lent.degree s small-s) small-h (product-below m lent.degree s small-s) d.small refl same ∙ d.exact;
             bare = λ y l z. there.1 y l (sym (eval-same N h' d.quotient small-h d.small same y l) ∙ z);
           }

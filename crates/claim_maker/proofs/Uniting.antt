@@ -24,11 +24,13 @@ use Rattle.field.specs.Field.{G, field_at, inverse}
 use Rattle.field.specs.Tables.{log_of}
 use Rattle.slices.proofs.Filling.{Filling, fill_end, fill-from, fill_on, map_at}
 use Rattle.poly.specs.Lent.{Lent, LogRow, held, log_row}
-use Rattle.poly.specs.Division.{Divisible, divided}
-use Rattle.poly.specs.Monic.{Scalable, TopIs}
+use Rattle.poly.specs.Asking.{Divisible, Scalable}
+use Rattle.poly.specs.Division.{divided}
+use Rattle.poly.specs.Monic.{TopIs}
 use Rattle.poly.proofs.Divisions.{divided-behind, divided-front, length-divided}
 use Rattle.poly.proofs.Parts.{part_none, part-rest}
-use Rattle.poly.proofs.Logs.{held-row, log-at, logs-fit, numbers_of, product_at, product-fits, row-is-row}
+use Rattle.field.proofs.ByLogs.{product-fits, product-stands}
+use Rattle.poly.proofs.Logs.{held-row, log-at, logs-fit, numbers_of, row-is-row}
 use Rattle.input.specs.Limit.{limit}
 use Rattle.claim_rules.proofs.Combinations.{across, combine-back, combine-on, no-unit, product-ends, quo-cut}
 use Rattle.claim_rules.proofs.TheRemainder.{add_same, mul-same}
@@ -45,12 +47,14 @@ positive x z = elim (dec_lt 0 x) [ yes p ↦ p | no p ↦ absurd (z (omega arith
 
 -- the first i logs are written
 pub record Multiplying (m : ℕ) (ls ts : List ℕ) (c : ℕ) (p r₀ r : List ℕ) (i : ℕ) : Type 0 where
-  pub given : Scalable m ls ts c p
+  pub tables : Lent m ls ts
+  pub given : Scalable m c p
   pub room : length p ≡ length r₀
   pub filling : Filling (log_row m (map ((G m).mul c) p)) r₀ r i
 
-pub multiply-from : {m : ℕ} {ls ts : List ℕ} {c : ℕ} {p r : List ℕ} → Scalable m ls ts c p → length p ≡ length r → Multiplying m ls ts c p r r 0
-multiply-from {m} {ls} {ts} {c} {p} {r} g e = record {
+pub multiply-from : {m : ℕ} {ls ts : List ℕ} {c : ℕ} {p r : List ℕ} → Lent m ls ts → Scalable m c p → length p ≡ length r → Multiplying m ls ts c p r r 0
+multiply-from {m} {ls} {ts} {c} {p} {r} l g e = record {
+  tables = l;
   given = g;
   room = e;
   filling = fill-from (log_row m (map ((G m).mul c) p)) r (length-map (map ((G m).mul c) p) (log_of (field_at m)) ∙ length-map p ((G m).mul c) ∙ e);
@@ -66,35 +70,36 @@ module _ {m : ℕ} {ls ts : List ℕ} {c : ℕ} {p r₀ r : List ℕ} {i : ℕ} 
 
     -- a coefficient has its log, and the product stands in the table
     pub multiply-logs : get_or p i 0 < length ls
-    multiply-logs = logs-fit w.given.tables small
+    multiply-logs = logs-fit w.tables small
 
     pub multiply-fits : get_or ls c 0 + get_or ls (get_or p i 0) 0 < length ts
-    multiply-fits = product-fits w.given.tables w.given.nonzero w.given.element small
+    multiply-fits = product-fits w.tables w.given.element small
 
     product : get_or ts (get_or ls c 0 + get_or ls (get_or p i 0) 0) 0 ≡ (G m).mul c (get_or p i 0)
-    product = product_at w.given.tables w.given.nonzero w.given.element small
+    product = product-stands w.tables w.given.nonzero w.given.element small
 
     small_product : get_or ts (get_or ls c 0 + get_or ls (get_or p i 0) 0) 0 < 2 ^ m
-    small_product = subst (λ x. x < 2 ^ m) (sym product) ((numbers_of w.given.tables).mul-below c (get_or p i 0) w.given.element small)
+    small_product = subst (λ x. x < 2 ^ m) (sym product) ((numbers_of w.tables).mul-below c (get_or p i 0) w.given.element small)
 
     pub multiply-inside : get_or ts (get_or ls c 0 + get_or ls (get_or p i 0) 0) 0 < length ls
-    multiply-inside = logs-fit w.given.tables small_product
+    multiply-inside = logs-fit w.tables small_product
 
     -- one more
     pub multiply-on : Multiplying m ls ts c p r₀ (set r i (get_or ls (get_or ts (get_or ls c 0 + get_or ls (get_or p i 0) 0) 0) 0)) (i + 1)
     multiply-on = record {
+      tables = w.tables;
       given = w.given;
       room = w.room;
       filling = fill_on w.filling (omega (arith, w.room))
-          (log-at w.given.tables small_product ∙ ap (log_of (field_at m)) (product ∙ sym (map_at ((G m).mul c) p i h))
+          (log-at w.tables small_product ∙ ap (log_of (field_at m)) (product ∙ sym (map_at ((G m).mul c) p i h))
           ∙ sym (map_at (log_of (field_at m)) (map ((G m).mul c) p) i (omega (arith, length-map p ((G m).mul c)))));
     }
 
 -- ---- a division
 
-module _ {m : ℕ} {ls ts b a : List ℕ} (g : Reducible m ls ts b a) where
+module _ {m : ℕ} {ls ts b a : List ℕ} (lent : Lent m ls ts) (g : Reducible m b a) where
   N : OnNumbers (G m) (2 ^ m)
-  N = numbers_of g.tables
+  N = numbers_of lent
 
   pub reduce-low : length b - 1 ≤ length b
   reduce-low = omega arith
@@ -106,8 +111,8 @@ module _ {m : ℕ} {ls ts b a : List ℕ} (g : Reducible m ls ts b a) where
   lead-small = below_at (2 ^ m) b g.small_b (length b - 1) reduce-inside
 
   -- what its inverse asks
-  pub reduce-inverts : Lent m ls ts × (0 < get_or b (length b - 1) 0) × (get_or b (length b - 1) 0 < 2 ^ m)
-  reduce-inverts = (g.tables, positive (get_or b (length b - 1) 0) g.lead, lead-small)
+  pub reduce-inverts : (0 < get_or b (length b - 1) 0) × (get_or b (length b - 1) 0 < 2 ^ m)
+  reduce-inverts = (positive (get_or b (length b - 1) 0) g.lead, lead-small)
 
   module _ {c : ℕ} (e : c ≡ inverse (field_at m) (get_or b (length b - 1) 0)) where
     element : c < 2 ^ m
@@ -127,8 +132,8 @@ module _ {m : ℕ} {ls ts b a : List ℕ} (g : Reducible m ls ts b a) where
         ∙ mul-zero N (get_or b (length b - 1) 0) lead-small)
 
     -- what the row asks
-    pub reduce-rows : Scalable m ls ts c (take (length b - 1) b)
-    reduce-rows = record { tables = g.tables; nonzero = some-c; element = element; small = take_below (2 ^ m) (length b - 1) b g.small_b }
+    pub reduce-rows : Scalable m c (take (length b - 1) b)
+    reduce-rows = record { nonzero = some-c; element = element; small = take_below (2 ^ m) (length b - 1) b g.small_b }
 
     -- the low coefficients of the monic multiple
     p : List ℕ
@@ -161,23 +166,22 @@ module _ {m : ℕ} {ls ts b a : List ℕ} (g : Reducible m ls ts b a) where
       front = take_at y rest (length b - 1) long-y ∙ r
 
       -- what the division asks
-      pub reduce-divides : Divisible m ls ts (take (length b - 1) (y ++ rest)) a
+      pub reduce-divides : Divisible m (take (length b - 1) (y ++ rest)) a
       reduce-divides = record {
-        tables = g.tables;
-        logs = subst (LogRow m) (sym front) (row-is-row g.tables p small-p);
+        logs = subst (LogRow m) (sym front) (row-is-row lent p small-p);
         small = g.small-a;
         room = let k = g.below in omega (arith, length-take-le (length b - 1) (y ++ rest) reduce-row);
       }
 
       module _ {z : List ℕ} (d : z ≡ divided m (held m (take (length b - 1) (y ++ rest))) a) where
         z-is : z ≡ divided m p a
-        z-is = d ∙ ap (λ l. divided m l a) (ap (held m) front ∙ held-row g.tables p small-p)
+        z-is = d ∙ ap (λ l. divided m l a) (ap (held m) front ∙ held-row lent p small-p)
 
         fits : length p ≤ length a
         fits = let k = g.below in omega (arith, long-p)
 
         long-z : length z ≡ length a
-        long-z = ap length z-is ∙ length-divided g.tables p a fits
+        long-z = ap length z-is ∙ length-divided lent p a fits
 
         pub reduce-behind : length b - 1 ≤ length z
         reduce-behind = omega (arith, long-z, long-p, fits)
@@ -196,9 +200,8 @@ module _ {m : ℕ} {ls ts b a : List ℕ} (g : Reducible m ls ts b a) where
         small-high = subst (Below (2 ^ m)) (sym high) (take_below (2 ^ m) (length a - length p) (quo (G m) p a) small-quo)
 
         -- what scaling the quotient asks
-        pub reduce-scales : Scalable m ls ts c (take (length z - (length b - 1)) (drop (length b - 1) z))
+        pub reduce-scales : Scalable m c (take (length z - (length b - 1)) (drop (length b - 1) z))
         reduce-scales = record {
-          tables = g.tables;
           nonzero = some-c;
           element = element;
           small = subst (Below (2 ^ m)) (sym (part-rest (length b - 1) z)) small-high;
@@ -267,16 +270,16 @@ single [] h z = absurd (not-suc-le-zero h)
 single (x ∷ []) h z = refl
 single (x ∷ y ∷ b) h z = absurd (let f : ⊥ = omega arith in f)
 
-module _ {m : ℕ} {ls ts a b x y : List ℕ} (g : Unitable m ls ts a b x y) where
+module _ {m : ℕ} {ls ts a b x y : List ℕ} (lent : Lent m ls ts) (g : Unitable m a b x y) where
   numbers : OnNumbers (G m) (2 ^ m)
-  numbers = numbers_of g.reducible.tables
+  numbers = numbers_of lent
 
   pub unite-live : (x₁ : List ℕ) → length x₁ ≡ length x → length b - 1 ≤ length x₁
   unite-live x₁ lx = let few = g.reducible.few in omega (arith, g.room-x)
 
   -- where b is a constant, what its inverse asks
-  pub unite-inverts : length b - 1 ≡ 0 → Lent m ls ts × (0 < get_or b 0 0) × (get_or b 0 0 < 2 ^ m)
-  unite-inverts z = subst (λ i. Lent m ls ts × (0 < get_or b i 0) × (get_or b i 0 < 2 ^ m)) z (reduce-inverts g.reducible)
+  pub unite-inverts : length b - 1 ≡ 0 → (0 < get_or b 0 0) × (get_or b 0 0 < 2 ^ m)
+  unite-inverts z = subst (λ i. (0 < get_or b i 0) × (get_or b i 0 < 2 ^ m)) z (reduce-inverts lent g.reducible)
 
   module _ (z : length b - 1 ≡ 0) {c : ℕ} (e : c ≡ inverse (field_at m) (get_or b 0 0)) where
     c-is : c ≡ inverse (field_at m) (get_or b (length b - 1) 0)
@@ -284,12 +287,12 @@ module _ {m : ℕ} {ls ts a b x y : List ℕ} (g : Unitable m ls ts a b x y) whe
 
     small-c : c < 2 ^ m
     unfolding numbers
-    small-c = subst (λ i. i < 2 ^ m) (sym e) (numbers.inv-below (get_or b 0 0) (unite-inverts z).2)
+    small-c = subst (λ i. i < 2 ^ m) (sym e) (numbers.inv-below (get_or b 0 0) (unite-inverts z).1)
 
     product-one : coef (G m) (mul (G m) (c ∷ []) (get_or b 0 0 ∷ [])) ≡ coef (G m) (1 ∷ [])
     unfolding numbers mul add
-    product-one = ap (λ i. coef (G m) (i ∷ [])) (add-zero numbers ((G m).mul c (get_or b 0 0)) (numbers.mul-below c (get_or b 0 0) small-c (unite-inverts z).2)
-        ∙ ap (λ i. (G m).mul c (get_or b i 0)) (sym z) ∙ unit-of g.reducible c-is)
+    product-one = ap (λ i. coef (G m) (i ∷ [])) (add-zero numbers ((G m).mul c (get_or b 0 0)) (numbers.mul-below c (get_or b 0 0) small-c (unite-inverts z).1)
+        ∙ ap (λ i. (G m).mul c (get_or b i 0)) (sym z) ∙ unit-of lent g.reducible c-is)
 
     pub unite-slot : {y₁ : List ℕ} → y₁ ≡ replicate (length y) 0 → 0 < length y₁
     unite-slot e = omega (arith, ap length e, length-replicate {A = ℕ} (length y) 0, g.room-y)
@@ -396,7 +399,7 @@ module _ {m : ℕ} {ls ts a b x y : List ℕ} (g : Unitable m ls ts a b x y) whe
           ∙ plus-zeros m (mul (G m) s b) 0) ∙ combined)
 
       -- what the call asks, and that it ends
-      pub unite-on : Unitable m ls ts b (take j a₁) y x
+      pub unite-on : Unitable m b (take j a₁) y x
       unfolding part numbers
       unite-on =
           let p = some_left in
@@ -405,7 +408,6 @@ module _ {m : ℕ} {ls ts a b x y : List ℕ} (g : Unitable m ls ts a b x y) whe
           let f : List ℕ = g.coprime.first in
           record {
             reducible = record {
-              tables = g.reducible.tables;
               small-a = g.reducible.small_b;
               small_b = small-part;
               some = omega (arith, long-part);
@@ -474,12 +476,11 @@ module _ {m : ℕ} {ls ts a b x y : List ℕ} (g : Unitable m ls ts a b x y) whe
         live_same = cut-same m (length b - 1) x₁ short
 
         -- what the product asks
-        pub unite-adds : Productive m ls ts (take (length (used ++ drop j a₁) - (length b - 1)) (drop (length b - 1) (used ++ drop j a₁))) (take (length b - 1) x₁) y₁
+        pub unite-adds : Productive m (take (length (used ++ drop j a₁) - (length b - 1)) (drop (length b - 1) (used ++ drop j a₁))) (take (length b - 1) x₁) y₁
         unfolding live
         unite-adds =
             let few = g.reducible.few in
             record {
-              tables = g.reducible.tables;
               first = subst (Below (2 ^ m)) (sym kept) small-quotient;
               second = small-live;
               few = omega (arith, long-live);

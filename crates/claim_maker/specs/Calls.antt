@@ -2,22 +2,21 @@
 -- multiplicities, h, u and v, are told as a claim: what they hold.
 --   buffer_sizes  the tests of the room in the buffers, in their order;  buffer_tests  the same of the buffers
 --   prove_tests   all tests in their order, each behind its number
---   told_proved   the number and the value of each answer
+--   proved_values the value of an answer
 --   over         a claim written over the fronts of five buffers
 --   Makes        n roots of f, and all that a claim has, stand in the buffers
 --   Proves       THE CONTRACT: the answers, and what the buffers hold afterwards
 --   sent_claim    the claim that is sent of what they hold
 -- Assumes nothing.
-use Rattle.std.specs.Prelude.{◌≡◌, Bool, List, [], ◌∷◌, ℕ, suc, ltb, length, take}
+use Rattle.std.specs.Prelude.{◌≡◌, Result, Ok, Err, Bool, List, [], ◌∷◌, ℕ, suc, ltb, length, take}
 use Rattle.refusals.specs.Order.{Given, Passed}
 use Rattle.refusals.specs.Numbers.{number_of}
+use Rattle.refusals.specs.declared.Refusal.{Refusal}
 use Rattle.slices.specs.Lists.{copied}
 use Rattle.input.specs.Limit.{limit}
 use Rattle.input.specs.Polynomials.{polynomial_tests}
 use Rattle.claim_rules.specs.Claims.{Acceptable, Claim, claim_of}
 use Rattle.claim_rules.specs.Admitting.{ClaimIn, Full}
-use Rattle.claim_maker.specs.declared.Proved.{Proved}
-use Rattle.claim_maker.specs.declared.Proved.TheVariants.{Proven, NotProven}
 
 -- the limit of roots, and as many slots as a polynomial may have coefficients
 abbrev pub buffer_sizes : ℕ → ℕ → ℕ → ℕ → ℕ → List (ℕ × Bool)
@@ -32,9 +31,8 @@ buffer_tests b =
 abbrev pub prove_tests : ℕ → List ℕ → Claim → List (ℕ × Bool)
 prove_tests m f b = polynomial_tests m f (buffer_tests b)
 
-abbrev pub told_proved : Proved → ℕ × List ℕ
-told_proved (Proven n) = (0, n ∷ [])
-told_proved (NotProven k) = (number_of k, [])
+abbrev pub proved_values : ℕ → List ℕ
+proved_values n = n ∷ []
 
 -- what lies behind stays
 abbrev pub over : Claim → Claim → Claim
@@ -52,9 +50,9 @@ pub record Makes (m : ℕ) (f : List ℕ) (n : ℕ) (before after : Claim) : Typ
   pub filled : after ≡ over claim before
 
 -- a refusal writes nothing
-abbrev pub Proves : ℕ → List ℕ → Claim → Proved → Claim → Type 0
-Proves m f before (Proven n) after = Passed (prove_tests m f before) × Makes m f n before after
-Proves m f before (NotProven k) after = Given (number_of k) (prove_tests m f before) × (after ≡ before)
+abbrev pub Proves : ℕ → List ℕ → Claim → Result ℕ Refusal → Claim → Type 0
+Proves m f before (Ok n) after = Passed (prove_tests m f before) × Makes m f n before after
+Proves m f before (Err k) after = Given (number_of k) (prove_tests m f before) × (after ≡ before)
 
 -- what is sent of buffers with n roots: the two lists cut to n, and the polynomials
 abbrev pub sent_claim : ℕ → Claim → Claim

@@ -17,9 +17,8 @@ use Rattle.std.proofs.Math.Option.{some}
 use Rattle.algebra.specs.Multiplicity.{total}
 use Rattle.algebra.specs.Polynomial.{Below, add, coef, eval, field_poly, from_roots, mul}
 use Rattle.algebra.specs.Routines.{frobenius_mod, monic_roots, norm, rem}
-use Rattle.field.specs.Field.{G, field_at, multiplicities_at, roots_at}
-use Rattle.field.specs.Tables.{Antilogs, Halves, Logs}
-use Rattle.poly.specs.Lent.{Lent, LogRow, log_row}
+use Rattle.field.specs.Field.{G, multiplicities_at, roots_at}
+use Rattle.poly.specs.Lent.{LogRow, log_row}
 use Rattle.slices.specs.Lists.{copied}
 use Rattle.table_begin.specs.SplitPart.{Powered}
 use Rattle.input.specs.Limit.{limit}
@@ -37,8 +36,7 @@ pub record Rooted (m : ℕ) (f roots : List ℕ) (n : ℕ) (rows roots' : List �
   pub room : m * degree ≤ length rows
 
 -- where zeros stand
-pub record Powerable (m : ℕ) (ls ts f rows b : List ℕ) : Type 0 where
-  pub tables : Lent m ls ts
+pub record Powerable (m : ℕ) (f rows b : List ℕ) : Type 0 where
   pub polynomial : PolynomialIn m f
   pub degree : ℕ
   pub powers : Powered m f degree (take (m * degree) rows)
@@ -58,8 +56,7 @@ pub record IsPower (m : ℕ) (f b : List ℕ) : Type 0 where
 abbrev pub AsField : ℕ → List ℕ → List ℕ → Type 0
 AsField m h b = (x : List ℕ) → norm (G m) (length h) h ≡ some x → rem (G m) x b ≡ rem (G m) x (field_poly (G m) m)
 
-pub record Residable (m : ℕ) (ls ts h b low w : List ℕ) : Type 0 where
-  pub tables : Lent m ls ts
+pub record Residable (m : ℕ) (h b low w : List ℕ) : Type 0 where
   pub cofactor : Sent m h
   pub place : ℕ
   pub nonzero : get_or h place 0 ≢ 0
@@ -70,8 +67,7 @@ pub record Residable (m : ℕ) (ls ts h b low w : List ℕ) : Type 0 where
 
 -- ---- the roots taken out
 
-pub record Rowable (m : ℕ) (ls ts roots es row : List ℕ) : Type 0 where
-  pub tables : Lent m ls ts
+pub record Rowable (m : ℕ) (roots es row : List ℕ) : Type 0 where
   pub elements : Below (2 ^ m) roots
   pub paired : length roots ≡ length es
   pub few : total es ≤ limit
@@ -83,14 +79,12 @@ pub record RootsRow (m : ℕ) (roots es : List ℕ) (n : ℕ) (row : List ℕ) :
   pub front : take n row ≡ log_row m (monic_roots (G m) (spread_out roots es))
 
 -- the quotient's first coefficients, as many as q has
-pub record Quotable (m : ℕ) (ls ts row work q : List ℕ) : Type 0 where
-  pub tables : Lent m ls ts
+pub record Quotable (m : ℕ) (row work q : List ℕ) : Type 0 where
   pub logs : LogRow m row
   pub small : Below (2 ^ m) work
   pub room : length row + length q ≤ length work
 
-pub record Splittable (m : ℕ) (ls ts f roots es h : List ℕ) : Type 0 where
-  pub tables : Lent m ls ts
+pub record Splittable (m : ℕ) (f roots es h : List ℕ) : Type 0 where
   pub polynomial : PolynomialIn m f
   pub all : roots ≡ roots_at m f
   pub beside : es ≡ multiplicities_at m f
@@ -111,8 +105,7 @@ pub record Coprime (m : ℕ) (a b : List ℕ) : Type 0 where
   pub small-second : Below (2 ^ m) second
   pub one : coef (G m) (add (G m) (mul (G m) first a) (mul (G m) second b)) ≡ coef (G m) (1 ∷ [])
 
-pub record Reducible (m : ℕ) (ls ts b a : List ℕ) : Type 0 where
-  pub tables : Lent m ls ts
+pub record Reducible (m : ℕ) (b a : List ℕ) : Type 0 where
   pub small-a : Below (2 ^ m) a
   pub small_b : Below (2 ^ m) b
   pub some : 1 ≤ length b
@@ -125,8 +118,8 @@ pub record Reduced (m : ℕ) (b a a' : List ℕ) : Type 0 where
   pub exact : coef (G m) a
       ≡ coef (G m) (add (G m) (mul (G m) (drop (length b - 1) a') b) (take (length b - 1) a'))
 
-pub record Unitable (m : ℕ) (ls ts a b x y : List ℕ) : Type 0 where
-  pub reducible : Reducible m ls ts b a
+pub record Unitable (m : ℕ) (a b x y : List ℕ) : Type 0 where
+  pub reducible : Reducible m b a
   pub short : length a ≤ suc limit
   pub coprime : Coprime m a b
   pub room-x : length x ≡ suc limit
@@ -141,8 +134,7 @@ pub record United (m : ℕ) (a b x y : List ℕ) : Type 0 where
 
 -- ---- u and v
 
-pub record Pairable (m : ℕ) (ls ts h b u v : List ℕ) : Type 0 where
-  pub tables : Lent m ls ts
+pub record Pairable (m : ℕ) (h b u v : List ℕ) : Type 0 where
   pub small : Below (2 ^ m) h
   pub small_b : Below (2 ^ m) b
   pub same : AsField m h b
@@ -166,10 +158,3 @@ pub record Makeable (m : ℕ) (f : List ℕ) (b : Claim) : Type 0 where
   pub cofactor : suc limit ≤ length b.cofactor
   pub first : suc limit ≤ length b.first
   pub second : suc limit ≤ length b.second
-
--- with the field's tables
-pub record MakeableLent (m : ℕ) (f ls ts hs : List ℕ) (b : Claim) : Type 0 where
-  pub makeable : Makeable m f b
-  pub logs : Logs (field_at m) ls
-  pub antilogs : Antilogs (field_at m) ts
-  pub halves : Halves (field_at m) hs

@@ -24,7 +24,8 @@ use Rattle.field.specs.Tables.{log_of}
 use Rattle.field.proofs.Xor.{xor_assoc}
 use Rattle.slices.specs.Bounded.{all_zero}
 use Rattle.slices.proofs.Bounded.{all_below-exactly, all_zero-exactly}
-use Rattle.poly.specs.Lent.{Addable, LogRow, Loggable, held, log_row}
+use Rattle.poly.specs.Asking.{Addable, Loggable}
+use Rattle.poly.specs.Lent.{Lent, LogRow, held, log_row}
 use Rattle.poly.proofs.Logs.{held-long, held-row, row-is-row}
 use Rattle.poly.proofs.Parts.{part_none, part-rest}
 use Rattle.poly.proofs.Sums.{add_assoc, add-nil, long-row}
@@ -45,15 +46,15 @@ one_more m s S c p q =
     ap (λ x. add (G m) (x ∷ add (G m) S (mul (G m) p q)) (map ((G m).mul c) q)) (sym (xor_zero_r s))
     ∙ add_assoc m (s ∷ S) (0 ∷ mul (G m) p q) (map ((G m).mul c) q) ∙ ap (add (G m) (s ∷ S)) (add_comm m (0 ∷ mul (G m) p q) (map ((G m).mul c) q))
 
-pub record AddingRows (m : ℕ) (ls ts p row sum₀ sum : List ℕ) (k : ℕ) : Type 0 where
-  pub given : Rowable m ls ts p row sum₀
+pub record AddingRows (m : ℕ) (p row sum₀ sum : List ℕ) (k : ℕ) : Type 0 where
+  pub given : Rowable m p row sum₀
   pub within : k ≤ length p
   pub long : length sum ≡ length sum₀
   pub done : sum ≡ take k sum₀ ++ add (G m) (drop k sum₀) (mul (G m) (drop k p) (held m row))
 
-pub rows-from : {m : ℕ} {ls ts p row sum : List ℕ} → Rowable m ls ts p row sum → AddingRows m ls ts p row sum sum (length p)
+pub rows-from : {m : ℕ} {p row sum : List ℕ} → Rowable m p row sum → AddingRows m p row sum sum (length p)
 unfolding mul
-rows-from {m} {ls} {ts} {p} {row} {sum} g = record {
+rows-from {m} {p} {row} {sum} g = record {
   given = g;
   within = omega arith;
   long = refl;
@@ -61,7 +62,7 @@ rows-from {m} {ls} {ts} {p} {row} {sum} g = record {
       ∙ take-append-drop (length p) sum);
 }
 
-module _ {m : ℕ} {ls ts p row sum₀ sum : List ℕ} {k : ℕ} (s : AddingRows m ls ts p row sum₀ sum k) (pos : 0 < k) where
+module _ {m : ℕ} {p row sum₀ sum : List ℕ} {k : ℕ} (s : AddingRows m p row sum₀ sum k) (pos : 0 < k) where
   -- what stands before k - 1, and from there on
   before : take (k - 1) sum ≡ take (k - 1) sum₀
   before =
@@ -81,12 +82,11 @@ module _ {m : ℕ} {ls ts p row sum₀ sum : List ℕ} {k : ℕ} (s : AddingRows
       ∙ drop_at (take j sum₀) (get_or sum₀ j 0 ∷ tail) j (length-take-le j sum₀ (omega arith))
 
   -- what the kernel asks
-  pub rows-asks : Addable m ls ts (get_or p (k - 1) 0) row (take (length sum - (k - 1)) (drop (k - 1) sum))
+  pub rows-asks : Addable m (get_or p (k - 1) 0) row (take (length sum - (k - 1)) (drop (k - 1) sum))
   rows-asks =
       let w = s.within in
       let r = s.given.room in
       record {
-        tables = s.given.tables;
         element = below_at (2 ^ m) p s.given.small (k - 1) (omega arith);
         logs = s.given.logs;
         room = rw part-rest (omega (arith, length-drop (k - 1) sum, s.long));
@@ -94,7 +94,7 @@ module _ {m : ℕ} {ls ts p row sum₀ sum : List ℕ} {k : ℕ} (s : AddingRows
 
   -- a turn adds one row more
   pub rows_on : {y : List ℕ} → y ≡ add (G m) (take (length sum - (k - 1)) (drop (k - 1) sum)) (map ((G m).mul (get_or p (k - 1) 0)) (held m row))
-      → AddingRows m ls ts p row sum₀ (take (k - 1) sum ++ (y ++ drop (length sum - (k - 1)) (drop (k - 1) sum))) (k - 1)
+      → AddingRows m p row sum₀ (take (k - 1) sum ++ (y ++ drop (length sum - (k - 1)) (drop (k - 1) sum))) (k - 1)
   rows_on {y} e =
       let w = s.within in
       let r = s.given.room in
@@ -116,8 +116,8 @@ module _ {m : ℕ} {ls ts p row sum₀ sum : List ℕ} {k : ℕ} (s : AddingRows
         done = ap₂ (λ u v. u ++ v) before (part_none j sum y ∙ d);
       }
 
-pub rows_end : {m : ℕ} {ls ts p row sum₀ sum : List ℕ} {k : ℕ} → AddingRows m ls ts p row sum₀ sum k → k ≤ 0 → sum ≡ add (G m) sum₀ (mul (G m) p (held m row))
-rows_end {m} {ls} {ts} {p} {row} {sum₀} {sum} {k} s h =
+pub rows_end : {m : ℕ} {p row sum₀ sum : List ℕ} {k : ℕ} → AddingRows m p row sum₀ sum k → k ≤ 0 → sum ≡ add (G m) sum₀ (mul (G m) p (held m row))
+rows_end {m} {p} {row} {sum₀} {sum} {k} s h =
     let z : k ≡ 0 = omega arith in
     s.done ∙ ap (λ i. take i sum₀ ++ add (G m) (drop i sum₀) (mul (G m) (drop i p) (held m row))) z
 
@@ -162,10 +162,10 @@ zero-sum m f g e =
 
 -- ---- a product of two polynomials, one of them as a row
 
-module _ {m : ℕ} {ls ts p q sum : List ℕ} (g : Productive m ls ts p q sum) where
+module _ {m : ℕ} {ls ts p q sum : List ℕ} (lent : Lent m ls ts) (g : Productive m p q sum) where
   -- what the row of logs asks
-  pub product-logs : {l : List ℕ} → length q ≡ length l → Loggable m ls ts q l
-  product-logs e = record { tables = g.tables; small = g.second; room = e }
+  pub product-logs : {l : List ℕ} → length q ≡ length l → Loggable m q l
+  product-logs e = record { small = g.second; room = e }
 
   module _ {y : List ℕ} (e : y ≡ log_row m q) (rest : List ℕ) where
     -- it stands at the front
@@ -182,14 +182,13 @@ module _ {m : ℕ} {ls ts p q sum : List ℕ} (g : Productive m ls ts p q sum) w
     row-size = length-take-le (length q) (y ++ rest) row_fits
 
     -- what the rows ask
-    pub product-asks : Rowable m ls ts p (take (length q) (y ++ rest)) sum
+    pub product-asks : Rowable m p (take (length q) (y ++ rest)) sum
     product-asks = record {
-      tables = g.tables;
       small = g.first;
-      logs = subst (LogRow m) (sym row-front) (row-is-row g.tables q g.second);
+      logs = subst (LogRow m) (sym row-front) (row-is-row lent q g.second);
       room = let r = g.room in omega (arith, row-size);
     }
 
     -- what they leave
     pub product_is : {s : List ℕ} → s ≡ add (G m) sum (mul (G m) p (held m (take (length q) (y ++ rest)))) → s ≡ add (G m) sum (mul (G m) p q)
-    product_is d = d ∙ ap (λ u. add (G m) sum (mul (G m) p u)) (ap (held m) row-front ∙ held-row g.tables q g.second)
+    product_is d = d ∙ ap (λ u. add (G m) sum (mul (G m) p u)) (ap (held m) row-front ∙ held-row lent q g.second)

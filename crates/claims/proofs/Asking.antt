@@ -1,16 +1,18 @@
 -- What the tests of the check find.
---   found, passed, last   some of several lists passes a test: the first that does, or one behind it
+--   some-any              some of several lists passes a test
 --   ask-empty, ask-long, ask-large, ask-zero   the first test that holds;  ask_in  none holds
 --   claim-told            what is known of what was let in
 -- Assumes nothing.
 use mathlib.Core.Path.{◌≡◌, refl, sym, ap, ◌∙◌}
-use mathlib.Core.Bool.{Bool, true, false, cond}
-use mathlib.Core.List.{List, [], ◌∷◌}
+use mathlib.Core.Bool.{Bool, true, false, cond, ◌||◌}
+use mathlib.Core.List.{List, [], ◌∷◌, map}
 use Prim.Native.Nat.{ℕ, suc, ◌^◌}
 use native.Mathlib.Omega.{arith}
 use borrow.Author.Tests.{eqb-false, ltb-false, not-false}
 use lib.Dec.{eqb, ltb}
 use lib.ListN.{length}
+use denote.Ref.{Bor}
+use Rattle.std.specs.List.{list_any}
 use Rattle.refusals.specs.Order.{Given, Passed}
 use Rattle.refusals.specs.Order.Passed.{none}
 use Rattle.refusals.proofs.Order.{holds, fails, passes, failed, others}
@@ -25,21 +27,15 @@ use Rattle.claim_rules.specs.Admitting.{ClaimIn, Sent, claim_tests, polynomials_
 
 -- ---- some of several lists
 
-pub found : (t : List ℕ → Bool) (p : List ℕ) (ps : List (List ℕ)) → t p ≡ true → true ≡ some_of t (p ∷ ps)
+-- by the word of std
+pub some-any : (t : List ℕ → Bool) (ps : List (Bor (List ℕ))) → list_any (λ p. t p.now) ps ≡ some_of t (map (λ p. p.now) ps)
 unfolding some_of
-found t p ps e = sym (ap (λ x. cond x true (some_of t ps)) e)
-
-pub passed : (t : List ℕ → Bool) (p : List ℕ) (ps : List (List ℕ)) {a : Bool} → t p ≡ false → a ≡ some_of t ps → a ≡ some_of t (p ∷ ps)
-unfolding some_of
-passed t p ps e s = s ∙ sym (ap (λ x. cond x true (some_of t ps)) e)
-
-pub last : (t : List ℕ → Bool) (p : List ℕ) → t p ≡ some_of t (p ∷ [])
-unfolding some_of
-last t p = go (t p)
+some-any t [] = refl
+some-any t (p ∷ ps) = go (t p.now) (some-any t ps)
   where
-    go : (b : Bool) → b ≡ cond b true false
-    go true = refl
-    go false = refl
+    go : (b : Bool) → list_any (λ p. t p.now) ps ≡ some_of t (map (λ p. p.now) ps) → (b || list_any (λ p. t p.now) ps) ≡ cond b true (some_of t (map (λ p. p.now) ps))
+    go true e = refl
+    go false e = e
 
 -- ---- the tests in their order
 

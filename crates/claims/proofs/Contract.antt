@@ -14,6 +14,8 @@ use native.Mathlib.Omega.{arith}
 use borrow.Author.Tests.{le-ltb, ne_eqb}
 use lib.Dec.{eqb, ltb}
 use lib.ListN.{length}
+use Rattle.std.specs.Prelude.{Result, Ok, Err}
+use Rattle.refusals.specs.declared.Refusal.{Refusal}
 use Rattle.refusals.specs.Order.{Passed}
 use Rattle.refusals.specs.Order.Passed.{none}
 use Rattle.refusals.proofs.Order.{passes}
@@ -29,15 +31,13 @@ use Rattle.claim_rules.proofs.Complete.{claim-complete}
 use Rattle.claim_rules.proofs.Claimable.{claim-exists}
 use Rattle.claim_rules.proofs.ZerosIgnored.{acceptable-same, same_back}
 use Rattle.claims.specs.Calls.{Checks}
-use Rattle.claims.specs.declared.Checked.{Checked}
-use Rattle.claims.specs.declared.Checked.TheVariants.{Accepted, No, NotChecked}
 use Rattle.claims.proofs.Asking.{claim-told}
 use Rattle.claims.proofs.Coincide.{check-coincide, exclusive}
 
 -- ---- an accepted claim
 
 -- CHECK-COMPLETE: the list is the complete list of the roots, with their multiplicities
-pub check-complete : (m : ℕ) (f : List ℕ) (c : Claim) → Checks m f c Accepted → (c.roots ≡ roots_at m f) × (c.times ≡ multiplicities_at m f)
+pub check-complete : (m : ℕ) (f : List ℕ) (c : Claim) → Checks m f c (Ok true) → (c.roots ≡ roots_at m f) × (c.times ≡ multiplicities_at m f)
 check-complete m f c h = claim-complete (claim-told m f c h.0) h.1
 
 -- ---- every polynomial has one
@@ -75,20 +75,20 @@ claim-passes m f c i =
 
 -- CHECK-EXISTS: every nonzero polynomial within the limit has a claim that is accepted
 pub check-exists : (m : ℕ) (f : List ℕ) → PolynomialIn m f
-    → (c : Claim) × ((r : Checked) → Checks m f c r → r ≡ Accepted) × Checks m f c Accepted × All (λ e. e ≤ limit) c.times
+    → (c : Claim) × ((r : Result Bool Refusal) → Checks m f c r → r ≡ (Ok true)) × Checks m f c (Ok true) × All (λ e. e ≤ limit) c.times
 check-exists m f t =
     let k = claim-exists m f t in
-    let yes : Checks m f k.0 Accepted = (claim-passes m f k.0 k.1.let-in, k.1.acceptable) in
-    (k.0, (λ r h. check-coincide m f k.0 r Accepted h yes), yes, k.1.few)
+    let yes : Checks m f k.0 (Ok true) = (claim-passes m f k.0 k.1.let-in, k.1.acceptable) in
+    (k.0, (λ r h. check-coincide m f k.0 r (Ok true) h yes), yes, k.1.few)
 
 -- ---- zeros at the top
 
 -- CHECK-SAME: of two claims that are let in, with the same roots and numbers and the same polynomials, one is accepted where the other is
-pub check-same : (m : ℕ) (f g : List ℕ) (c d : Claim) → ClaimIn m f c → ClaimIn m g d → SameClaim m f g c d → (r s : Checked) → Checks m f c r → Checks m g d s → r ≡ s
-check-same m f g c d i j e Accepted Accepted h k = refl
-check-same m f g c d i j e Accepted No h k = absurd (k.1 (acceptable-same i h.1 j e))
-check-same m f g c d i j e No Accepted h k = absurd (h.1 (acceptable-same j k.1 i (same_back e)))
-check-same m f g c d i j e No No h k = refl
-check-same m f g c d i j e (NotChecked x) s h k = absurd (exclusive (claim-passes m f c i) h)
-check-same m f g c d i j e Accepted (NotChecked y) h k = absurd (exclusive (claim-passes m g d j) k)
-check-same m f g c d i j e No (NotChecked y) h k = absurd (exclusive (claim-passes m g d j) k)
+pub check-same : (m : ℕ) (f g : List ℕ) (c d : Claim) → ClaimIn m f c → ClaimIn m g d → SameClaim m f g c d → (r s : Result Bool Refusal) → Checks m f c r → Checks m g d s → r ≡ s
+check-same m f g c d i j e (Ok true) (Ok true) h k = refl
+check-same m f g c d i j e (Ok true) (Ok false) h k = absurd (k.1 (acceptable-same i h.1 j e))
+check-same m f g c d i j e (Ok false) (Ok true) h k = absurd (h.1 (acceptable-same j k.1 i (same_back e)))
+check-same m f g c d i j e (Ok false) (Ok false) h k = refl
+check-same m f g c d i j e (Err x) s h k = absurd (exclusive (claim-passes m f c i) h)
+check-same m f g c d i j e (Ok true) (Err y) h k = absurd (exclusive (claim-passes m g d j) k)
+check-same m f g c d i j e (Ok false) (Err y) h k = absurd (exclusive (claim-passes m g d j) k)

@@ -1,5 +1,5 @@
 -- From the parts of the check to its answer.
---   weigh-no, weigh-says           `weigh_lent`: the first equation fails, or the second decides
+--   weigh-no, weigh-says           `weigh`: the first equation fails, or the second decides
 --   DegreesFit, degrees-fit        an acceptable claim has a cofactor that is not 0, and degrees that add up
 --   judge-zero, judge-high, judge-tally   `judge`: where they do not, it is not acceptable
 --   judge-spread .. judge-says     what each routine asks, and what the equations say
@@ -33,17 +33,17 @@ use Rattle.claims.proofs.Adding.{cut-same}
 use Rattle.claims.proofs.Tallying.{Tallied, tallies-all, tallies-yes}
 use Rattle.claims.proofs.Weighing.{differ}
 
--- ---- `weigh_lent` and `weigh`
+-- ---- `weigh`
 
 -- the first equation fails
-pub weigh-no : {m : ℕ} {f list h u v : List ℕ} {a : Bool} → Decides a (coef (G m) (mul (G m) (from_roots (G m) list) h) ≡ coef (G m) f) → a ≡ false
-    → Decides false (Weighs m f list h u v)
-weigh-no {m} {f} {list} {h} {u} {v} {a} d t = record { yes = λ y. absurd (differ (sym y)); no = λ y w. d.no t w.product }
+pub weigh-no : {m : ℕ} {f list : List ℕ} {c : Claim} {a : Bool} → Decides a (coef (G m) (mul (G m) (from_roots (G m) list) c.cofactor) ≡ coef (G m) f) → a ≡ false
+    → Decides false (Weighs m f list c)
+weigh-no {m} {f} {list} {c} {a} d t = record { yes = λ y. absurd (differ (sym y)); no = λ y w. d.no t w.product }
 
 -- the second decides
-pub weigh-says : {m : ℕ} {f list h u v : List ℕ} {a b : Bool} → Decides a (coef (G m) (mul (G m) (from_roots (G m) list) h) ≡ coef (G m) f) → a ≡ true
-    → Decides b (coef (G m) (combined m (claim_of [] [] h u v)) ≡ coef (G m) (1 ∷ [])) → Decides b (Weighs m f list h u v)
-weigh-says {m} {f} {list} {h} {u} {v} {a} d t e = record {
+pub weigh-says : {m : ℕ} {f list : List ℕ} {c : Claim} {a b : Bool} → Decides a (coef (G m) (mul (G m) (from_roots (G m) list) c.cofactor) ≡ coef (G m) f) → a ≡ true
+    → Decides b (coef (G m) (combined m c) ≡ coef (G m) (1 ∷ [])) → Decides b (Weighs m f list c)
+weigh-says {m} {f} {list} {c} {a} d t e = record {
   yes = λ y. record { product = d.yes t; coprime = e.yes y };
   no = λ y w. e.no y w.coprime;
 }
@@ -149,7 +149,7 @@ module _ {m : ℕ} {f roots es h u v : List ℕ} (g : ClaimIn m f (claim_of root
       short-same = record { roots = refl; times = refl; given = refl; cofactor = cut-same m d h b.above; first = refl; second = refl }
 
       -- what the equations ask
-      pub judge-weigh : Weighable m f (take (n - d) (y ++ rest)) (take d h) u v
+      pub judge-weigh : Weighable m f (take (n - d) (y ++ rest)) (claim_of roots es (take d h) u v)
       judge-weigh = record {
         field = g.field;
         elements = subst (Below (2 ^ m)) (sym front) (spread-below (2 ^ m) roots es g.elements);
@@ -163,7 +163,7 @@ module _ {m : ℕ} {f roots es h u v : List ℕ} (g : ClaimIn m f (claim_of root
       }
 
       -- and say
-      pub judge-says : {c : Bool} → Decides c (Weighs m f (take (n - d) (y ++ rest)) (take d h) u v) → Decides c (Acceptable m f claim)
+      pub judge-says : {c : Bool} → Decides c (Weighs m f (take (n - d) (y ++ rest)) (claim_of roots es (take d h) u v)) → Decides c (Acceptable m f claim)
       judge-says {c} w =
           let same : (l : List ℕ) → l ≡ spread_out roots es → coef (G m) (mul (G m) (from_roots (G m) l) (take d h)) ≡ coef (G m) (mul (G m) (from_roots (G m) (spread_out roots es)) (take d h)) =
           λ l j. ap (λ x. coef (G m) (mul (G m) (from_roots (G m) x) (take d h))) j in

@@ -25,7 +25,8 @@ use Rattle.field.specs.Field.{G}
 use Rattle.poly.proofs.Divisions.{rem-short}
 use Rattle.poly.proofs.Logs.{numbers_of}
 use Rattle.poly.proofs.Sums.{add-nil}
-use Rattle.poly_powers.specs.Powers.{Startable}
+use Rattle.poly.specs.Lent.{Lent}
+use Rattle.poly_powers.specs.Asking.{Startable}
 
 module _ {K : Type 0} {F : Ops K} (L : Laws F) where
   -- what is as long as p and congruent to f modulo p is the remainder
@@ -94,14 +95,14 @@ add-c m (x ∷ y ∷ f) c h = absurd (omega (arith, h))
 
 -- ---- what the code leaves
 
-module _ {m : ℕ} {ls ts p w₀ w : List ℕ} (g : Startable m ls ts p w₀) (e : w ≡ frobenius_mod (G m) p m (rem (G m) p (0 ∷ 1 ∷ []))) where
+module _ {m : ℕ} {ls ts p w₀ w : List ℕ} (lent : Lent m ls ts) (g : Startable m p w₀) (e : w ≡ frobenius_mod (G m) p m (rem (G m) p (0 ∷ 1 ∷ []))) where
   -- as long as p
   pub residue-long : length w ≡ length p
   residue-long = ap length e ∙ length-frobenius_mod (G m) p m (rem (G m) p (0 ∷ 1 ∷ [])) (length-rem (G m) p (0 ∷ 1 ∷ []))
 
   -- where z reduced is r
   residue-with : (r : List ℕ) → rem (G m) p (0 ∷ 1 ∷ []) ≡ r → add (G m) w r ≡ rem (G m) p (field_poly (G m) m)
-  residue-with r s = ap₂ (add (G m)) e (sym s) ∙ residue-sum (numbers_of g.tables) m p g.small
+  residue-with r s = ap₂ (add (G m)) e (sym s) ∙ residue-sum (numbers_of lent) m p g.small
 
   -- of degree 0
   pub residue-none : length p ≡ 0 → w ≡ rem (G m) p (field_poly (G m) m)
@@ -119,7 +120,7 @@ module _ {m : ℕ} {ls ts p w₀ w : List ℕ} (g : Startable m ls ts p w₀) (e
     where
       single : (p : List ℕ) → length p ≡ 1 → Below (2 ^ m) p → rem (G m) p (0 ∷ 1 ∷ []) ≡ get_or p 0 0 ∷ []
       single [] h b = absurd (omega (arith, h))
-      single (c ∷ []) h b = rem-z-one m (numbers_of g.tables) c b.0
+      single (c ∷ []) h b = rem-z-one m (numbers_of lent) c b.0
       single (c ∷ d ∷ p) h b = absurd (omega (arith, h))
 
   -- of a higher degree
@@ -127,4 +128,4 @@ module _ {m : ℕ} {ls ts p w₀ w : List ℕ} (g : Startable m ls ts p w₀) (e
   residue-more z =
       let n : ℕ = length p - 2 in
       let two : length w ≡ suc (suc n) = omega (arith, residue-long) in
-      add-z m w n two ∙ residue-with (0 ∷ 1 ∷ replicate n 0) (rem-short g.tables p (0 ∷ 1 ∷ []) z)
+      add-z m w n two ∙ residue-with (0 ∷ 1 ∷ replicate n 0) (rem-short lent p (0 ∷ 1 ∷ []) z)

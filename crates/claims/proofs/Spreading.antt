@@ -1,5 +1,4 @@
 -- The roots spread by the numbers beside them.
---   fill-turn     one slot more holds x
 --   Spreading     the front of the list holds what the roots so far give, and the rest is as long as what lies ahead
 --   spread-from, spread-reads, spread-fits, spread-on, spread_end   the start, what a turn reads, a turn and the end
 -- Assumes nothing.
@@ -8,16 +7,11 @@ use mathlib.Core.List.{List, [], ◌++◌, append_assoc, append-nil}
 use Prim.Native.Nat.{ℕ, suc, ◌+◌, ◌-◌, ◌≤◌, ◌<◌}
 use native.Mathlib.Numerals.{add-one}
 use native.Mathlib.Omega.{arith}
-use lib.ListN.{drop, drop_of_length-le, get_or, get_or-replicate, length, length-append, length-drop, length-replicate, replicate, set, take}
+use lib.ListN.{drop, drop_of_length-le, get_or, length, length-append, length-drop, length-replicate, replicate, take}
 use lib.Seq.{drop-cons, length-take-le, take_all, take_at}
-use Rattle.slices.proofs.Filling.{Filling, fill_on}
 use Rattle.claim_rules.specs.Claims.{spread_out}
 use Rattle.claim_rules.proofs.Products.{spread-length}
 use Rattle.claims.specs.Checking.{Spreadable}
-
--- one slot more
-pub fill-turn : (x : ℕ) {s₀ s : List ℕ} {i : ℕ} → Filling (replicate (length s₀) x) s₀ s i → i < length s₀ → Filling (replicate (length s₀) x) s₀ (set s i x) (i + 1)
-fill-turn x {s₀} {s} {i} f h = fill_on f h (sym (get_or-replicate (length s₀) i x 0 h))
 
 pub record Spreading (roots es list₀ list : List ℕ) (at i : ℕ) : Type 0 where
   pub paired : length roots ≡ length es

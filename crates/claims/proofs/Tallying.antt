@@ -1,8 +1,8 @@
 -- The roots and the numbers beside them in one pass.
 --   Tallying       at each turn the answer for all is the answer for what lies ahead
---   tally-from, tally-alone, tally-low, tally-none, tally-over, tally-on, tally-more, tally-end
+--   tally-from, tally-low, tally-none, tally-over, tally-on, tally-end
 --                  the start, each way out, a turn and the end
---   Tallied, tallies-yes, tallies-all   what the answer says
+--   Tallied, tallies-yes, tallies-all   what the answer says;  tally-unpaired   no lists of two lengths
 -- Assumes nothing.
 use mathlib.Core.Path.{◌≡◌, refl, sym, ap, ap₂, ◌∙◌}
 use mathlib.Core.Bool.{Bool, true, false, ◌&&◌}
@@ -34,11 +34,6 @@ module _ {roots es : List ℕ} {n least left i : ℕ} (t : Tallying roots es n l
       && tallies (suc (get_or roots i 0)) (left - get_or es i 0) (drop (suc i) roots) (drop (suc i) es))))
   unfolding tallies
   next a b = t.ahead ∙ ap₂ (tallies least left) (drop-cons roots i 0 a) (drop-cons es i 0 b)
-
-  -- a root stands alone
-  pub tally-alone : i < length roots → length es ≤ i → false ≡ tallies 0 n roots es
-  unfolding tallies
-  tally-alone a b = sym (t.ahead ∙ ap₂ (tallies least left) (drop-cons roots i 0 a) (drop_of_length-le es b))
 
   -- four tests in a row
   rest : Bool
@@ -74,11 +69,6 @@ module _ {roots es : List ℕ} {n least left i : ℕ} (t : Tallying roots es n l
         ahead = asked a b (le-leb least (get_or roots i 0) l) (lt-ltb 0 (get_or es i 0) (omega arith)) (le-leb (get_or es i 0) left o)
             ∙ ap₂ (λ r j. tallies r (left - get_or es i 0) (drop j roots) (drop j es)) (sym (add-one (get_or roots i 0))) (sym (add-one i));
       }
-
-  -- a number stands alone
-  pub tally-more : length roots ≤ i → i < length es → false ≡ tallies 0 n roots es
-  unfolding tallies
-  tally-more a b = sym (t.ahead ∙ ap₂ (tallies least left) (drop_of_length-le roots a) (drop-cons es i 0 b))
 
   -- all were asked
   pub tally-end : length roots ≤ i → length es ≤ i → eqb left 0 ≡ tallies 0 n roots es
@@ -141,3 +131,11 @@ tallies-all k n (r ∷ s) (x ∷ es) t =
     let some : ltb 0 x ≡ true = lt-ltb 0 x t.least.0 in
     let fits : leb x n ≡ true = le-leb x n (omega (arith, t.sum)) in
     ap₂ (λ a b. a && (b && (leb x n && tallies (suc r) (n - x) s es))) low some ∙ ap₂ (λ a b. a && b) fits rec
+
+-- lists that are not equally long have none
+pub tally-unpaired : (k n : ℕ) (roots es : List ℕ) → (length roots ≡ length es → ⊥) → false ≡ tallies k n roots es
+tally-unpaired k n roots es h = go (tallies k n roots es) refl
+  where
+    go : (b : Bool) → tallies k n roots es ≡ b → false ≡ b
+    go true e = absurd (h (tallies-yes k n roots es e).paired)
+    go false e = refl

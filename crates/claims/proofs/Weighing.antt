@@ -26,8 +26,8 @@ use Rattle.poly.specs.Lent.{Lent}
 use Rattle.poly.specs.Monic.{MadeMonic, monic_low}
 use Rattle.poly.proofs.Logs.{numbers_of}
 use Rattle.poly.proofs.Sums.{add_assoc}
-use Rattle.poly_powers.specs.Powers.{Startable}
-use Rattle.poly.specs.Products.{Multipliable}
+use Rattle.poly_powers.specs.Asking.{Startable}
+use Rattle.poly.specs.Asking.{Multipliable}
 use Rattle.poly.proofs.RootProducts.{product-below, product-long}
 use Rattle.input.specs.Limit.{limit}
 use Rattle.claim_rules.specs.Claims.{claim_of, combined, field_remainder}
@@ -41,7 +41,7 @@ differ e = let z : ◌≡◌ {A = ℕ} 0 1 = cc in omega arith
 
 -- ---- the remainder
 
-module _ {m : ℕ} {ls ts h low w out : List ℕ} (g : Residual m ls ts h low w) (c : out ≡ copied h low) where
+module _ {m : ℕ} {ls ts h low w out : List ℕ} (lent : Lent m ls ts) (g : Residual m h low w) (c : out ≡ copied h low) where
   -- the copy
   copy-front : take (length h) out ≡ h
   copy-front = ap (take (length h)) c ∙ copied-front h low refl
@@ -53,8 +53,8 @@ module _ {m : ℕ} {ls ts h low w out : List ℕ} (g : Residual m ls ts h low w)
   remain-fits = omega (arith, copy-long, g.cofactor.few, g.room-low)
 
   -- what making it monic asks
-  pub remain-asks : Lent m ls ts × Below (2 ^ m) (take (length h) out)
-  remain-asks = (g.tables, subst (Below (2 ^ m)) (sym copy-front) g.cofactor.small)
+  pub remain-asks : Below (2 ^ m) (take (length h) out)
+  remain-asks = subst (Below (2 ^ m)) (sym copy-front) g.cofactor.small
 
   module _ {j : ℕ} {y : List ℕ} (d : MadeMonic m (take (length h) out) j y) where
     normed : norm (G m) (length h) h ≡ monic_low j y
@@ -76,7 +76,7 @@ module _ {m : ℕ} {ls ts h low w out : List ℕ} (g : Residual m ls ts h low w)
         go (no n) =
             let z : j ≡ 0 = omega arith in
             let left : norm (G m) (length h) h ≡ none = normed ∙ ap (λ i. monic_low i y) z in
-            absurd (g.nonzero (norm-none (numbers_of g.tables) h g.cofactor.small left g.place))
+            absurd (g.nonzero (norm-none (numbers_of lent) h g.cofactor.small left g.place))
 
     -- the low coefficients of its monic multiple
     p : List ℕ
@@ -99,11 +99,10 @@ module _ {m : ℕ} {ls ts h low w out : List ℕ} (g : Residual m ls ts h low w)
     long-p = length-take-le (j - 1) (y ++ drop (length h) out) remain-room
 
     -- what the squarings ask
-    pub remain-start : Startable m ls ts (take (j - 1) (y ++ drop (length h) out)) (take (j - 1) w)
+    pub remain-start : Startable m (take (j - 1) (y ++ drop (length h) out)) (take (j - 1) w)
     unfolding p
     remain-start = record {
-      tables = g.tables;
-      small = norm-below (numbers_of g.tables) (length h) h g.cofactor.small remain-made;
+      small = norm-below (numbers_of lent) (length h) h g.cofactor.small remain-made;
       few = omega (arith, long-p, remain-degree);
       room = length-take-le (j - 1) w (omega (arith, remain-degree, g.room)) ∙ sym long-p;
     }
@@ -124,10 +123,10 @@ module _ {m : ℕ} {ls ts h low w out : List ℕ} (g : Residual m ls ts h low w)
 
 -- ---- the product
 
-module _ {m : ℕ} {ls ts list h f : List ℕ} (g : Expandable m ls ts list h f) where
+module _ {m : ℕ} {ls ts list h f : List ℕ} (lent : Lent m ls ts) (g : Expandable m list h f) where
   -- what the product over the list asks
-  pub expand-asks : Multipliable m ls ts list (replicate (suc limit) 0)
-  expand-asks = record { tables = g.tables; small = g.elements; room = let n = g.few in omega (arith, length-replicate {A = ℕ} (suc limit) 0) }
+  pub expand-asks : Multipliable m list (replicate (suc limit) 0)
+  expand-asks = record { small = g.elements; room = let n = g.few in omega (arith, length-replicate {A = ℕ} (suc limit) 0) }
 
   module _ {p : List ℕ} (e : p ≡ copied (from_roots (G m) list) (replicate (suc limit) 0)) where
     -- it stands at the front
@@ -157,13 +156,12 @@ module _ {m : ℕ} {ls ts list h f : List ℕ} (g : Expandable m ls ts list h f)
 
       sum_is : coef (G m) sum ≡ coef (G m) f
       unfolding copied
-      sum_is = ap (coef (G m)) (c ∙ ap (λ u. f ++ u) (drop-zeros (length f) product_room)) ∙ top-coef (numbers_of g.tables) f (product_room - length f)
+      sum_is = ap (coef (G m)) (c ∙ ap (λ u. f ++ u) (drop-zeros (length f) product_room)) ∙ top-coef (numbers_of lent) f (product_room - length f)
 
       -- what the sum asks
-      pub expand-product : Productive m ls ts (take (length list + 1) p) h sum
+      pub expand-product : Productive m (take (length list + 1) p) h sum
       expand-product = record {
-        tables = g.tables;
-        first = subst (Below (2 ^ m)) (sym expand-front) (product-below m g.tables.degree list g.elements);
+        first = subst (Below (2 ^ m)) (sym expand-front) (product-below m lent.degree list g.elements);
         second = g.cofactor.small;
         few = g.cofactor.few;
         room = omega (arith, expand-size, g.few, g.cofactor.few, sum-long);
@@ -181,11 +179,10 @@ module _ {m : ℕ} {ls ts list h f : List ℕ} (g : Expandable m ls ts list h f)
 
 -- ---- u h + v w
 
-module _ {m : ℕ} {ls ts h u v : List ℕ} (g : Combinable m ls ts h u v) where
+module _ {m : ℕ} {ls ts h u v : List ℕ} (lent : Lent m ls ts) (g : Combinable m h u v) where
   -- what the remainder asks
-  pub combine-asks : Residual m ls ts h (replicate (suc limit) 0) (replicate limit 0)
+  pub combine-asks : Residual m h (replicate (suc limit) 0) (replicate limit 0)
   combine-asks = record {
-    tables = g.tables;
     cofactor = g.cofactor;
     place = g.place;
     nonzero = g.nonzero;
@@ -203,13 +200,12 @@ module _ {m : ℕ} {ls ts h u v : List ℕ} (g : Combinable m ls ts h u v) where
     one-long = length-set {A = ℕ} (replicate product_room 0) 0 1 ∙ length-replicate {A = ℕ} product_room 0
 
     one-is : coef (G m) (set (replicate product_room 0) 0 1) ≡ coef (G m) (1 ∷ [])
-    one-is = top-coef (numbers_of g.tables) (1 ∷ []) (product_room - 1)
+    one-is = top-coef (numbers_of lent) (1 ∷ []) (product_room - 1)
 
     -- what the first product asks
-    pub combine-first : Productive m ls ts u h (set (replicate product_room 0) 0 1)
+    pub combine-first : Productive m u h (set (replicate product_room 0) 0 1)
     unfolding one
     combine-first = record {
-      tables = g.tables;
       first = g.first.small;
       second = g.cofactor.small;
       few = g.cofactor.few;
@@ -221,11 +217,10 @@ module _ {m : ℕ} {ls ts h u v : List ℕ} (g : Combinable m ls ts h u v) where
 
     module _ {s : List ℕ} (e : s ≡ add (G m) (set (replicate product_room 0) 0 1) (mul (G m) u h)) where
       -- and the second
-      pub combine-second : length s ≡ product_room → Productive m ls ts v (take d w) s
+      pub combine-second : length s ≡ product_room → Productive m v (take d w) s
       combine-second l = record {
-        tables = g.tables;
         first = g.second.small;
-        second = subst (Below (2 ^ m)) (sym r.front) (remainder-below m g.tables.degree h g.cofactor.small);
+        second = subst (Below (2 ^ m)) (sym r.front) (remainder-below m lent.degree h g.cofactor.small);
         few = omega (arith, combine-size, r.count);
         room = omega (arith, combine-size, r.count, g.second.few);
       }

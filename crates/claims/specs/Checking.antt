@@ -17,9 +17,9 @@ use Rattle.algebra.specs.Polynomial.{Below, coef, from_roots, mul}
 use Rattle.algebra.specs.Routines.{norm}
 use Rattle.field.specs.Rows.{known}
 use Rattle.field.specs.Field.{G}
-use Rattle.poly.specs.Lent.{Lent, LogRow}
+use Rattle.poly.specs.Lent.{LogRow}
 use Rattle.input.specs.Limit.{limit}
-use Rattle.claim_rules.specs.Claims.{claim_of, combined, field_remainder}
+use Rattle.claim_rules.specs.Claims.{Claim, combined, field_remainder}
 use Rattle.claim_rules.specs.Admitting.{Sent}
 
 pub record Decides (b : Bool) (P : Type 0) : Type 0 where
@@ -42,30 +42,26 @@ abbrev pub product_room : ℕ
 product_room = 2 * suc limit
 
 -- one factor as a row of logs
-pub record Rowable (m : ℕ) (ls ts p row sum : List ℕ) : Type 0 where
-  pub tables : Lent m ls ts
+pub record Rowable (m : ℕ) (p row sum : List ℕ) : Type 0 where
   pub small : Below (2 ^ m) p
   pub logs : LogRow m row
   pub room : length p + length row ≤ length sum
 
 -- both as coefficients
-pub record Productive (m : ℕ) (ls ts p r sum : List ℕ) : Type 0 where
-  pub tables : Lent m ls ts
+pub record Productive (m : ℕ) (p r sum : List ℕ) : Type 0 where
   pub first : Below (2 ^ m) p
   pub second : Below (2 ^ m) r
   pub few : length r ≤ suc limit
   pub room : length p + length r ≤ length sum
 
-pub record Expandable (m : ℕ) (ls ts list h f : List ℕ) : Type 0 where
-  pub tables : Lent m ls ts
+pub record Expandable (m : ℕ) (list h f : List ℕ) : Type 0 where
   pub elements : Below (2 ^ m) list
   pub few : length list ≤ limit
   pub cofactor : Sent m h
   pub given : Sent m f
 
 -- h is not 0
-pub record Residual (m : ℕ) (ls ts h low w : List ℕ) : Type 0 where
-  pub tables : Lent m ls ts
+pub record Residual (m : ℕ) (h low w : List ℕ) : Type 0 where
   pub cofactor : Sent m h
   pub place : ℕ
   pub nonzero : get_or h place 0 ≢ 0
@@ -80,8 +76,7 @@ pub record Residue (m : ℕ) (h : List ℕ) (d : ℕ) (low w : List ℕ) : Type 
   pub front : take d w ≡ field_remainder m h
 
 -- with room of its own
-pub record Combinable (m : ℕ) (ls ts h u v : List ℕ) : Type 0 where
-  pub tables : Lent m ls ts
+pub record Combinable (m : ℕ) (h u v : List ℕ) : Type 0 where
   pub cofactor : Sent m h
   pub first : Sent m u
   pub second : Sent m v
@@ -89,18 +84,18 @@ pub record Combinable (m : ℕ) (ls ts h u v : List ℕ) : Type 0 where
   pub nonzero : get_or h place 0 ≢ 0
 
 -- the roots, each as often as the claim says, and the polynomials
-pub record Weighable (m : ℕ) (f list h u v : List ℕ) : Type 0 where
+pub record Weighable (m : ℕ) (f list : List ℕ) (c : Claim) : Type 0 where
   pub field : known m ≡ true
   pub elements : Below (2 ^ m) list
   pub few : length list ≤ limit
   pub given : Sent m f
-  pub cofactor : Sent m h
-  pub first : Sent m u
-  pub second : Sent m v
+  pub cofactor : Sent m c.cofactor
+  pub first : Sent m c.first
+  pub second : Sent m c.second
   pub place : ℕ
-  pub nonzero : get_or h place 0 ≢ 0
+  pub nonzero : get_or c.cofactor place 0 ≢ 0
 
 -- the two equations of a claim
-pub record Weighs (m : ℕ) (f list h u v : List ℕ) : Type 0 where
-  pub product : coef (G m) (mul (G m) (from_roots (G m) list) h) ≡ coef (G m) f
-  pub coprime : coef (G m) (combined m (claim_of [] [] h u v)) ≡ coef (G m) (1 ∷ [])
+pub record Weighs (m : ℕ) (f list : List ℕ) (c : Claim) : Type 0 where
+  pub product : coef (G m) (mul (G m) (from_roots (G m) list) c.cofactor) ≡ coef (G m) f
+  pub coprime : coef (G m) (combined m c) ≡ coef (G m) (1 ∷ [])

@@ -1,122 +1,112 @@
--- What the called functions answer here: the roots of a locator polynomial, their places, and what is returned.
---   count-places                      as many places as roots
---   placing, places-held                    the roots whose places are asked for; the struct that holds the places
---   spotted-many, spotted-few, spotted-no, spotted-yes   the places of a locator polynomial, told and read
---   spots-few, tried-spots            at most t places of a locator polynomial, held; and tried
---   Keyed, keyed                      the register that was found
---   located-many, located-few, located-other, places-fit   the places to flip
+-- What the called functions answer here: the roots of a locator polynomial, their places, and what is flipped.
+--   count-places, roots-front      the roots in front of a list: as many as places, and each has a place
+--   front-long                     what stands in front is as long as its number says
+--   placeable, named-front         their places
+--   mended-few                     a guess, flipped where it is right
+--   Keyed, keyed                   the register that was found
+--   placeable-named                the places that it names
+--   unnamed-many                   they are more than t
+--   mended-named                   they are flipped where they are right
 -- Assumes nothing.
-use mathlib.Core.Path.{◌≡◌, refl, sym, ap, ◌∙◌, subst}
-use mathlib.Core.Bool.{true, false}
-use mathlib.Core.List.{List, [], ◌∷◌, map}
-use Prim.Native.Nat.{ℕ, zero, suc, ◌≤◌, ◌<◌}
+use mathlib.Core.Path.{◌≡◌, sym, ap, ◌∙◌, subst}
+use mathlib.Core.List.{List, ◌++◌, map}
+use Prim.Native.Nat.{ℕ, ◌≤◌, ◌<◌}
 use native.Mathlib.Omega.{arith}
-use lib.ListN.{length, get_or, take, length-map, length-take}
-use lib.Seq.{get_or-take, ext_get_or}
+use lib.ListN.{length, get_or, take, drop, length-map, length-take}
+use lib.Seq.{get_or-take, length-take-le, take_at}
+use Rattle.std.specs.Prelude.{Option, Some, None, MatchOption}
 use Rattle.field.specs.Field.{field_at, roots_at}
-use Rattle.poly_small.specs.Roots.{Front}
+use Rattle.field_elements.specs.Calls.{position_under}
 use Rattle.algebra.specs.Trial.{All}
+use Rattle.poly_small.specs.Roots.{Front}
 use Rattle.corrector_locator.specs.Under.{Under, PowerSums, register_of}
 use Rattle.corrector_locator.specs.declared.State.{State}
 use Rattle.corrector_locator.proofs.Fine.{Fine, register-fine}
 use Rattle.corrector_code.specs.Eleven.{F11}
 use Rattle.corrector_code.specs.Key.{register}
-use Rattle.corrector.specs.Places.{places_of, places_in, named, Placing, Placed, HoldsPlaces, Few8, Either, Spotted, Spots, Located, Acceptable, Agrees, Apart, Tried}
-use Rattle.corrector.specs.declared.Places.{Places}
+use Rattle.corrector.specs.Places.{places_of, named, IsRoot, Named, Placeable, Agrees, Apart, Mended, flip_all}
+use Rattle.corrector.specs.Places.{Agreed, Unacceptable}
 use Rattle.corrector.proofs.Marking.{roots-nonzero, places-distinct, places-below}
-use Rattle.field_elements.specs.Calls.{position_under}
 
 -- ---- the roots of a locator polynomial and their places
 
-all_get_d : (l : List ℕ) (i : ℕ) → i < length l → All (λ x. (0 < x) × (x < 2048)) l → (0 < get_or l i 0) × (get_or l i 0 < 2048)
-all_get_d [] i h a = absurd (omega arith)
-all_get_d (x ∷ l) zero h a = a.0
-all_get_d (x ∷ l) (suc i) h a = all_get_d l i (omega arith) a.1
+pub count-places : (p : List ℕ) {s : ℕ} {list : List ℕ} → Front (roots_at 11 p) s list → s ≡ length (places_of p)
+unfolding places_of
+count-places p f = f.count ∙ sym (length-map (roots_at 11 p) (position_under 1 (field_at 11)))
 
-all-get_or₂ : (l : List ℕ) (i : ℕ) → i < length l → All (λ x. x < 2047) l → get_or l i 0 < 2047
-all-get_or₂ [] i h a = absurd (omega arith)
-all-get_or₂ (x ∷ l) zero h a = a.0
-all-get_or₂ (x ∷ l) (suc i) h a = all-get_or₂ l i (omega arith) a.1
+pub roots-front : (p : List ℕ) {s : ℕ} {list : List ℕ} → get_or p 0 0 ≡ 1 → Front (roots_at 11 p) s list → All IsRoot (take s list)
+roots-front p first f = subst (All IsRoot) (sym f.front) (roots-nonzero p first)
 
-map_at : (f : ℕ → ℕ) (l : List ℕ) (i : ℕ) → i < length l → f (get_or l i 0) ≡ get_or (map f l) i 0
-map_at f [] i h = absurd (omega arith)
-map_at f (x ∷ l) zero h = refl
-map_at f (x ∷ l) (suc i) h = map_at f l i (omega arith)
+-- as long as they say
+pub front-long : {rs : List ℕ} {s : ℕ} {list : List ℕ} → Front rs s list → (s ≤ length list) × (s ≡ length (take s list))
+front-long {rs} {s} {list} f =
+    let n = f.count in
+    let e : length (take s list) ≡ length rs = ap length f.front in
+    let m = length-take s list in
+    (omega arith, omega arith)
 
-module _ (p : List ℕ) (first : get_or p 0 0 ≡ 1) {s : ℕ} {list : List ℕ} (f : Front (roots_at 11 p) s list) where
-  pub count-places : s ≡ length (places_of p)
-  unfolding places_of
-  count-places = f.count ∙ sym (length-map (roots_at 11 p) (position_under 1 (field_at 11)))
+placed-places : (p : List ℕ) {s : ℕ} {list new : List ℕ} → Front (roots_at 11 p) s list
+    → new ≡ map (position_under 1 (field_at 11)) (take s list) → new ≡ places_of p
+unfolding places_of
+placed-places p f e = e ∙ ap (map (position_under 1 (field_at 11))) f.front
 
-  root-at : (i : ℕ) → i < s → get_or list i 0 ≡ get_or (roots_at 11 p) i 0
-  root-at i h = sym (get_or-take s list i 0 h) ∙ ap (λ (l : List ℕ). get_or l i 0) f.front
+apart-places : (p : List ℕ) → get_or p 0 0 ≡ 1 → Apart (places_of p)
+apart-places p first = record { distinct = places-distinct p first; below = places-below p first }
 
-  pub placing : s ≤ 8 → Placing list s
-  placing h = record {
-    few = h;
-    room = (let n = f.count in omega (arith, length-take s list, ap length f.front));
-    nonzero = λ i q. subst (λ (x : ℕ). (0 < x) × (x < 2048)) (sym (root-at i q)) (all_get_d (roots_at 11 p) i (let n = f.count in omega arith) (roots-nonzero p first));
-  }
+pub placeable : (p : List ℕ) {s : ℕ} {list new : List ℕ} → get_or p 0 0 ≡ 1 → Front (roots_at 11 p) s list → s ≤ 8
+    → new ≡ map (position_under 1 (field_at 11)) (take s list) → Placeable new
+placeable p {s} {list} {new} first f l e =
+    let h = placed-places p f e in
+    let n = count-places p f in
+    record { apart = subst Apart (sym h) (apart-places p first); few = (let m : length new ≡ length (places_of p) = ap length h in omega arith) }
 
-  place_map : (i : ℕ) → i < length (roots_at 11 p) → position_under 1 (field_at 11) (get_or (roots_at 11 p) i 0) ≡ get_or (places_of p) i 0
-  unfolding places_of
-  place_map i h = map_at (position_under 1 (field_at 11)) (roots_at 11 p) i h
+-- the places in front of what the list has behind the roots
+pub named-front : (p : List ℕ) {s t : ℕ} {list new : List ℕ} → Front (roots_at 11 p) s list
+    → new ≡ map (position_under 1 (field_at 11)) (take s list) → s ≤ t → Named (places_of p) t s (new ++ drop s list)
+named-front p {s} {t} {list} {new} f e l =
+    let h = placed-places p f e in
+    let n = count-places p f in
+    let m : length new ≡ s = ap length h ∙ sym n in
+    record { front = record { count = n; front = take_at new (drop s list) s m ∙ h }; few = l }
 
-  -- the struct holds the places
-  pub places-held : (q : Places) → s ≤ 8 → Placed list s q → HoldsPlaces (places_of p) q
-  places-held q h d = record {
-    count = d.count ∙ count-places;
-    places = places-are;
-    fits = record {
-      few = (let c = d.count in omega arith);
-      long = d.long;
-      below = λ i l. subst (λ (x : ℕ). x < 2047) (sym (place_at i (let c = d.count in omega arith))) (all-get_or₂ (places_of p) i (let n = count-places in let c = d.count in omega arith) (places-below p first));
-    };
-  }
-    where
-      place_at : (i : ℕ) → i < s → get_or q.at i 0 ≡ get_or (places_of p) i 0
-      place_at i l = d.places i l ∙ ap (position_under 1 (field_at 11)) (root-at i l) ∙ place_map i (let n = f.count in omega arith)
+-- ---- sums
 
-      places-are : take q.n q.at ≡ places_of p
-      places-are =
-          ext_get_or 0 (take q.n q.at) (places_of p) same-long
-          (λ i l. get_or-take q.n q.at i 0 (short i l) ∙ place_at i (let c = d.count in let g = short i l in omega arith))
-        where
-          same-long : length (take q.n q.at) ≡ length (places_of p)
-          same-long = length-take q.n q.at ∙ (let c = d.count in let n = count-places in let g = d.long in omega arith)
+-- the first t odd power sums, of a list that has more
+agreed-front : (odd js : List ℕ) {t : ℕ} → t ≤ length odd → Agrees (take t odd) (length (take t odd)) js → Agrees odd t js
+agreed-front odd js {t} h a i l =
+    let n : length (take t odd) ≡ t = length-take-le t odd h in
+    a i (omega arith) ∙ get_or-take t odd i 0 l
 
-          short : (i : ℕ) → i < length (take q.n q.at) → i < q.n
-          short i l = let c = d.count in let n = count-places in let m = same-long in omega arith
+agreed-all : (odd js : List ℕ) {t : ℕ} → t ≤ length odd → Agrees odd t js → Agrees (take t odd) (length (take t odd)) js
+agreed-all odd js {t} h a i l =
+    let n : length (take t odd) ≡ t = length-take-le t odd h in
+    a i (omega arith) ∙ sym (get_or-take t odd i 0 (omega arith))
 
--- ---- what is returned
-
-pub spotted-many : (js : List ℕ) (t : ℕ) (q : Places) → q.good ≡ false → t < length js → Spotted js t q
-spotted-many js t q e h = subst (λ b. Either b (HoldsPlaces js q × (length js ≤ t)) (t < length js)) (sym e) h
-
-pub spotted-few : (js : List ℕ) (t : ℕ) (q : Places) → q.good ≡ true → HoldsPlaces js q → length js ≤ t → Spotted js t q
-spotted-few js t q e h l = subst (λ b. Either b (HoldsPlaces js q × (length js ≤ t)) (t < length js)) (sym e) (h, l)
-
-pub spotted-no : (js : List ℕ) (t : ℕ) (q : Places) → Spotted js t q → q.good ≡ false → t < length js
-spotted-no js t q h e = subst (λ b. Either b (HoldsPlaces js q × (length js ≤ t)) (t < length js)) e h
-
-pub spotted-yes : (js : List ℕ) (t : ℕ) (q : Places) → Spotted js t q → q.good ≡ true → HoldsPlaces js q × (length js ≤ t)
-spotted-yes js t q h e = subst (λ b. Either b (HoldsPlaces js q × (length js ≤ t)) (t < length js)) e h
-
-pub spots-few : (p : List ℕ) (t : ℕ) {s : ℕ} {list : List ℕ} {q : Places} → get_or p 0 0 ≡ 1 → Front (roots_at 11 p) s list
-    → s ≤ t → t ≤ 8 → Placed list s q → Spots (places_of p) t q
-spots-few p t {q = q} first f h l d =
-    let n = count-places p first f in
-    record { held = places-held p first f q (omega arith) d; few = omega arith }
-
-pub tried-spots : (p : List ℕ) {odd : List ℕ} {t : ℕ} {q : Places} → get_or p 0 0 ≡ 1 → Spots (places_of p) t q → Agrees odd t (places_in q)
-    → Tried odd t q
-tried-spots p {odd} {t} {q} first h a = record {
-  fits = h.held.fits;
-  apart = subst Apart (sym h.held.places) (record { distinct = places-distinct p first; below = places-below p first });
-  right = record { few = subst (λ (js : List ℕ). length js ≤ t) (sym h.held.places) h.few; sums = a };
+-- places that agreed
+mended : (odd js word : List ℕ) {t n : ℕ} {after : List ℕ} → Apart js → length js ≤ t → t ≤ length odd
+    → (n ≡ length js) × Agrees (take t odd) (length (take t odd)) js × (after ≡ flip_all js word) → Mended odd t word n after
+mended odd js word a l h g = record {
+  places = js;
+  apart = a;
+  right = record { few = l; sums = agreed-front odd js h g.1 };
+  count = g.0;
+  flips = g.2;
 }
 
--- the register that the code found
+-- a guess, flipped where it is right
+pub mended-few : (p odd word after : List ℕ) {t s : ℕ} {list new : List ℕ} → get_or p 0 0 ≡ 1 → Front (roots_at 11 p) s list
+    → s ≤ t → t ≤ length odd → new ≡ map (position_under 1 (field_at 11)) (take s list)
+    → (r : Option ℕ) → Agreed (take t odd) new word r after
+    → MatchOption r (after ≡ word) (λ n. Mended odd t word n after)
+mended-few p odd word after first f l h e None g = g.0
+mended-few p odd word after {new = new} first f l h e (Some n) g =
+    let q = placed-places p f e in
+    let c = count-places p f in
+    let m : length new ≡ length (places_of p) = ap length q in
+    mended odd new word (subst Apart (sym q) (apart-places p first)) (omega arith) h g
+
+-- ---- the register that the code found
+
 pub record Keyed (s : List ℕ) (t : ℕ) (l : List ℕ) : Type 0 where
   pub below : Under l
   pub first : get_or l 0 0 ≡ 1
@@ -128,38 +118,29 @@ keyed s t r e =
     let f : Fine t (register_of r) = subst (Fine t) (sym e) (register-fine (λ j. get_or s j 0) t) in
     record { below = f.below; first = f.first; places = ap (λ g. places_of g.locator) e }
 
-module _ (odd s : List ℕ) (t : ℕ) (ps : PowerSums odd s) (l : List ℕ) (k : Keyed s t l) (p : Places) (h : Spotted (places_of l) t p) where
-  not-few : p.good ≡ false → Acceptable odd t (named s t) → ⊥
-  not-few e a =
-      let n : t < length (places_of l) = spotted-no (places_of l) t p h e in
-      let m : length (places_of l) ≡ length (named s t) = ap length k.places in
-      let f = a.few in
-      omega arith
+pub placeable-named : {s l list : List ℕ} {t n : ℕ} → Keyed s t l → t ≤ 8 → Named (places_of l) t n list → Placeable (take n list)
+placeable-named {l = l} {list = list} {n = n} k m h =
+    let q = h.front.front in
+    record {
+      apart = subst Apart (sym q) (apart-places l k.first);
+      few = (let e : length (take n list) ≡ length (places_of l) = ap length q in let c = h.front.count in let f = h.few in omega arith);
+    }
 
-  pub located-many : (q : Places) → q.good ≡ false → p.good ≡ false → Located odd t q
-  located-many q e g = (s, ps, subst (λ b. Either b (HoldsPlaces (named s t) q × Acceptable odd t (named s t)) (Acceptable odd t (named s t) → ⊥)) (sym e) (not-few g))
+-- more than t
+pub unnamed-many : {odd s l : List ℕ} {t : ℕ} → PowerSums odd s → Keyed s t l → t < length (places_of l) → Unacceptable odd t
+unnamed-many {odd} {s} {l} {t} ps k h =
+    (s, ps, λ a. let e : length (places_of l) ≡ length (named s t) = ap length k.places in let f = a.few in let z : ⊥ = omega arith in z)
 
-  holds_named : p.good ≡ true → HoldsPlaces (named s t) p × (length (named s t) ≤ t)
-  holds_named e = subst (λ (js : List ℕ). HoldsPlaces js p × (length js ≤ t)) k.places (spotted-yes (places_of l) t p h e)
-
-  pub places-fit : p.good ≡ true → Few8 p
-  places-fit e = (holds_named e).0.fits
-
-  same : p.good ≡ true → places_in p ≡ named s t
-  same e = (holds_named e).0.places
-
-  pub located-few : p.good ≡ true → Agrees odd t (places_in p) → Located odd t p
-  located-few e a = (
-    s,
-    ps,
-    subst (λ b. Either b (HoldsPlaces (named s t) p × Acceptable odd t (named s t)) (Acceptable odd t (named s t) → ⊥)) (sym e)
-        ((holds_named e).0, record { few = (holds_named e).1; sums = subst (λ (js : List ℕ). Agrees odd t js) (same e) a }),
-  )
-
-  pub located-other : (q : Places) → q.good ≡ false → p.good ≡ true → (Agrees odd t (places_in p) → ⊥) → Located odd t q
-  located-other q e g n = (
-    s,
-    ps,
-    subst (λ b. Either b (HoldsPlaces (named s t) q × Acceptable odd t (named s t)) (Acceptable odd t (named s t) → ⊥)) (sym e)
-        (λ a. n (subst (λ (js : List ℕ). Agrees odd t js) (sym (same g)) a.sums)),
-  )
+-- flipped where they are right
+pub mended-named : (odd word after : List ℕ) {s l list : List ℕ} {t n : ℕ} → PowerSums odd s → Keyed s t l → t ≤ length odd
+    → Named (places_of l) t n list → (r : Option ℕ) → Agreed (take t odd) (take n list) word r after
+    → MatchOption r ((after ≡ word) × Unacceptable odd t) (λ m. Mended odd t word m after)
+mended-named odd word after {s} {l} {list} {t} {n} ps k h f None g =
+    let q : take n list ≡ named s t = f.front.front ∙ k.places in
+    (g.0, (s, ps, λ a. g.1 (agreed-all odd (take n list) h (subst (Agrees odd t) (sym q) a.sums))))
+mended-named odd word after {s} {l} {list} {t} {n} ps k h f (Some m) g =
+    let q = f.front.front in
+    let c = f.front.count in
+    let e : length (take n list) ≡ length (places_of l) = ap length q in
+    let w = f.few in
+    mended odd (take n list) word (subst Apart (sym q) (apart-places l k.first)) (omega arith) h g

@@ -14,17 +14,17 @@ use native.Mathlib.Omega.{arith}
 use lib.Arith.{lt-one}
 use lib.Dec.{eqb}
 use lib.ListN.{length, get_or}
-use Rattle.refusals.proofs.Numbers.{refused-back, accepted-back}
-use Rattle.refusals.proofs.Told.{told-by}
+use Rattle.std.specs.Prelude.{Result}
+use Rattle.refusals.specs.Admitting.{told}
+use Rattle.refusals.specs.declared.Refusal.{Refusal}
+use Rattle.refusals.proofs.Told.{told-one}
 use Rattle.field.specs.Field.{field_at}
 use Rattle.field.proofs.Digits.{bit-cases}
 use Rattle.corrector_code.specs.Digits.{bytes_number as number_of_bytes, digits}
 use Rattle.corrector_code.proofs.Eleven.{gen11}
 use Rattle.corrector_code.proofs.Numbers as codes
-use Rattle.corrector.specs.Correcting.{distance, IsBlock, Within, Corrects, told_corrected}
+use Rattle.corrector.specs.Correcting.{distance, IsBlock, Within, Corrects}
 use Rattle.corrector.specs.Correcting.Corrects.{no_block, no-strength, none-near, mended}
-use Rattle.corrector.specs.declared.Corrected.{Corrected}
-use Rattle.corrector.specs.declared.Corrected.TheVariants.{Flips, NotCorrected}
 use Rattle.corrector.proofs.Bits.{bits_of, bits-digits, block-below}
 use Rattle.corrector.proofs.Blocks.{last-small, long-bits, within-bits}
 
@@ -111,11 +111,10 @@ outcomes-coincide {t} {word} (mended b s x) (mended c r y) =
     let e = within-unique x y in (ap (λ (v : List ℕ). (0, distance word v ∷ [])) e, e)
 
 -- two answers with one number and value are one; the value is the number of flips
-pub corrected-told : (r s : Corrected) → told_corrected r ≡ told_corrected s → r ≡ s
-corrected-told = told-by told_corrected (λ o. o.0) NotCorrected (λ o. Flips (get_or o.1 0 0))
-    (elim [ Flips n ↦ accepted-back NotCorrected (Flips n) | NotCorrected k ↦ refused-back NotCorrected (Flips 0) k ])
+pub corrected-told : (r s : Result ℕ Refusal) → told (λ n. n ∷ []) r ≡ told (λ n. n ∷ []) s → r ≡ s
+corrected-told = told-one (λ n. n ∷ []) (λ l. get_or l 0 0) (λ n. refl)
 
 -- the answer and the lent word
-pub correct-coincide : {t : ℕ} {word : List ℕ} (r s : Corrected) (a b : List ℕ)
-    → Corrects t word (told_corrected r) a → Corrects t word (told_corrected s) b → (r ≡ s) × (a ≡ b)
+pub correct-coincide : {t : ℕ} {word : List ℕ} (r s : Result ℕ Refusal) (a b : List ℕ)
+    → Corrects t word (told (λ n. n ∷ []) r) a → Corrects t word (told (λ n. n ∷ []) s) b → (r ≡ s) × (a ≡ b)
 correct-coincide r s a b x y = let h = outcomes-coincide x y in (corrected-told r s h.0, h.1)

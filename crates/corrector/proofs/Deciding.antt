@@ -2,7 +2,6 @@
 -- the register names are not acceptable, there is none.
 --   any-within         flipping acceptable places makes the codeword near;  any-distance  by so many flips
 --   none_within        no codeword is near where the places that the register names are not acceptable
---   named-apart        these places are distinct, and in the word
 --   zero-within        a word whose values at a, a^3, .., a^(2t-1) are 0 is a codeword
 --   rest-zero-within   so one whose remainder at strength t is 0
 -- Assumes nothing.
@@ -323,7 +322,3 @@ module _ (word : List ℕ) (t : ℕ) (b : IsBlock word) (st : IsStrength t) wher
           let q = (passes-exactly (field_at 11) gen11 t w st.most (let l = long-w in omega arith)).1 some in
           never (subst (Acceptable odd t) named-is
           (acceptable (places_of p) test (places-distinct p first) told (places-below p first) (subst (Passes F11 2 t w) (sym marked-is) q)))
-
-      -- the places that the register names stand apart
-      pub named-apart : Apart (named s t)
-      named-apart = subst Apart named-is (record { distinct = places-distinct p first; below = places-below p first })

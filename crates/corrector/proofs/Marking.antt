@@ -24,7 +24,7 @@ use Rattle.field_elements.specs.Calls.{position_under}
 use Rattle.field_elements.proofs.Mirror.{goppa, of-inverse}
 use Rattle.corrector_code.specs.Eleven.{F11}
 use Rattle.corrector_code.proofs.Eleven.{gen11}
-use Rattle.corrector.specs.Places.{places_of}
+use Rattle.corrector.specs.Places.{places_of, IsRoot}
 open ring (field_at 11) gen11.monic use {mul_comm, mul-zero-l, mul-zero-r}
 
 -- ---- inverses
@@ -94,9 +94,6 @@ all-mem P (x ∷ s) h = (h x (Memᴰ.head refl), all-mem P s (λ y m. h y (Mem�
 
 -- ---- the roots of a polynomial that is 1 at 0
 
-abbrev Nonzero : ℕ → Type 0
-Nonzero r = (0 < r) × (r < 2048)
-
 module _ (p : List ℕ) (first : get_or p 0 0 ≡ 1) where
   at_zero : (q : List ℕ) → get_or q 0 0 ≡ 1 → eval F11 q 0 ≡ 1
   unfolding eval
@@ -107,17 +104,17 @@ module _ (p : List ℕ) (first : get_or p 0 0 ≡ 1) where
   root-positive zero t = let z : ◌≡◌ {A = ℕ} 1 0 = sym (at_zero p first) ∙ eqb→eq (eval F11 p 0) 0 t in absurd (let b : ⊥ = omega arith in b)
   root-positive (suc r) t = omega arith
 
-  root_in : (r : ℕ) → Memᴰ r (roots_at 11 p) → Nonzero r × T (is_root F11 p r)
+  root_in : (r : ℕ) → Memᴰ r (roots_at 11 p) → IsRoot r × T (is_root F11 p r)
   root_in r m = let h = (roots_of-member F11 2048 p r).0 m in ((root-positive r h.1, h.0), h.1)
 
-  pub roots-nonzero : All Nonzero (roots_at 11 p)
-  roots-nonzero = all-mem Nonzero (roots_at 11 p) (λ r m. (root_in r m).0)
+  pub roots-nonzero : All IsRoot (roots_at 11 p)
+  roots-nonzero = all-mem IsRoot (roots_at 11 p) (λ r m. (root_in r m).0)
 
   -- each place once
   pub places-distinct : Distinct (places_of p)
   unfolding places_of
   places-distinct =
-      distinct-map (position_under 1 (field_at 11)) Nonzero
+      distinct-map (position_under 1 (field_at 11)) IsRoot
       (λ x y a b e. sym (place-below x a.0 a.1).1 ∙ ap (λ (n : ℕ). inverse (field_at 11) (power F11 2 n)) e ∙ (place-below y b.0 b.1).1)
       (roots_at 11 p) roots-nonzero (roots_of-distinct F11 2048 p)
 

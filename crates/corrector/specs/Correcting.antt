@@ -8,17 +8,16 @@
 --   IsStrength t        from 1 to 8
 --   IsCodeword t word   zero at a^1 to a^(2t)
 --   Within t word v     v is a codeword of strength t that differs from the word in at most t bits
---   Corrects            THE CONTRACT: the outcome for t and a word, and what the lent word holds afterwards
---   told_corrected       the number and the value of an answer
+--   Admitted            THE CONTRACT of `admit_block`: what the tests of a word and a strength find
+--   Corrects            THE CONTRACT of `correct`: the outcome for t and a word, and what the lent word holds afterwards
 -- Assumes nothing.
-use Rattle.std.specs.Prelude.{◌≡◌, not, List, [], ◌∷◌, map, ℕ, ◌*◌, ◌/◌, ◌%◌, ◌^◌, ◌≤◌, ◌<◌, eqb, length, get_or}
+use Rattle.std.specs.Prelude.{◌≡◌, not, List, [], ◌∷◌, map, ℕ, ◌*◌, ◌/◌, ◌%◌, ◌^◌, ◌≤◌, ◌<◌, eqb, length, get_or, ⊤, Result, Ok, Err}
 use Rattle.algebra.specs.Field.{power}
 use Rattle.algebra.specs.Polynomial.{eval}
 use Rattle.algebra.specs.Trial.{keep, up_from}
-use Rattle.refusals.specs.Numbers.{number_of}
+use Rattle.refusals.specs.declared.Refusal.{Refusal}
+use Rattle.refusals.specs.declared.Refusal.TheVariants.{Block, Strength}
 use Rattle.corrector_code.specs.Eleven.{F11}
-use Rattle.corrector.specs.declared.Corrected.{Corrected}
-use Rattle.corrector.specs.declared.Corrected.TheVariants.{Flips, NotCorrected}
 
 -- bit j of a word: 0 or 1
 abbrev pub bit_at : List ℕ → ℕ → ℕ
@@ -53,14 +52,15 @@ pub record Within (t : ℕ) (word v : List ℕ) : Type 0 where
   pub codeword : IsCodeword t v
   pub near : distance word v ≤ t
 
+-- the first that applies: no block, no strength; else a block at a strength
+pub data Admitted (t : ℕ) (word : List ℕ) : Result ⊤ Refusal → Type 0 where
+  no_block : (IsBlock word → ⊥) → Admitted t word (Err Block)
+  no-strength : IsBlock word → (IsStrength t → ⊥) → Admitted t word (Err Strength)
+  block_at : IsBlock word → IsStrength t → Admitted t word (Ok tt)
+
 -- the first of 22, 23 and 24 that applies, and the word as it was; else 0, the number of flips, and the codeword
 pub data Corrects (t : ℕ) (word : List ℕ) : ℕ × List ℕ → List ℕ → Type 0 where
   no_block : (IsBlock word → ⊥) → Corrects t word (22, []) word
   no-strength : IsBlock word → (IsStrength t → ⊥) → Corrects t word (23, []) word
   none-near : IsBlock word → IsStrength t → ((v : List ℕ) → Within t word v → ⊥) → Corrects t word (24, []) word
   mended : {v : List ℕ} → IsBlock word → IsStrength t → Within t word v → Corrects t word (0, distance word v ∷ []) v
-
--- the number and the value of an answer
-abbrev pub told_corrected : Corrected → ℕ × List ℕ
-told_corrected (Flips n) = (0, n ∷ [])
-told_corrected (NotCorrected k) = (number_of k, [])

@@ -2,9 +2,9 @@
 --   Added, bytes-added     n bytes of x added from byte q on: the number of the bytes, and those behind
 --   bit-number             bit j of a block is digit j of its number
 --   encoding-of            a word with its check bits added is the codeword with its data
---   encoding-made          so in the two parts that the code adds
+--   encoding-made          so in the bytes that the code adds
 --   encoding-exists        THERE IS ONE;  encoding-exactly  and no other
---   encoded-block          the last step of the call
+--   encoded-block          the last step of the call;  refused-block  what its tests turn away
 -- Assumes nothing.
 use mathlib.Core.Path.{◌≡◌, refl, sym, ap, ap₂, ◌∙◌, subst}
 use mathlib.Core.Bool.{Bool, true, false}
@@ -20,6 +20,10 @@ use lib.Dec.{eqb}
 use lib.ListN.{length, get_or, set, length-set}
 use lib.Pow.{pow-add, pow_mono, shr-shr}
 use lib.Seq.{get_or-set_same, get_or-set_other}
+use Rattle.std.specs.Prelude.{⊤, Result, Err}
+use Rattle.refusals.specs.Numbers.{number_of}
+use Rattle.refusals.specs.declared.Refusal.{Refusal}
+use Rattle.refusals.specs.declared.Refusal.TheVariants.{Block, Strength}
 use Rattle.field.specs.Field.{field_at}
 use Rattle.field.proofs.Digits.{bit-cases}
 use Rattle.field.proofs.Generator.{one_below}
@@ -32,11 +36,12 @@ use Rattle.corrector_generator.specs.Generators.{odd_power}
 use Rattle.corrector_generator.proofs.Bases.{multiples}
 use Rattle.corrector_remainder.specs.Remainder.{RestAt}
 use Rattle.corrector_remainder.proofs.Strengths.{rest-exists}
-use Rattle.corrector.specs.Correcting.{bit_at, IsBlock, IsStrength}
+use Rattle.corrector.specs.Correcting.{bit_at, IsBlock, IsStrength, Admitted}
+use Rattle.corrector.specs.Correcting.Admitted.{no_block as no_word, no-strength as no_number, block_at}
 use Rattle.corrector.proofs.Bits.{bits-digits}
 use Rattle.corrector.proofs.Deciding.{zero-within}
 use Rattle.corrector_encoder.specs.Encoding.{Encoding, Encodes}
-use Rattle.corrector_encoder.specs.Encoding.Encodes.{encoded}
+use Rattle.corrector_encoder.specs.Encoding.Encodes.{no_block, no-strength, encoded}
 use Rattle.corrector_encoder.specs.Bytes.{add_bytes}
 use Rattle.corrector_encoder.proofs.Unique.{bit-at, encoding-unique}
 
@@ -158,30 +163,22 @@ module _ (t : ℕ) (word v : List ℕ) (n : ℕ) (b : IsBlock word) (s : IsStren
   pub encoding-of : Encoding t word v
   encoding-of = record { block = block; codeword = (zero-within v t block s zero-at).codeword; kept = stays }
 
--- in the two parts that the code adds
-pub encoding-made : {t : ℕ} {word : List ℕ} (hi lo : ℕ) → IsBlock word → IsStrength t
-    → RestAt t (bytes_number word) (hi * 2 ^ 64 + lo)
-    → lo < 2 ^ 64 → Encoding t word (add_bytes 3 8 hi (add_bytes 8 0 lo word))
-encoding-made {t} {word} hi lo b s c l =
+-- in the bytes that the code adds
+pub encoding-made : {t n : ℕ} {word : List ℕ} → IsBlock word → IsStrength t → RestAt t (bytes_number word) n
+    → Encoding t word (add_bytes 11 0 n word)
+encoding-made {t} {n} {word} b s c =
     let m = s.most in
-    let small : hi * 2 ^ 64 + lo < 2 ^ 88 = lt_of_lt_of_le c.below (pow_mono (let q : 11 * t ≤ 88 = omega arith in q)) in
-    let first = bytes-added 8 0 lo word (let n = b.long in omega arith) b.bytes l in
-    let second = bytes-added 3 8 hi (add_bytes 8 0 lo word) (let n = b.long in let k = first.long in omega arith) first.bytes (let q : hi < 16777216 = omega arith in q) in
-    encoding-of t word (add_bytes 3 8 hi (add_bytes 8 0 lo word)) (hi * 2 ^ 64 + lo) b s c (second.long ∙ first.long ∙ b.long) second.bytes
-    (second.number ∙ ap (λ (x : ℕ). bit_xor x (hi * 2 ^ 64)) (first.number ∙ ap (bit_xor (bytes_number word)) (mul-one lo))
-    ∙ xor_assoc (bytes_number word) lo (hi * 2 ^ 64)
-    ∙ ap (bit_xor (bytes_number word)) (xor_comm lo (hi * 2 ^ 64) ∙ xor_shifted hi 64 lo l))
-    (ap (λ (x : ℕ). x / 2 ^ 7 % 2) (second.behind 255 (omega arith) ∙ first.behind 255 (omega arith)))
+    let small : n < 2 ^ 88 = lt_of_lt_of_le c.below (pow_mono (let q : 11 * t ≤ 88 = omega arith in q)) in
+    let a = bytes-added 11 0 n word (let l = b.long in omega arith) b.bytes small in
+    encoding-of t word (add_bytes 11 0 n word) n b s c (a.long ∙ b.long) a.bytes
+    (a.number ∙ ap (bit_xor (bytes_number word)) (mul-one n))
+    (ap (λ (x : ℕ). x / 2 ^ 7 % 2) (a.behind 255 (omega arith)))
 
 -- THERE IS ONE
 pub encoding-exists : {t : ℕ} {word : List ℕ} → IsBlock word → IsStrength t → (v : List ℕ) × Encoding t word v
 encoding-exists {t} {word} b s =
     let r = rest-exists t (bytes_number word) s.least s.most in
-    let n : ℕ = r.0 in
-    let e : n / 2 ^ 64 * 2 ^ 64 + n % 2 ^ 64 ≡ n = omega arith in (
-      add_bytes 3 8 (n / 2 ^ 64) (add_bytes 8 0 (n % 2 ^ 64) word),
-      encoding-made (n / 2 ^ 64) (n % 2 ^ 64) b s (subst (RestAt t (bytes_number word)) (sym e) r.1) (omega arith),
-    )
+    (add_bytes 11 0 r.0 word, encoding-made b s r.1)
 
 -- AND NO OTHER
 pub encoding-exactly : {t : ℕ} {word : List ℕ} → IsBlock word → IsStrength t
@@ -189,8 +186,15 @@ pub encoding-exactly : {t : ℕ} {word : List ℕ} → IsBlock word → IsStreng
 encoding-exactly b s = let e = encoding-exists b s in (e.0, e.1, λ u x. encoding-unique s x e.1)
 
 -- so the call's last step
-pub encoded-block : {t : ℕ} {word u v : List ℕ} (hi lo : ℕ) → IsBlock word → IsStrength t
-    → RestAt t (bytes_number word) (hi * 2 ^ 64 + lo)
-    → lo < 2 ^ 64 → u ≡ add_bytes 8 0 lo word → v ≡ add_bytes 3 8 hi u → Encodes t word (0, 11 * t ∷ []) v
-encoded-block {t} {word} {u} {v} hi lo b s c l e f =
-    encoded b s (subst (Encoding t word) (sym (f ∙ ap (add_bytes 3 8 hi) e)) (encoding-made hi lo b s c l))
+pub encoded-block : {t n : ℕ} {word v : List ℕ} → IsBlock word → IsStrength t → RestAt t (bytes_number word) n
+    → v ≡ add_bytes 11 0 n word → Encodes t word (0, 11 * t ∷ []) v
+encoded-block {t} {n} {word} b s c e = encoded b s (subst (Encoding t word) (sym e) (encoding-made b s c))
+
+-- what the tests of the block turn away
+pub refused-block : {t : ℕ} {word : List ℕ} {r : Result ⊤ Refusal} {k : Refusal} → Admitted t word r → r ≡ Err k
+    → Encodes t word (number_of k, []) word
+refused-block {t} {word} {k = k} (no_word x) e =
+    let f : Block ≡ k = cc in subst (λ j. Encodes t word (number_of j, []) word) f (no_block x)
+refused-block {t} {word} {k = k} (no_number b x) e =
+    let f : Strength ≡ k = cc in subst (λ j. Encodes t word (number_of j, []) word) f (no-strength b x)
+refused-block (block_at b s) e = absurd (cc)

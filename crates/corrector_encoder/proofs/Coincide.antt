@@ -4,15 +4,14 @@
 --   encode-coincide    so for the call
 -- Assumes nothing.
 use mathlib.Core.Path.{◌≡◌, refl}
-use mathlib.Core.List.{List}
+use mathlib.Core.List.{List, [], ◌∷◌}
 use Prim.Native.Nat.{ℕ}
-use lib.ListN.{get_or}
-use Rattle.refusals.proofs.Numbers.{refused-back, accepted-back}
-use Rattle.refusals.proofs.Told.{told-by}
-use Rattle.corrector_encoder.specs.Encoding.{Encodes, told_encoded}
+use Rattle.std.specs.Prelude.{Result}
+use Rattle.refusals.specs.Admitting.{told}
+use Rattle.refusals.specs.declared.Refusal.{Refusal}
+use Rattle.corrector.proofs.Coincide.{corrected-told}
+use Rattle.corrector_encoder.specs.Encoding.{Encodes}
 use Rattle.corrector_encoder.specs.Encoding.Encodes.{no_block, no-strength, encoded}
-use Rattle.corrector_encoder.specs.declared.Encoded.{Encoded}
-use Rattle.corrector_encoder.specs.declared.Encoded.TheVariants.{Checks, NotEncoded}
 use Rattle.corrector_encoder.proofs.Unique.{encoding-unique}
 
 -- TWO OUTCOMES COINCIDE
@@ -29,11 +28,10 @@ outcomes-coincide (encoded b s x) (no-strength c y) = absurd (y s)
 outcomes-coincide (encoded b s x) (encoded c r y) = (refl, encoding-unique s x y)
 
 -- two answers with one number and value are one; the value is the number of check bits
-pub encoded-told : (r s : Encoded) → told_encoded r ≡ told_encoded s → r ≡ s
-encoded-told = told-by told_encoded (λ o. o.0) NotEncoded (λ o. Checks (get_or o.1 0 0))
-    (elim [ Checks n ↦ accepted-back NotEncoded (Checks n) | NotEncoded k ↦ refused-back NotEncoded (Checks 0) k ])
+pub encoded-told : (r s : Result ℕ Refusal) → told (λ n. n ∷ []) r ≡ told (λ n. n ∷ []) s → r ≡ s
+encoded-told = corrected-told
 
 -- the answer and the lent word
-pub encode-coincide : {t : ℕ} {word : List ℕ} (r s : Encoded) (a b : List ℕ)
-    → Encodes t word (told_encoded r) a → Encodes t word (told_encoded s) b → (r ≡ s) × (a ≡ b)
+pub encode-coincide : {t : ℕ} {word : List ℕ} (r s : Result ℕ Refusal) (a b : List ℕ)
+    → Encodes t word (told (λ n. n ∷ []) r) a → Encodes t word (told (λ n. n ∷ []) s) b → (r ≡ s) × (a ≡ b)
 encode-coincide r s a b x y = let h = outcomes-coincide x y in (encoded-told r s h.0, h.1)

@@ -3,13 +3,9 @@
 -- bits 0 to 11 t - 1 are its check bits.
 --   Encoding t word v   v is a codeword of strength t with the data of the word: there is exactly one
 --   Encodes             THE CONTRACT: the outcome for t and a word, and what the lent word holds afterwards
---   told_encoded         the number and the value of an answer
 -- Assumes nothing.
 use Rattle.std.specs.Prelude.{◌≡◌, List, [], ◌∷◌, ℕ, ◌*◌, ◌≤◌, ◌<◌}
-use Rattle.refusals.specs.Numbers.{number_of}
 use Rattle.corrector.specs.Correcting.{bit_at, IsBlock, IsStrength, IsCodeword}
-use Rattle.corrector_encoder.specs.declared.Encoded.{Encoded}
-use Rattle.corrector_encoder.specs.declared.Encoded.TheVariants.{Checks, NotEncoded}
 
 -- a codeword with the data of the word: its bits from 11 t on
 pub record Encoding (t : ℕ) (word v : List ℕ) : Type 0 where
@@ -22,8 +18,3 @@ pub data Encodes (t : ℕ) (word : List ℕ) : ℕ × List ℕ → List ℕ → 
   no_block : (IsBlock word → ⊥) → Encodes t word (22, []) word
   no-strength : IsBlock word → (IsStrength t → ⊥) → Encodes t word (23, []) word
   encoded : {v : List ℕ} → IsBlock word → IsStrength t → Encoding t word v → Encodes t word (0, 11 * t ∷ []) v
-
--- the number and the value of an answer
-abbrev pub told_encoded : Encoded → ℕ × List ℕ
-told_encoded (Checks n) = (0, n ∷ [])
-told_encoded (NotEncoded k) = (number_of k, [])

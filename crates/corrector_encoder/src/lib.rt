@@ -3,63 +3,36 @@
 // has 11 t digits, so that the bits from 11 t on stay.
 #![tactic(auto)]
 
-ghost use Rattle.std.specs.Prelude.{◌≡◌, [], ◌∷◌, ◌+◌, ◌*◌, ◌≤◌, length};
-ghost use Rattle.corrector.specs.Correcting.{IsBlock, IsStrength};
+ghost use Rattle.std.specs.Prelude.{◌≡◌, [], ◌∷◌, length};
+ghost use Rattle.refusals.specs.Admitting.{told};
 ghost use Rattle.corrector_encoder.specs.Bytes.{add_bytes};
-ghost use Rattle.corrector_encoder.specs.Encoding.{Encodes, told_encoded};
+ghost use Rattle.corrector_encoder.specs.Encoding.{Encodes};
 
-use corrector_code::{CHECKS, LAST, STRONGEST, WORD};
+use corrector::admit_block;
+use corrector_code::CHECKS;
 use corrector_remainder::remainder_of;
 use refusals::Refusal;
 
-// What the encoder answers: the number of check bits, or what is turned away.
-#[derive(Drop)]
-pub enum Encoded {
-    Checks(u16),
-    NotEncoded(Refusal),
-}
+// The check bits of the highest strength take so many bytes.
+const CHECK_BYTES: usize = 11;
 
-// Adds the n bytes of x to those of the word from byte q on.
-fn add_bytes(word: &mut [u8], q: usize, n: usize, x: u64)
-    requires { q + n ≤ length word.old }
-    ensures { word.new ≡ add_bytes n q x word.old }
+// Adds the lowest bytes of x to those of a part of a word.
+fn add_bytes(part: &mut [u8], x: u128)
+    ensures { part.new ≡ add_bytes (length part.old) 0 x part.old }
 {
-    let mut y = x;
-    let mut i: usize = 0;
-    while i < n {
-        let j = q + i;
-        word[j] = word[j] ^ (y % 256) as u8;
-        y = y / 256;
-        i += 1;
+    let mut rest = x;
+    for byte in part.iter_mut() {
+        *byte ^= (rest % 256) as u8;
+        rest /= 256;
     }
-}
-
-// A block at a strength: the word becomes the codeword with its data.
-fn encode_block(strength: u16, word: &mut [u8])
-    requires { IsBlock word.old × IsStrength strength }
-    ensures { Encodes strength word.old (0, 11 * strength ∷ []) word.new }
-{
-    let r = remainder_of(strength, word);
-    add_bytes(word, 0, 8, r.lo); // the lower part, and behind it the 24 digits of the upper
-    add_bytes(word, 8, 3, r.hi as u64);
 }
 
 // Makes the word the codeword of this strength that has its bits from 11 t on, and tells how many check bits it has.
-pub fn encode(strength: u16, word: &mut [u8]) -> Encoded
-    ensures { Encodes strength word.old (told_encoded result) word.new }
+pub fn encode(strength: u16, word: &mut [u8]) -> Result<u16, Refusal>
+    ensures { Encodes strength word.old (told (λ n. n ∷ []) result) word.new }
 {
-    if word.len() != WORD {
-        return Encoded::NotEncoded(Refusal::Block);
-    }
-    if word[LAST] >= 128 {
-        return Encoded::NotEncoded(Refusal::Block);
-    }
-    if strength == 0 {
-        return Encoded::NotEncoded(Refusal::Strength);
-    }
-    if strength > STRONGEST {
-        return Encoded::NotEncoded(Refusal::Strength);
-    }
-    encode_block(strength, word);
-    Encoded::Checks(CHECKS * strength)
+    admit_block(strength, word)?;
+    let r = remainder_of(strength, word);
+    add_bytes(&mut word[..CHECK_BYTES], r);
+    Ok(CHECKS * strength)
 }

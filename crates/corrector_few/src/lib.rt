@@ -9,14 +9,48 @@
 // the determinant V = D s3 + s E is 0 there are two, and with d = 0 three.
 #![tactic(auto)]
 
-ghost use Rattle.std.specs.Prelude.{◌≤◌, ◌<◌};
+ghost use Rattle.std.specs.Prelude.{◌<◌};
 ghost use Rattle.corrector_few.specs.Locators.{LowLocator};
 
+use field::rows::ROW11;
 use field_constants::tables::{antilog11, log11};
-use field_tables::field_types::F11;
 
-// A log below this, twice the order, is that of an element: twice its position, or 1 where it is 0.
-const LOGS: u16 = 2 * (F11::SIZE - 1);
+// No log is as large: twice the order.
+const LOGS: u16 = 2 * (ROW11.size - 1);
+
+// The log of an element: twice its position, or 1 where it is 0.
+#[derive(Clone, Copy)]
+struct Log {
+    log: u16,
+    ghost small: { log < 4094 },
+}
+
+impl Log {
+    // That of a number as an element.
+    fn of(x: u16) -> Log {
+        Log {
+            log: log11(x % ROW11.size),
+        }
+    }
+
+    // That of the square.
+    fn squared(self) -> Log {
+        let k = 2 * self.log;
+        Log {
+            log: if k < LOGS { k } else { k - LOGS },
+        }
+    }
+
+    // The product of two elements of which one is not 0.
+    fn times(self, k: Log) -> u16 {
+        antilog11(self.log + k.log)
+    }
+
+    // The quotient of two elements of which one is not 0.
+    fn over(self, k: Log) -> u16 {
+        antilog11(self.log + (LOGS - k.log))
+    }
+}
 
 // The coefficients of 1 + a z + b z^2 + c z^3 + d z^4, over numbers as elements.
 fn made(a: u16, b: u16, c: u16, d: u16) -> [u16; 5]
@@ -24,79 +58,40 @@ fn made(a: u16, b: u16, c: u16, d: u16) -> [u16; 5]
 {
     [
         1,
-        a % F11::SIZE,
-        b % F11::SIZE,
-        c % F11::SIZE,
-        d % F11::SIZE,
+        a % ROW11.size,
+        b % ROW11.size,
+        c % ROW11.size,
+        d % ROW11.size,
     ]
 }
 
-// The log of a number as an element.
-fn log_of(x: u16) -> u16
-    ensures { result < 4094 }
-{
-    log11(x % F11::SIZE)
-}
-
-// The log of the square.
-fn twice(l: u16) -> u16
-    requires { l < 4094 }
-    ensures { result < 4094 }
-{
-    let k = 2 * l;
-    if k < LOGS {
-        return k;
-    }
-    k - LOGS
-}
-
-// The product, by the logs of two elements of which one is not 0.
-fn times(l: u16, k: u16) -> u16
-    requires { (l < 4094) × (k ≤ 4094) }
-{
-    antilog11(l + k)
-}
-
-// The log of the inverse.
-fn inverse(l: u16) -> u16
-    requires { l < 4094 }
-    ensures { result ≤ 4094 }
-{
-    LOGS - l
-}
-
 // Is s9 what follows from the others? l and h are the logs of s and s3.
-fn goes_on(s: [u16; 8], l: u16, h: u16, b: u16, c: u16, d: u16) -> bool
-    requires { (l < 4094) × (h < 4094) }
-{
-    let nine = times(twice(twice(twice(l))), l) ^ times(log_of(b), log_of(s[3]));
-    nine ^ times(log_of(c), twice(h)) ^ times(log_of(d), log_of(s[2])) == s[4]
+fn goes_on(s: [u16; 8], l: Log, h: Log, b: u16, c: u16, d: u16) -> bool {
+    let [_, _, s5, s7, s9, ..] = s;
+    let nine = l.squared().squared().squared().times(l) ^ Log::of(b).times(Log::of(s7));
+    nine ^ Log::of(c).times(h.squared()) ^ Log::of(d).times(Log::of(s5)) == s9
 }
 
 // Three or four locators, by the logs l of s, h of s3, k of D, g of E and v of V.
-fn more(s: [u16; 8], t: u16, l: u16, h: u16, k: u16, g: u16, v: u16) -> [u16; 5]
-    requires { (l < 4094) × (h < 4094) × (k < 4094) × (g < 4094) × (v < 4094) }
+fn more(s: [u16; 8], t: u16, l: Log, h: Log, k: Log, g: Log, v: Log) -> [u16; 5]
     ensures { LowLocator result }
 {
-    let m = twice(l);
-    let d0 = times(m, l) ^ s[1];
-    let a = log_of(times(m, h) ^ s[2]);
+    let [s1, s3, s5, s7, ..] = s;
+    let m = l.squared();
+    let d0 = m.times(l) ^ s3;
+    let a = Log::of(m.times(h) ^ s5);
     if t == 3 {
-        let b = times(a, inverse(k));
-        return made(s[0], b, d0 ^ times(log_of(b), l), 0);
+        let b = a.over(k);
+        return made(s1, b, d0 ^ Log::of(b).times(l), 0);
     }
-    let q = log_of(times(l, twice(h)) ^ times(twice(m), k) ^ s[3]);
-    let w = inverse(v);
-    let b = times(log_of(times(a, h) ^ times(q, l)), w);
-    let d = times(log_of(times(k, q) ^ times(g, a)), w);
-    let c = d0 ^ times(log_of(b), l);
-    if t > 4 {
-        if goes_on(s, l, h, b, c, d) {
-            return made(s[0], b, c, d);
-        }
+    let q = Log::of(l.times(h.squared()) ^ m.squared().times(k) ^ s7);
+    let b = Log::of(a.times(h) ^ q.times(l)).over(v);
+    let d = Log::of(k.times(q) ^ g.times(a)).over(v);
+    let c = d0 ^ Log::of(b).times(l);
+    if t > 4 && !goes_on(s, l, h, b, c, d) {
         return made(0, 0, 0, 0);
     }
-    made(s[0], b, c, d)
+    made(s1, b, c, d)
 }
 
 // The locator polynomial of at most four wrong bits with these odd syndromes, of which t are known; 1 where these show
@@ -104,23 +99,21 @@ fn more(s: [u16; 8], t: u16, l: u16, h: u16, k: u16, g: u16, v: u16) -> [u16; 5]
 pub fn locator(s: [u16; 8], t: u16) -> [u16; 5]
     ensures { LowLocator result }
 {
-    let l = log_of(s[0]);
-    let d = times(twice(l), l) ^ s[1];
-    if t == 1 {
-        return made(s[0], 0, 0, 0);
+    let [s1, s3, s5, ..] = s;
+    let l = Log::of(s1);
+    let d = l.squared().times(l) ^ s3;
+    if t == 1 || d == 0 {
+        return made(s1, 0, 0, 0);
     }
-    if d == 0 {
-        return made(s[0], 0, 0, 0);
-    }
-    let k = log_of(d);
+    let k = Log::of(d);
     if t == 2 {
-        return made(s[0], times(k, inverse(l)), 0, 0);
+        return made(s1, k.over(l), 0, 0);
     }
-    let h = log_of(s[1]);
-    let g = log_of(times(twice(twice(l)), l) ^ s[2]);
-    let v = times(k, h) ^ times(g, l);
+    let h = Log::of(s3);
+    let g = Log::of(l.squared().squared().times(l) ^ s5);
+    let v = k.times(h) ^ g.times(l);
     if v == 0 {
-        return made(s[0], times(k, inverse(l)), 0, 0);
+        return made(s1, k.over(l), 0, 0);
     }
-    more(s, t, l, h, k, g, log_of(v))
+    more(s, t, l, h, k, g, Log::of(v))
 }

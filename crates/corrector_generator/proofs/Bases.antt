@@ -1,17 +1,14 @@
--- The rows of a generator G, each by its key's digits: the remainder of c x^(d + k), d the degree of G, is the sum of
--- those of 1, 2, 4, .. over the digits of c.
+-- What comes back from the top of a register of a generator G is additive.
 --   multiples              the sum of two multiples of 2^k
 --   back_from_top-additive   the remainder of a sum is the sum
---   by-sum                 what a basis tells of the remainder of c x^(d + k)
 -- Assumes nothing.
 use mathlib.Core.Path.{◌≡◌, sym, ap, ap₂, ◌∙◌}
-use mathlib.Core.List.{List}
-use Prim.Native.Nat.{ℕ, ◌*◌, ◌^◌, ◌<◌}
+use Prim.Native.Nat.{ℕ, ◌*◌, ◌^◌}
 use native.Mathlib.Nat.{add-zero}
 use lib.Bits.{bit_xor, xor_block}
 use lib.Pow.{pow_pos}
 use Rattle.field.specs.Field.{Field, reduce, size}
-use Rattle.field.proofs.Additive.{Additive, linear_map, basis, by-basis}
+use Rattle.field.proofs.Additive.{Additive}
 use Rattle.field.proofs.Reduce.{reduce-xor}
 use Rattle.corrector_generator.specs.Generators.{back_from_top}
 
@@ -27,16 +24,3 @@ module _ (G : Field) where
   unfolding back_from_top
   back_from_top-additive x y =
       ap (reduce G) (sym (multiples G.degree x y)) ∙ reduce-xor G (x * size G) (y * size G)
-
-  -- and of the sum of two multiples
-  moved-additive : (k : ℕ) → Additive (λ c. back_from_top G (c * 2 ^ k))
-  moved-additive k x y =
-      ap (back_from_top G) (sym (multiples k x y)) ∙ back_from_top-additive (x * 2 ^ k) (y * 2 ^ k)
-
-  -- what a basis tells of its sums
-  pub by-sum : (k n : ℕ) (B : List ℕ) → basis (λ c. back_from_top G (c * 2 ^ k)) n ≡ B → {c m v : ℕ} → c < 2 ^ n → c ≡ m
-      → v ≡ linear_map B m
-      → v ≡ back_from_top G (c * 2 ^ k)
-  by-sum k n B e {c} {m} {v} h key f =
-      f ∙ ap (linear_map B) (sym key)
-      ∙ sym (by-basis n (λ x. back_from_top G (x * 2 ^ k)) (moved-additive k) c h ∙ ap (λ (l : List ℕ). linear_map l c) e)

@@ -1,5 +1,4 @@
--- Why: a row is the sum of its basis; where the generators are zero.
+-- Why: a row of a table is what comes back from the top, and so is the sum of five; where the generators are zero.
 pub mod Bases
-pub mod Bases5
-pub mod Bases8
+pub mod Tables
 pub mod Zeros

@@ -3,15 +3,13 @@
 --   generator_of t     the generator of strength t as a number, its binary digits the coefficients
 --   generator_at t     the same with its degree, 11 t
 --   back_from_top G t   the remainder by G of t x^d, d its degree
---   remainder_of r     the number that a row of strength 8 holds in two parts
 --   odd_power k        a^(2k+1): the generator of strength t is zero at those with k below t
 -- Assumes nothing.
-use Rattle.std.specs.Prelude.{ℕ, suc, ◌+◌, ◌-◌, ◌*◌, ◌^◌, get_or}
+use Rattle.std.specs.Prelude.{ℕ, suc, ◌-◌, ◌*◌, get_or}
 use Rattle.algebra.specs.Field.{power}
 use Rattle.field.specs.Field.{Field, field_of, reduce, size}
 use Rattle.corrector_code.specs.Eleven.{F11}
 use Rattle.corrector_generator.specs.Polynomials.{polynomials}
-use Rattle.corrector_generator.specs.declared.Remainder.{Remainder}
 
 -- the generator of strength t, as a number
 unfoldable pub generator_of : ℕ → ℕ
@@ -24,10 +22,6 @@ generator_at t = field_of (11 * t) (generator_of t)
 -- the remainder of t x^d
 unfoldable pub back_from_top : Field → ℕ → ℕ
 back_from_top G t = reduce G (t * size G)
-
--- the number that a row holds
-abbrev pub remainder_of : Remainder → ℕ
-remainder_of r = r.1 * 2 ^ 64 + r.0
 
 -- a^(2k+1)
 unfoldable pub odd_power : ℕ → ℕ

@@ -1,5 +1,4 @@
--- Why: the tables, the loops, the registers of a run, and the squares.
-pub mod Tabled
+-- Why: the loops, the registers of a run, and the squares.
 pub mod Loops
 pub mod Fine
 pub mod Turns

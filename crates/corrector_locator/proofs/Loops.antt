@@ -7,7 +7,7 @@
 -- Assumes nothing.
 use mathlib.Core.Path.{◌≡◌, refl, sym, ap, ap₂, ◌∙◌}
 use mathlib.Core.List.{List, [], ◌∷◌, ◌++◌, map}
-use Prim.Native.Nat.{ℕ, zero, suc, ◌+◌, ◌-◌, ◌≤◌, ◌<◌}
+use Prim.Native.Nat.{ℕ, zero, suc, ◌+◌, ◌-◌, ◌≤◌, ◌<◌, min}
 use native.Mathlib.Nat.{not-suc-le-zero, le_of_suc-le-suc}
 use native.Mathlib.Numerals.{add-one}
 use native.Mathlib.Decide.{dec_le}
@@ -77,8 +77,8 @@ unfolding conv
 convolve-short {p} {s} {k} {d} {i} w h l =
     sym (xor_zero_r d) ∙ ap (bit_xor d) (sym (ap (λ q. conv F11 q s (k - i)) (drop_of_length-le p {i = i} h))) ∙ w.some l
 
-pub convolve-end : {p : List ℕ} {s : ℕ → ℕ} {k d i : ℕ} → Convolving p s k d i → length p ≤ i → d ≡ conv F11 p s k
-convolve-end {p} {s} {k} {d} {i} w h = elim (dec_le i k) [ yes l ↦ convolve-short w h l | no l ↦ w.all (omega arith) ]
+pub convolve-end : {p : List ℕ} {s : ℕ → ℕ} {k d i : ℕ} → Convolving p s k d i → min (length p) (k + 1) ≤ i → d ≡ conv F11 p s k
+convolve-end {p} {s} {k} {d} {i} w h = elim (dec_le i k) [ yes l ↦ convolve-short w (omega arith) l | no l ↦ w.all (omega arith) ]
 
 -- ---- shifted
 

@@ -1,24 +1,17 @@
 -- What the key equation's code takes and gives, in field 11.
 -- Laws and inner contracts alone cite it: what the corrector promises does not rest on it.
 --   Under           each number of a list is an element
---   Tables          the tables of the products: logs and antilogs
 --   register_of      the register that a state holds;  Sound  a state of elements, early enough for two more
 --   PowerSums       1, the odd power sums in their places, and even ones as squares
 -- Assumes nothing.
 use Rattle.std.specs.Prelude.{◌≡◌, List, ℕ, suc, ◌*◌, ◌<◌, get_or, length}
 use Rattle.field.specs.Field.{field_at, mul}
-use Rattle.field.specs.Tables.{Logs, Antilogs}
 use Rattle.corrector_code.specs.Key.{Register}
 use Rattle.corrector_locator.specs.declared.State.{State}
 
 -- elements of field 11
 abbrev pub Under : List ℕ → Type 0
 Under p = (k : ℕ) → get_or p k 0 < 2048
-
--- the tables of the products
-pub record Tables (ls ts : List ℕ) : Type 0 where
-  pub logs : Logs (field_at 11) ls
-  pub antilogs : Antilogs (field_at 11) ts
 
 -- the register that a state holds
 abbrev pub register_of : State → Register ℕ

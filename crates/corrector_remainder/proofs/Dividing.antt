@@ -1,11 +1,9 @@
 -- Division of a word by a generator G, whatever its degree d, four bytes at a time.
---   top_back                 t leaves a register of d digits at the top: its remainder is added to what stays
---   Brought, brought         the rows at the five parts of what leaves, and their sum
---   six                      a sum of six, from the left and from the right
+--   next-is                  t leaves a register of d digits at the top: its remainder is added to what stays
 --   four_at word k            the number of the four bytes from place k on
 --   Resting, rest-start, rest-turn, rest_end   the loop: what is held is the remainder of the bytes from i on
 -- Assumes nothing.
-use mathlib.Core.Path.{◌≡◌, refl, sym, ap, ap₂, ◌∙◌}
+use mathlib.Core.Path.{◌≡◌, refl, sym, ap, ◌∙◌}
 use mathlib.Core.List.{List, []}
 use Prim.Native.Nat.{ℕ, zero, suc, ◌+◌, ◌*◌, ◌/◌, ◌%◌, ◌^◌, ◌≤◌, ◌<◌}
 use native.Mathlib.Nat.{mul-one, pow-suc, mul_assoc}
@@ -14,26 +12,9 @@ use lib.Bits.{bit_xor, xor_comm, xor_shifted}
 use lib.ListN.{length, get_or, drop}
 use lib.Seq.{drop-cons, drop-length}
 use Rattle.field.specs.Field.{Field, size, cut, reduce}
-use Rattle.field.proofs.Xor.{xor_assoc}
 use Rattle.field.proofs.Reduce.{reduce-xor, reduce-below, reduce-again, reduce-double, reduce-zero}
 use Rattle.corrector_code.specs.Digits.{bytes_number}
 use Rattle.corrector_generator.specs.Generators.{back_from_top}
-use Rattle.corrector_generator.proofs.Bases.{back_from_top-additive}
-
--- a sum of six, from the left and from the right
-pub six : (x p q r s t : ℕ)
-    → bit_xor (bit_xor (bit_xor (bit_xor (bit_xor x p) q) r) s) t ≡ bit_xor x (bit_xor p (bit_xor q (bit_xor r (bit_xor s t))))
-six x p q r s t =
-    xor_assoc (bit_xor (bit_xor (bit_xor x p) q) r) s t ∙ xor_assoc (bit_xor (bit_xor x p) q) r (bit_xor s t)
-    ∙ xor_assoc (bit_xor x p) q (bit_xor r (bit_xor s t)) ∙ xor_assoc x p (bit_xor q (bit_xor r (bit_xor s t)))
-
--- the rows at the five parts of what leaves
-pub record Brought (G : Field) (t c d e f g : ℕ) : Type 0 where
-  pub at0 : c ≡ back_from_top G (t % 128 * 1)
-  pub at7 : d ≡ back_from_top G (t / 128 % 128 * 128)
-  pub at14 : e ≡ back_from_top G (t / 16384 % 64 * 16384)
-  pub at20 : f ≡ back_from_top G (t / 1048576 % 64 * 1048576)
-  pub at26 : g ≡ back_from_top G (t / 67108864 % 64 * 67108864)
 
 -- what is held at byte i: the remainder of the bytes from there on
 pub record Resting (G : Field) (word : List ℕ) (n i : ℕ) : Type 0 where
@@ -69,31 +50,16 @@ four_bytes word k i back h =
 
 module _ (G : Field) where
   -- WHAT LEAVES AT THE TOP COMES BACK
-  pub top_back : (t B : ℕ) → B < size G → bit_xor B (back_from_top G t) ≡ reduce G (t * size G + B)
+  top_back : (t B : ℕ) → B < size G → bit_xor B (back_from_top G t) ≡ reduce G (t * size G + B)
   unfolding back_from_top
   top_back t B h =
       ap (λ (y : ℕ). bit_xor y (reduce G (t * size G))) (sym (reduce-below G B h)) ∙ sym (reduce-xor G B (t * size G))
       ∙ ap (reduce G) (xor_comm B (t * size G) ∙ xor_shifted t G.degree B h)
 
-  -- the lowest digits of what is left, and those above
-  part : (k t u v : ℕ) → u < 2 ^ k → v * 2 ^ k + u ≡ t
-      → back_from_top G t ≡ bit_xor (back_from_top G u) (back_from_top G (v * 2 ^ k))
-  part k t u v h e =
-      ap (back_from_top G) (sym e ∙ sym (xor_shifted v k u h) ∙ xor_comm (v * 2 ^ k) u)
-      ∙ back_from_top-additive G u (v * 2 ^ k)
-
-  -- 32 digits in five parts
-  pub brought : {t c d e f g : ℕ} → t < 2 ^ 32 → Brought G t c d e f g
-      → bit_xor c (bit_xor d (bit_xor e (bit_xor f g))) ≡ back_from_top G t
-  brought {t} {c} {d} {e} {f} {g} h r =
-      let p₀ = part 7 t (t % 128 * 1) (t / 128) (omega arith) (omega arith) in
-      let p₁ = part 14 (t / 128 * 2 ^ 7) (t / 128 % 128 * 128) (t / 16384) (omega arith) (omega arith) in
-      let p₂ = part 20 (t / 16384 * 2 ^ 14) (t / 16384 % 64 * 16384) (t / 1048576) (omega arith) (omega arith) in
-      let p₃ =
-      part 26 (t / 1048576 * 2 ^ 20) (t / 1048576 % 64 * 1048576) (t / 67108864 % 64) (omega arith) (omega arith) in
-      ap₂ bit_xor r.at0 (ap₂ bit_xor r.at7 (ap₂ bit_xor r.at14 (ap₂ bit_xor r.at20 r.at26)))
-      ∙ sym (p₀ ∙ ap (bit_xor (back_from_top G (t % 128 * 1))) (p₁ ∙ ap (bit_xor (back_from_top G (t / 128 % 128 * 128)))
-      (p₂ ∙ ap (bit_xor (back_from_top G (t / 16384 % 64 * 16384))) p₃)))
+  -- FOUR BYTES MORE: t leaves, and below it B stays
+  pub next-is : (t B x b : ℕ) {c : ℕ} → B < size G → t * size G + B ≡ x * 2 ^ 32 + b → c ≡ back_from_top G t
+      → bit_xor B c ≡ reduce G (x * 2 ^ 32 + b)
+  next-is t B x b h sum e = ap (bit_xor B) e ∙ top_back t B h ∙ ap (reduce G) sum
 
   -- no byte yet
   pub rest-start : (word : List ℕ) {n : ℕ} → length word ≡ 256 → n ≡ 0 → Resting G word n 256

@@ -1,17 +1,18 @@
 -- Digits cut one by one: what is left fits the degree of the polynomial that cuts, and has the same values where that
 -- is zero.
---   cut-yes, cut-no                 one digit: cut or not
+--   cut_at top g x                  x, with g added where x has a digit from top on
+--   lowered n d g x                 n digits of x, from the highest down to digit d, cut by g, g/2, g/4, ..
 --   lowered-below, lowered-values   what is left
 --   lessened-lowered                the lesser each time is the number with the digit cut
 -- Assumes nothing.
 use mathlib.Core.Path.{◌≡◌, refl, sym, ap, ap₂, ◌∙◌, subst}
 use mathlib.Core.Bool.{Bool, cond}
-use Prim.Native.Nat.{ℕ, zero, suc, ◌+◌, ◌*◌, ◌/◌, ◌^◌, ◌≤◌, ◌<◌}
+use Prim.Native.Nat.{ℕ, zero, suc, ◌+◌, ◌*◌, ◌/◌, ◌^◌, ◌≤◌, ◌<◌, min}
 use native.Mathlib.Nat.{add-zero, add-suc, add_comm, one-mul, pow-suc, mul_comm, div-lt_iff_lt-mul}
 use native.Mathlib.Decide.{dec_le, dec_lt}
 use native.Mathlib.Omega.{arith}
-use borrow.Author.Tests.{le-leb, lt-leb, le-ltb, lt-ltb}
-use lib.Dec.{ltb}
+use borrow.Author.Tests.{le-leb, lt-leb}
+use lib.Dec.{leb}
 use lib.Bits.{bit_xor, xor_zero_r, xor_shr, shifted_half}
 use lib.Pow.{pow_pos, shr-shr, shl-shr}
 use Rattle.field.specs.Field.{field_at, mul}
@@ -20,7 +21,16 @@ use Rattle.field.proofs.Generator.{one_below}
 use Rattle.corrector_code.specs.Digits.{value_of_digits}
 use Rattle.corrector_code.proofs.Eleven.{gen11}
 use Rattle.corrector_code.proofs.Values.{value_of_digits-zero, value_of_digits-xor, value_of_digits-join}
-use Rattle.corrector_remainder.specs.Remainder.{cut_at, lowered, lesser, lessened}
+use Rattle.corrector_remainder.specs.Remainder.{lessened}
+
+-- one digit cut
+unfoldable pub cut_at : ℕ → ℕ → ℕ → ℕ
+cut_at top g x = cond (leb top x) (bit_xor x g) x
+
+-- n digits cut, the last at d
+unfoldable pub lowered : ℕ → ℕ → ℕ → ℕ → ℕ
+lowered zero d g x = x
+lowered (suc n) d g x = lowered n d (g / 2) (cut_at (2 ^ (d + n)) g x)
 
 -- the value at z of the polynomial with the binary digits of n
 abbrev value_at : ℕ → ℕ → ℕ
@@ -28,11 +38,11 @@ value_at z n = value_of_digits (field_at 11) z n
 
 -- ---- one digit
 
-pub cut-yes : (top g x : ℕ) → top ≤ x → cut_at top g x ≡ bit_xor x g
+cut-yes : (top g x : ℕ) → top ≤ x → cut_at top g x ≡ bit_xor x g
 unfolding cut_at
 cut-yes top g x h = ap (λ (b : Bool). cond b (bit_xor x g) x) (le-leb top x h)
 
-pub cut-no : (top g x : ℕ) → x < top → cut_at top g x ≡ x
+cut-no : (top g x : ℕ) → x < top → cut_at top g x ≡ x
 unfolding cut_at
 cut-no top g x h = ap (λ (b : Bool). cond b (bit_xor x g) x) (lt-leb top x h)
 
@@ -80,20 +90,21 @@ module _ (p d : ℕ) (monic : p / 2 ^ d ≡ 1) where
       (subst (λ (y : ℕ). cut_at (2 ^ (d + n)) y x < 2 ^ (d + n)) (sym f) (cut_below n x h))
 
   -- with the digit cut a number is less; with the digit added it is not
-  least-cut : (n x : ℕ) → x < 2 ^ (d + suc n) → lesser x (bit_xor x (p * 2 ^ n)) ≡ cut_at (2 ^ (d + n)) (p * 2 ^ n) x
-  unfolding lesser
+  least-cut : (n x : ℕ) → x < 2 ^ (d + suc n) → min x (bit_xor x (p * 2 ^ n)) ≡ cut_at (2 ^ (d + n)) (p * 2 ^ n) x
   least-cut n x h = go (dec_le (2 ^ (d + n)) x)
     where
-      go : Dec (2 ^ (d + n) ≤ x) → cond (ltb (bit_xor x (p * 2 ^ n)) x) (bit_xor x (p * 2 ^ n)) x ≡ cut_at (2 ^ (d + n)) (p * 2 ^ n) x
+      go : Dec (2 ^ (d + n) ≤ x) → min x (bit_xor x (p * 2 ^ n)) ≡ cut_at (2 ^ (d + n)) (p * 2 ^ n) x
       go (yes l) =
           let e = cut-yes (2 ^ (d + n)) (p * 2 ^ n) x l in
           let s : bit_xor x (p * 2 ^ n) < 2 ^ (d + n) = subst (λ (z : ℕ). z < 2 ^ (d + n)) e (cut_below n x h) in
-          ap (λ (b : Bool). cond b (bit_xor x (p * 2 ^ n)) x) (lt-ltb (bit_xor x (p * 2 ^ n)) x (omega arith)) ∙ sym e
+          let m : min x (bit_xor x (p * 2 ^ n)) ≡ bit_xor x (p * 2 ^ n) = omega arith in
+          m ∙ sym e
       go (no l) =
           let q : x / 2 ^ (d + n) < 1 = (div-lt_iff_lt-mul (pow_pos (d + n))).1 (subst (λ (z : ℕ). x < z) (sym (one-mul (2 ^ (d + n)))) (omega arith)) in
           let one : bit_xor x (p * 2 ^ n) / 2 ^ (d + n) ≡ 1 = xor_shr x (p * 2 ^ n) (d + n) ∙ ap₂ bit_xor (let z : x / 2 ^ (d + n) ≡ 0 = omega arith in z) (moved-top n) in
-          ap (λ (b : Bool). cond b (bit_xor x (p * 2 ^ n)) x) (le-ltb (bit_xor x (p * 2 ^ n)) x (reached one))
-          ∙ sym (cut-no (2 ^ (d + n)) (p * 2 ^ n) x (omega arith))
+          let r = reached one in
+          let m : min x (bit_xor x (p * 2 ^ n)) ≡ x = omega arith in
+          m ∙ sym (cut-no (2 ^ (d + n)) (p * 2 ^ n) x (omega arith))
         where
           reached : bit_xor x (p * 2 ^ n) / 2 ^ (d + n) ≡ 1 → x ≤ bit_xor x (p * 2 ^ n)
           reached one = far (dec_le (2 ^ (d + n)) (bit_xor x (p * 2 ^ n)))
@@ -109,7 +120,7 @@ module _ (p d : ℕ) (monic : p / 2 ^ d ≡ 1) where
   lessened-lowered zero g x e h = refl
   lessened-lowered (suc n) g x e h =
       let f : g ≡ p * 2 ^ n = e ∙ shifted_half p n in
-      ap (λ (y : ℕ). lessened n (g / 2) (lesser x (bit_xor x y))) f ∙ ap (lessened n (g / 2)) (least-cut n x h)
+      ap (λ (y : ℕ). lessened n (g / 2) (min x (bit_xor x y))) f ∙ ap (lessened n (g / 2)) (least-cut n x h)
       ∙ lessened-lowered n (g / 2) (cut_at (2 ^ (d + n)) (p * 2 ^ n) x) (ap (λ (y : ℕ). y / 2) f) (cut_below n x h)
       ∙ ap (λ (y : ℕ). lowered n d (g / 2) (cut_at (2 ^ (d + n)) y x)) (sym f)
 

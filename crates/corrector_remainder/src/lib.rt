@@ -1,218 +1,175 @@
 // The remainder of a word at a strength: a number of 11 t binary digits that has the values of the word at a, a^3, ..,
 // a^(2t-1). A word is divided by the generator of strength 5 or 8, four bytes at a time: the 32 digits that leave the
-// register at the top come back by the rows of corrector_generator. By that of strength 5 the remainder has 55 digits,
-// in one number, at two thirds of the cost. Its digits from 11 t on are then cut one by one.
+// register at the top come back by the tables of corrector_generator. By that of strength 5 the remainder has 55
+// digits, which fit 64 bits, at two thirds of the cost. Its digits from 11 t on are then cut one by one.
 #![tactic(auto)]
 
-ghost use Rattle.std.specs.Prelude.{◌≡◌, ◌+◌, ◌-◌, ◌*◌, ◌/◌, ◌^◌, ◌≤◌, ◌<◌, leb, length};
+ghost use Rattle.std.specs.Prelude.{◌≡◌, ℕ, ◌+◌, ◌-◌, ◌*◌, ◌/◌, ◌^◌, ◌≤◌, ◌<◌, bit_xor, length, min};
+ghost use Rattle.std.proofs.Common.{rules};
 ghost use Rattle.field.specs.Field.{reduce};
 ghost use Rattle.corrector_code.specs.Digits.{bytes_number};
-ghost use Rattle.corrector_generator.specs.Generators.{generator_at};
-ghost use Rattle.corrector_remainder.specs.Remainder.{rest_of, cut_at, lowered, lesser, lessened, RestAt};
+ghost use Rattle.corrector_generator.specs.Generators.{generator_of, generator_at};
+ghost use Rattle.corrector_remainder.specs.Remainder.{lessened, RestAt};
 
-mod raised; // the generators, as constants in place
+mod raised; // the generators, moved up
 
-use crate::raised::{raised5, raised8};
+use crate::raised::{RAISED5, RAISED8};
 use corrector_code::{CHECKS, WORD};
 use corrector_generator::{rows5, rows8};
-
-// Up to this strength the generator of strength 5 divides, in one number.
-const ONE_NUMBER: u16 = 5;
 
 // Four bytes have so many values.
 const FOUR_BYTES: u64 = 1 << 32;
 
-// The digits of the register in one number.
-const DIGITS5: u16 = CHECKS * 5;
-
-// The lowest of its digits that leave with four bytes more.
+// The lowest of 55 digits that leave with four bytes more.
 const LEAVING5: u64 = 1 << 23;
 
-// The digits of the register in two parts.
-const DIGITS8: u16 = CHECKS * 8;
+// The lowest of 88 digits that leave with four bytes more.
+const LEAVING8: u128 = 1 << 56;
 
-// Its highest digit, in the upper part.
-const HIGHEST8: u32 = 1 << 23;
+// A register of the remainders by the generator of a strength.
+trait Register: Copy + Drop {
+    // The strength of the generator.
+    const STRENGTH: u16;
 
-// The lowest of its digits that leave with four bytes more, in the lower part.
-const LEAVING8: u64 = 1 << 56;
+    ghost STRENGTH: { ℕ };
 
-// Its upper part is below this.
-const UPPER: u64 = 1 << 24;
+    // The number that is held.
+    ghost number: { Self → ℕ };
 
-// A remainder: lo + hi 2^64.
-#[derive(Clone, Copy)]
-pub struct Rest {
-    pub lo: u64,
-    pub hi: u32,
+    // No digit.
+    fn zero() -> Self
+        ensures { number result ≡ 0 };
+
+    // The generator of a strength t, moved up to the highest digit of the register, or where no digit is cut its half.
+    fn raised(t: u16) -> Self
+        requires { (1 ≤ t) × (t ≤ STRENGTH) }
+        ensures { number result ≡ generator_of t * 2 ^ (11 * (STRENGTH - t)) / 2 };
+
+    // Four bytes more: the remainder of r x^32 + b.
+    fn next(self, b: u32) -> Self
+        requires { number self < 2 ^ (11 * STRENGTH) }
+        ensures { number result ≡ reduce (generator_at STRENGTH) (number self * 2 ^ 32 + b) };
+
+    // The lesser of a number and the same with g added.
+    fn cut(self, g: Self) -> Self
+        ensures { number result ≡ min (number self) (bit_xor (number self) (number g)) };
+
+    // Half of a number, rounded down.
+    fn halved(self) -> Self
+        ensures { number result ≡ number self / 2 };
+
+    // There is a generator.
+    ghost known: { (1 ≤ STRENGTH) × (STRENGTH ≤ 8) };
 }
 
-// Four bytes as a number.
-fn four(a: u8, b: u8, c: u8, d: u8) -> u64
-    ensures { (result ≡ a + b * 256 + c * 65536 + d * 16777216) × (result < 2 ^ 32) }
-{
-    a as u64 + b as u64 * 256 + c as u64 * 65536 + d as u64 * 16777216
-}
+impl Register for u64 {
+    const STRENGTH: u16 = 5;
 
-// Four bytes more: the remainder of r x^32 + b by the generator of strength 8.
-fn rest8_on(r: Rest, b: u64) -> Rest
-    requires { (r.hi < 2 ^ 24) × (b < 2 ^ 32) }
-    ensures { rest_of result ≡ reduce (generator_at 8) (rest_of r * 2 ^ 32 + b) }
-{
-    let t = r.hi as u64 * 256 + r.lo / LEAVING8;
-    let c = rows8::row0(t % 128);
-    let d = rows8::row7(t / 128 % 128);
-    let e = rows8::row14(t / 16384 % 64);
-    let f = rows8::row20(t / 1048576 % 64);
-    let g = rows8::row26(t / 67108864 % 64);
-    let lo = r.lo % FOUR_BYTES * FOUR_BYTES + b;
-    let hi = (r.lo / FOUR_BYTES % UPPER) as u32;
-    Rest {
-        lo: lo ^ c.0 ^ d.0 ^ e.0 ^ f.0 ^ g.0,
-        hi: hi ^ c.1 ^ d.1 ^ e.1 ^ f.1 ^ g.1,
+    ghost STRENGTH = { 5 };
+
+    ghost number = { λ r. r };
+
+    ghost known = { Prim.search rules };
+
+    fn zero() -> u64 {
+        0
+    }
+
+    fn raised(t: u16) -> u64 {
+        RAISED5[t as usize - 1]
+    }
+
+    fn next(self, b: u32) -> u64 {
+        let back = rows5::back((self / LEAVING5) as u32);
+        (self % LEAVING5 * FOUR_BYTES + u64::from(b)) ^ back
+    }
+
+    fn cut(self, g: u64) -> u64 {
+        self.min(self ^ g)
+    }
+
+    fn halved(self) -> u64 {
+        self / 2
     }
 }
 
-// The remainder of a word by the generator of strength 8, its last bytes first.
-pub fn rest8(word: &[u8]) -> Rest
-    requires { length word.now ≡ 256 }
-    ensures { rest_of result ≡ reduce (generator_at 8) (bytes_number word.now) }
-{
-    let mut r = Rest { lo: 0, hi: 0 };
-    let mut i = WORD;
-    while i > 0 {
-        i -= 4;
-        let b = four(word[i], word[i + 1], word[i + 2], word[i + 3]);
-        r = rest8_on(r, b);
+impl Register for u128 {
+    const STRENGTH: u16 = 8;
+
+    ghost STRENGTH = { 8 };
+
+    ghost number = { λ r. r };
+
+    ghost known = { Prim.search rules };
+
+    fn zero() -> u128 {
+        0
     }
-    r
+
+    fn raised(t: u16) -> u128 {
+        RAISED8[t as usize - 1]
+    }
+
+    fn next(self, b: u32) -> u128 {
+        let back = rows8::back((self / LEAVING8) as u32);
+        (self % LEAVING8 * FOUR_BYTES as u128 + u128::from(b)) ^ back
+    }
+
+    fn cut(self, g: u128) -> u128 {
+        (self ^ g).min(self)
+    }
+
+    fn halved(self) -> u128 {
+        self / 2
+    }
 }
 
-// Four bytes more: the remainder of r x^32 + b by the generator of strength 5.
-fn rest5_on(r: u64, b: u64) -> u64
-    requires { (r < 2 ^ 55) × (b < 2 ^ 32) }
-    ensures { result ≡ reduce (generator_at 5) (r * 2 ^ 32 + b) }
-{
-    let t = r / LEAVING5;
-    let c = rows5::row0(t % 128);
-    let d = rows5::row7(t / 128 % 128);
-    let e = rows5::row14(t / 16384 % 64);
-    let f = rows5::row20(t / 1048576 % 64);
-    let g = rows5::row26(t / 67108864 % 64);
-    (r % LEAVING5 * FOUR_BYTES) ^ b ^ c ^ d ^ e ^ f ^ g
-}
-
-// The remainder of a word by the generator of strength 5, its last bytes first. With the place written as 4 k the
+// The remainder of a word by the generator of a register, its last bytes first. With the place written as 4 k the
 // compiler reads four bytes as one.
-fn rest5(word: &[u8]) -> u64
+fn rest<R: Register>(word: &[u8]) -> R
     requires { length word.now ≡ 256 }
-    ensures { result ≡ reduce (generator_at 5) (bytes_number word.now) }
+    ensures { R.number result ≡ reduce (generator_at R.STRENGTH) (bytes_number word.now) }
 {
-    let mut r: u64 = 0;
-    let mut k = WORD / 4;
-    while k > 0 {
-        k -= 1;
+    let mut r = R::zero();
+    for k in (0..WORD / 4).rev() {
         let i = 4 * k;
-        let next = four(word[i], word[i + 1], word[i + 2], word[i + 3]);
-        r = rest5_on(r, next);
+        let four = u32::from_le_bytes([word[i], word[i + 1], word[i + 2], word[i + 3]]);
+        r = r.next(four);
     }
     r
-}
-
-// Half of a number, rounded down.
-fn halved(x: Rest) -> Rest
-    ensures { rest_of result ≡ rest_of x / 2 }
-{
-    Rest {
-        lo: x.lo / 2 + (x.hi % 2) as u64 * (1 << 63),
-        hi: x.hi / 2,
-    }
-}
-
-// Is a number at least this?
-fn reaches(x: Rest, top: Rest) -> bool
-    ensures { result ≡ leb (rest_of top) (rest_of x) }
-{
-    if x.hi < top.hi {
-        return false;
-    }
-    if top.hi < x.hi {
-        return true;
-    }
-    top.lo <= x.lo
-}
-
-// A number with g added where it has a digit from top on.
-fn cut8(x: Rest, g: Rest, top: Rest) -> Rest
-    ensures { rest_of result ≡ cut_at (rest_of top) (rest_of g) (rest_of x) }
-{
-    if reaches(x, top) {
-        return Rest {
-            lo: x.lo ^ g.lo,
-            hi: x.hi ^ g.hi,
-        };
-    }
-    x
-}
-
-// The digits of a number from 87 down to d, cut by g, g/2, g/4, ..
-fn lower8(x: Rest, g: Rest, d: u16) -> Rest
-    requires { d ≤ 88 }
-    ensures { rest_of result ≡ lowered (88 - d) d (rest_of g) (rest_of x) }
-{
-    let mut r = x;
-    let mut h = g;
-    let mut top = Rest {
-        lo: 0,
-        hi: HIGHEST8,
-    };
-    let mut k = DIGITS8;
-    while k > d {
-        r = cut8(r, h, top);
-        h = halved(h);
-        top = halved(top);
-        k -= 1;
-    }
-    r
-}
-
-// The lesser of two numbers.
-fn least(x: u64, y: u64) -> u64
-    ensures { result ≡ lesser x y }
-{
-    if y < x {
-        return y;
-    }
-    x
 }
 
 // The n highest digits of a number, cut by g, g/2, g/4, ..: with g added it is less where it has the highest digit of
 // g. Without a branch this takes half the instructions.
-fn lower5(x: u64, g: u64, n: u16) -> u64
-    ensures { result ≡ lessened n g x }
+fn lower<R: Register>(x: R, g: R, n: u16) -> R
+    ensures { R.number result ≡ lessened n (R.number g) (R.number x) }
 {
     let mut r = x;
     let mut h = g;
-    let mut k = n;
-    while k > 0 {
-        r = least(r, r ^ h);
-        h = h / 2;
-        k -= 1;
+    for _ in 0..n {
+        r = r.cut(h);
+        h = h.halved();
     }
     r
 }
 
+// The remainder of a word at a strength t, in a register of at least that strength.
+fn remainder_in<R: Register>(strength: u16, word: &[u8]) -> R
+    requires { (length word.now ≡ 256) × (1 ≤ strength) × (strength ≤ R.STRENGTH) }
+    ensures { RestAt strength (bytes_number word.now) (R.number result) }
+{
+    let n = CHECKS * (R::STRENGTH - strength);
+    lower(rest::<R>(word), R::raised(strength), n)
+}
+
 // The remainder of a word at a strength t: 11 t digits, with the values of the word at a, a^3, .., a^(2t-1). Where it
 // is 0 the word is a codeword of that strength.
-pub fn remainder_of(strength: u16, word: &[u8]) -> Rest
+pub fn remainder_of(strength: u16, word: &[u8]) -> u128
     requires { (length word.now ≡ 256) × (1 ≤ strength) × (strength ≤ 8) }
-    ensures { RestAt strength (bytes_number word.now) (rest_of result) }
+    ensures { RestAt strength (bytes_number word.now) result }
 {
-    if strength <= ONE_NUMBER {
-        return Rest {
-            lo: lower5(rest5(word), raised5(strength), DIGITS5 - CHECKS * strength),
-            hi: 0,
-        };
+    if strength <= u64::STRENGTH {
+        return u128::from(remainder_in::<u64>(strength, word));
     }
-    lower8(rest8(word), raised8(strength), CHECKS * strength)
+    remainder_in::<u128>(strength, word)
 }

@@ -1,42 +1,23 @@
-// The generators, moved up to the highest digit of a register of 88 or 55 binary digits.
-// Written by tools/generator_rows.py.
-ghost use Rattle.std.specs.Prelude.{◌≡◌, ◌-◌, ◌*◌, ◌/◌, ◌^◌, ◌≤◌};
-ghost use Rattle.corrector_generator.specs.Generators.{generator_of};
-ghost use Rattle.corrector_remainder.specs.Remainder.{rest_of};
+// The generators from strength 1 on, moved up to the highest digit of a register. At the register's own strength, where
+// no digit is cut, the half. Written by tools/generator_rows.py.
 
-use crate::Rest;
+// The highest digit is digit 54.
+pub static RAISED5: [u64; 5] = [
+    18058378974593024,
+    20553931067228160,
+    21938889704865792,
+    21572689693967360,
+    30000458236481382,
+];
 
-// The generator of a strength from 6 to 8, its highest digit at 87; at strength 8, where no digit is cut, its half.
-pub fn raised8(t: u16) -> Rest
-    requires { (6 ≤ t) × (t ≤ 8) }
-    ensures { rest_of result ≡ generator_of t * 2 ^ (88 - 11 * t) / 2 }
-{
-    match t {
-        6 => Rest {
-            lo: 17685532433188913152,
-            hi: 9480946,
-        },
-        7 => Rest {
-            lo: 5472603139612443648,
-            hi: 9853745,
-        },
-        _ => Rest {
-            lo: 16505970006811916009,
-            hi: 8609801,
-        },
-    }
-}
-
-// The generator of a strength from 1 to 5, its highest digit at 54; at strength 5, where no digit is cut, its half.
-pub fn raised5(t: u16) -> u64
-    requires { (1 ≤ t) × (t ≤ 5) }
-    ensures { result ≡ generator_of t * 2 ^ (55 - 11 * t) / 2 }
-{
-    match t {
-        1 => 18058378974593024,
-        2 => 20553931067228160,
-        3 => 21938889704865792,
-        4 => 21572689693967360,
-        _ => 30000458236481382,
-    }
-}
+// The highest digit is digit 87.
+pub static RAISED8: [u128; 8] = [
+    155120294229302105979486208,
+    176556923475966649140510720,
+    188453627585899337418276864,
+    185307993444692119382917120,
+    257701973981402743900733440,
+    174892602124192711744421888,
+    181769517655198265300845568,
+    158822812078538578024904425,
+];

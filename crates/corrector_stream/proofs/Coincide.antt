@@ -7,6 +7,7 @@ use mathlib.Core.List.{List, [], ◌∷◌}
 use Prim.Native.Nat.{ℕ}
 use native.Mathlib.Omega.{arith}
 use lib.ListN.{length, get_or}
+use Rattle.std.specs.Prelude.{⊤, Option, None, Result, Err}
 use Rattle.slices.specs.Lists.{copied}
 use Rattle.refusals.specs.Numbers.{number_of}
 use Rattle.refusals.specs.declared.Refusal.{Refusal}
@@ -16,22 +17,21 @@ use Rattle.corrector.proofs.Coincide as correcting
 use Rattle.corrector.proofs.Contract.{found-codeword}
 use Rattle.corrector_encoder.proofs.Coincide as encoding
 use Rattle.corrector_stream.specs.Words.{Carries}
-use Rattle.corrector_stream.specs.Calls.{CapacityIs, Packs, Unpacks}
+use Rattle.corrector_stream.specs.Calls.{CapacityIs, Packs, Unpacks, answer}
 use Rattle.corrector_stream.specs.Calls.CapacityIs.{of-strength, of_none}
 use Rattle.corrector_stream.specs.Calls.Packs.{no_block, no-strength, unfit, packed}
 use Rattle.corrector_stream.specs.Calls.Unpacks.{no_room, refused, strange, given}
-use Rattle.corrector_stream.specs.declared.Packed.{Packed}
+use Rattle.corrector_stream.specs.declared.PackError.{PackError}
 use Rattle.corrector_stream.specs.declared.Unpacked.{Unpacked}
-use Rattle.corrector_stream.specs.declared.Unpacked.TheVariants.{Strange, NotUnpacked}
 use Rattle.corrector_stream.proofs.Shapes.{carried-unique}
 
-pub capacity-coincide : {t m n : ℕ} → CapacityIs t m → CapacityIs t n → m ≡ n
+pub capacity-coincide : {t : ℕ} {m n : Option ℕ} → CapacityIs t m → CapacityIs t n → m ≡ n
 capacity-coincide (of-strength s) (of-strength r) = refl
 capacity-coincide (of-strength s) (of_none x) = absurd (x s)
 capacity-coincide (of_none x) (of-strength s) = absurd (x s)
 capacity-coincide (of_none x) (of_none y) = refl
 
-pub pack-coincide : {t : ℕ} {d : List ℕ} {last : Bool} {word : List ℕ} {r s : Packed} {a b : List ℕ}
+pub pack-coincide : {t : ℕ} {d : List ℕ} {last : Bool} {word : List ℕ} {r s : Result ⊤ PackError} {a b : List ℕ}
     → Packs t d last word r a → Packs t d last word s b → (r ≡ s) × (a ≡ b)
 pack-coincide (no_block x) (no_block y) = (refl, refl)
 pack-coincide (no_block x) (no-strength l y) = absurd (x l)
@@ -51,10 +51,10 @@ pack-coincide (packed l s f x) (unfit k r y) = absurd (y f)
 pack-coincide (packed l s f x) (packed k r g y) = (refl, (encoding.outcomes-coincide x y).1)
 
 -- a refusal is told by its number
-refusal-told : (j k : Refusal) → number_of j ≡ number_of k → NotUnpacked j ≡ NotUnpacked k
+refusal-told : (j k : Refusal) → number_of j ≡ number_of k → ◌≡◌ {A = Result Unpacked Refusal} (Err j) (Err k)
 refusal-told j k e =
-    sym (refused-back NotUnpacked (Strange 0) j) ∙ ap (by_number NotUnpacked (Strange 0)) e
-    ∙ refused-back NotUnpacked (Strange 0) k
+    let none : Result Unpacked Refusal = answer 0 None in
+    sym (refused-back Err none j) ∙ ap (by_number Err none) e ∙ refused-back Err none k
 
 -- what is turned away is not corrected
 pub two_ways : {A : Type 0} {t k n : ℕ} {word u v : List ℕ} → Corrects t word (k, []) u
@@ -77,7 +77,7 @@ one-content {t} {m} {n} {word} {u} {v} {d} {e} {last} {more} x y c g =
     let w = (one_word x y).1 in
     carried-unique {e = e} {more = more} b.1 b.0 c (rw w g)
 
-pub unpack-coincide : {t : ℕ} {word room : List ℕ} {r s : Unpacked} {a b p q : List ℕ} → Unpacks t word room r a p
+pub unpack-coincide : {t : ℕ} {word room : List ℕ} {r s : Result Unpacked Refusal} {a b p q : List ℕ} → Unpacks t word room r a p
     → Unpacks t word room s b q → (r ≡ s) × (a ≡ b) × (p ≡ q)
 unpack-coincide (no_room s x) (no_room r y) = (refl, refl, refl)
 unpack-coincide (no_room s x) (refused o y) = absurd (let h = o s in omega arith)
@@ -91,7 +91,7 @@ unpack-coincide (refused o x) (strange i y z) = two_ways x y
 unpack-coincide (refused o x) (given i y z) = two_ways x y
 unpack-coincide (strange o x z) (no_room s y) = absurd (let h = o s in omega arith)
 unpack-coincide (strange o x z) (refused i y) = two_ways y x
-unpack-coincide (strange o x z) (strange i y w) = let e = one_word x y in (ap Strange e.0, e.1, refl)
+unpack-coincide (strange o x z) (strange i y w) = let e = one_word x y in (ap (λ (n : ℕ). answer n None) e.0, e.1, refl)
 unpack-coincide (strange o x z) (given {d = d} {last = last} i y c) =
     absurd (let e = one_word x y in z d last (rw e.1 c))
 unpack-coincide (given o x c) (no_room s y) = absurd (let h = o s in omega arith)

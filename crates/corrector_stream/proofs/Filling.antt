@@ -1,59 +1,45 @@
 -- How a word is filled: zeros, the data over them, and in the last word the end byte and the mark.
---   cleared     zeros copied over a word
 --   laid_out    data copied over zeros
 --   laid-full   where the data fill the word, that is the content
 --   laid-last   in the last word with the end byte and the mark
 --   filled-full, filled-last   so, as the code has them
---   fills-by, fills-not        what the test of the length says
---   no-capacity, some-capacity   what has no capacity is no strength, and what has one is
---   pack-done   what the encoder makes of the content
+--   sized, unsized   what has a capacity is a strength, and what has none is not
+--   passed-as   the error that a `?` passes on
+--   pack-done   what the encoder makes of the content;  pack-never  it turns none away
 -- Assumes nothing.
 use mathlib.Core.Path.{◌≡◌, refl, sym, ap, ap₂, ◌∙◌, subst}
 use mathlib.Core.Bool.{Bool, true, false}
-use mathlib.Core.List.{List, [], ◌∷◌, ◌++◌, append_assoc, append-nil}
-use Prim.Native.Nat.{ℕ, suc, ◌+◌, ◌-◌, ◌≤◌}
+use mathlib.Core.List.{List, [], ◌∷◌, ◌++◌, append_assoc}
+use Prim.Native.Nat.{ℕ, suc, ◌+◌, ◌-◌, ◌*◌, ◌≤◌}
 use native.Mathlib.Omega.{arith}
-use lib.ListN.{length, take, drop, set, replicate, length-append, length-drop, drop_of_length-le, length-replicate}
-use lib.ListN.{replicate-append-replicate}
-use lib.Seq.{take-length, set_at}
+use borrow.Rule.Slice.PartMut.{put_mid}
+use lib.ListN.{length, take, drop, set, replicate, length-append, length-replicate, replicate-append-replicate}
+use lib.Seq.{set_at}
+use Rattle.std.specs.Prelude.{Option, Result, Ok, Err, IsErrAnd}
+use Rattle.std.specs.Option.{ok_or}
+use Rattle.refusals.specs.declared.Refusal.{Refusal}
+use Rattle.refusals.specs.declared.Refusal.TheVariants.{Strength}
 use Rattle.slices.proofs.Lists.{take-zeros, drop-zeros}
 use Rattle.corrector.specs.Correcting.{IsStrength}
-use Rattle.corrector.specs.Places.{Tells}
 use Rattle.corrector_encoder.specs.Encoding.{Encodes}
 use Rattle.corrector_encoder.proofs.Contract.{encoded-exactly}
-use Rattle.corrector_stream.specs.Words.{data_start, capacity, end_byte, Fills, Fits, carried, content}
+use Rattle.corrector_stream.specs.Words.{data_start, capacity, end_byte, Fits, carried, content}
 use Rattle.corrector_stream.specs.Parts.{laid}
 use Rattle.corrector_stream.specs.Calls.{CapacityIs, Packs}
 use Rattle.corrector_stream.specs.Calls.CapacityIs.{of-strength, of_none}
 use Rattle.corrector_stream.specs.Calls.Packs.{packed}
-use Rattle.corrector_stream.specs.declared.Packed.TheVariants.{Word}
+use Rattle.corrector_stream.specs.declared.PackError.{PackError}
 use Rattle.corrector_stream.proofs.Contents.{start-most, content-block}
 
--- zeros copied over a word
-pub cleared : (n : ℕ) (w : List ℕ) {s z : List ℕ} → s ≡ replicate n 0 → length w ≡ n
-    → z ≡ take (length s) s ++ drop (length s) w
-    → z ≡ replicate n 0
-cleared n w {s} {z} e h f =
-    let l : length s ≡ n = ap length e ∙ length-replicate {A = ℕ} n 0 in
-    f ∙ ap₂ (λ (a b : List ℕ). a ++ b) (take-length s ∙ e) (drop_of_length-le w {i = length s} (omega arith))
-    ∙ append-nil (replicate n 0)
-
 -- data copied over the zeros of a word
-pub laid_out : (c : ℕ) (d : List ℕ) {n : ℕ} {z y : List ℕ} → n ≡ 256 → z ≡ replicate n 0
-    → y ≡ take (length d) d ++ drop (length d) (take (length z - c) (drop c z)) → c + length d ≤ 256
-    → take c z ++ (y ++ drop (length z - c) (drop c z)) ≡ laid c d
-laid_out c d {n} {z} {y} e f g h =
-    let l : length z ≡ n = ap length f ∙ length-replicate {A = ℕ} n 0 in
-    let v : drop c z ≡ replicate (256 - c) 0 = ap (drop c) f ∙ drop-zeros c n ∙ ap (λ (k : ℕ). replicate (k - c) 0) e in
-    let w : length z - c ≡ 256 - c = omega arith in
-    let p : take c z ≡ replicate c 0 = ap (take c) f ∙ take-zeros c n (omega arith) in
-    let q : take (length z - c) (drop c z) ≡ replicate (256 - c) 0 =
-    ap₂ take w v ∙ take-zeros (256 - c) (256 - c) (omega arith) in
-    let r : y ≡ d ++ replicate (256 - c - length d) 0 =
-    g ∙ ap₂ (λ (a b : List ℕ). a ++ b) (take-length d) (ap (drop (length d)) q ∙ drop-zeros (length d) (256 - c)) in
-    let s : drop (length z - c) (drop c z) ≡ [] =
-    drop_of_length-le (drop c z) {i = length z - c} (let k = length-drop c z in omega arith) in
-    ap₂ (λ (a b : List ℕ). a ++ b) p (ap₂ (λ (a b : List ℕ). a ++ b) r s ∙ append-nil _)
+pub laid_out : (c : ℕ) (d w : List ℕ) {z y : List ℕ} {k : ℕ} → length w ≡ 256 → z ≡ replicate (length w) 0 → y ≡ d → k ≡ length d
+    → c + length d ≤ 256 → put_mid c k z y ≡ laid c d
+laid_out c d w {z} {y} {k} l f g n h =
+    let e : z ≡ replicate 256 0 = f ∙ ap (λ (n : ℕ). replicate n 0) l in
+    let p : take c z ≡ replicate c 0 = ap (take c) e ∙ take-zeros c 256 (omega arith) in
+    let q : drop k (drop c z) ≡ replicate (256 - c - length d) 0 =
+    ap₂ (λ (m : ℕ) (r : List ℕ). drop m (drop c r)) n e ∙ ap (drop (length d)) (drop-zeros c 256) ∙ drop-zeros (length d) (256 - c) in
+    ap₂ (λ (a b : List ℕ). a ++ b) p (ap₂ (λ (a b : List ℕ). a ++ b) g q)
 
 -- where the data fill the word
 pub laid-full : {t : ℕ} {d : List ℕ} → IsStrength t → Fits t d false → laid (data_start t) d ≡ content t d false
@@ -112,30 +98,35 @@ filled-last {t} {c} {d} {w} s f l e h =
     ap₂ (λ (v : List ℕ) (k : ℕ). set (set v (k + length d) end_byte) 255 1) (h ∙ ap (λ (k : ℕ). laid k d) e) e
     ∙ laid-last s (subst (Fits t d) l f) ∙ ap (content t d) (sym l)
 
--- the test of the length holds
-pub fills-by : (t n : ℕ) (last b : Bool) {r : ℕ} → r ≡ capacity t → Tells (Fills r n last) b → b ≡ true
-    → Fills (capacity t) n last
-fills-by t n last b {r} e h y = subst (λ (k : ℕ). Fills k n last) e (subst (Tells (Fills r n last)) y h)
+-- what has a capacity is a strength
+pub sized : {t n : ℕ} {r : Option ℕ} {q : Result ℕ Refusal} → CapacityIs t r → q ≡ ok_or r Strength → q ≡ Ok n
+    → IsStrength t × (n ≡ capacity t)
+sized (of-strength s) e h = (s, cc)
+sized (of_none x) e h = absurd (cc)
 
--- or does not
-pub fills-not : (t n : ℕ) (last b : Bool) {r : ℕ} → r ≡ capacity t → Tells (Fills r n last) b → b ≡ false
-    → Fills (capacity t) n last → ⊥
-fills-not t n last b {r} e h y = subst (λ (k : ℕ). Fills k n last → ⊥) e (subst (Tells (Fills r n last)) y h)
+-- and what has none is no strength
+pub unsized : {t : ℕ} {r : Option ℕ} {q : Result ℕ Refusal} {k : Refusal} → CapacityIs t r → q ≡ ok_or r Strength → q ≡ Err k
+    → (IsStrength t → ⊥) × (k ≡ Strength)
+unsized (of-strength s) e h = absurd (cc)
+unsized (of_none x) e h = (x, cc)
 
--- what has no capacity is no strength
-pub no-capacity : {t r : ℕ} → CapacityIs t r → r ≡ 0 → IsStrength t → ⊥
-no-capacity (of-strength s) e q = let h = start-most s in omega arith
-no-capacity (of_none x) e q = x q
-
--- and what has one is
-pub some-capacity : {t r : ℕ} → CapacityIs t r → (r ≡ 0 → ⊥) → IsStrength t × (r ≡ capacity t)
-some-capacity (of-strength s) n = (s, refl)
-some-capacity (of_none x) n = absurd (n refl)
+-- the error that a `?` passes on
+pub passed-as : {A : Type 0} (r : Result A PackError) {k : PackError} → IsErrAnd r (λ j. j ≡ k) → r ≡ Err k
+passed-as (Ok a) h = absurd h
+passed-as (Err j) h = ap Err h
 
 -- what the encoder makes of the content
 pub pack-done : {t : ℕ} {d word w v : List ℕ} {last : Bool} {o : ℕ × List ℕ} → length word ≡ 256 → IsStrength t
-    → Fits t d last → w ≡ content t d last → Encodes t w o v → Packs t d last word Word v
+    → Fits t d last → w ≡ content t d last → Encodes t w o v → Packs t d last word (Ok tt) v
 pack-done {t} {d} {word} {w} {v} {last} {o} l s f e h =
     let g : Encodes t (content t d last) o v = subst (λ (c : List ℕ). Encodes t c o v) e h in
     packed l s f
     (subst (λ (p : ℕ × List ℕ). Encodes t (content t d last) p v) (encoded-exactly (content-block s f) s g) g)
+
+-- the encoder turns no content away
+pub pack-never : {A : Type 0} {t k : ℕ} {d w v : List ℕ} {last : Bool} → IsStrength t → Fits t d last → w ≡ content t d last
+    → Encodes t w (k, []) v → A
+pack-never {A} {t} {k} {d} {w} {v} {last} s f e h =
+    let g : Encodes t (content t d last) (k, []) v = subst (λ (c : List ℕ). Encodes t c (k, []) v) e h in
+    let z : length {A = ℕ} [] ≡ length (11 * t ∷ []) = ap (λ (o : ℕ × List ℕ). length o.1) (encoded-exactly (content-block s f) s g) in
+    absurd (omega arith)

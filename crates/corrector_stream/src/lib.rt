@@ -3,51 +3,42 @@
 // word that is full, and 1 in the last one of a stream, whose data end in front of its last byte 80 (hex).
 #![tactic(auto)]
 
-ghost use Rattle.std.specs.Prelude.{◌≡◌, ◌+◌, ◌-◌, ◌*◌, ◌^◌, ◌≤◌, ◌++◌, length, take, drop};
+ghost use Rattle.std.specs.Prelude.{◌≡◌, ◌+◌, ◌-◌, ◌*◌, ◌^◌, ◌≤◌, ◌↔◌, length, IsTrue};
 ghost use Rattle.corrector.specs.Correcting.{IsBlock, IsStrength};
-ghost use Rattle.corrector.specs.Places.{Tells};
-ghost use Rattle.corrector_stream.specs.Words.{data_start, Fills, Fits, content};
-ghost use Rattle.corrector_stream.specs.Parts.{laid};
 ghost use Rattle.corrector_stream.specs.Calls.{CapacityIs, Packs, Unpacks};
-ghost use Rattle.corrector_stream.specs.Parts.{Holds, TakesOut, EndsAt};
-ghost use Rattle.corrector_stream.specs.Words.{capacity as capacity_of};
+ghost use Rattle.corrector_stream.specs.Parts.{Holds, TakesOut, LastSet, EndsAt};
+ghost use Rattle.corrector_stream.specs.Words.{capacity as capacity_of, data_start, Fills, Fits, content};
+ghost use Rattle.corrector_stream.specs.declared.PackError.TheVariants.{Refused};
 
-use corrector::Corrected;
 use refusals::Refusal;
 
-// What `pack` answers: the word is made; the data do not fill a word; or what is turned away.
-#[derive(Drop)]
-pub enum Packed {
-    Word,
+// Why `pack` makes no word: the data do not fill one; or what is turned away.
+#[derive(Clone, Copy, Debug, PartialEq, Eq, Drop)]
+pub enum PackError {
     Unfit,
-    NotPacked(Refusal),
+    Refused(Refusal),
 }
 
-// What `unpack` answers: how many bytes of data, whether the word is the last, and how many bits were flipped; a
-// codeword that `pack` does not make, and the flips; or what is turned away.
-#[derive(Drop)]
-pub enum Unpacked {
-    Data {
-        bytes: usize,
-        last: bool,
-        flips: u16,
-    },
-    Strange(u16),
-    NotUnpacked(Refusal),
+impl From<Refusal> for PackError {
+    ghost from_gives = { λ k e. e ≡ Refused k };
+
+    fn from(k: Refusal) -> PackError {
+        PackError::Refused(k)
+    }
 }
 
-// What a codeword carries: so many bytes of data, and whether it is the last; or nothing that `pack` wrote.
-#[derive(Drop)]
-enum Held {
-    Bytes(usize, bool),
-    Nothing,
+// What a codeword carries: so many bytes of data, and whether it is the last.
+#[derive(Clone, Copy, Debug, PartialEq, Eq, Drop)]
+pub struct Held {
+    pub bytes: usize,
+    pub last: bool,
 }
 
-// Where the data of the last word end.
-#[derive(Drop)]
-enum End {
-    At(usize),
-    Nowhere,
+// What `unpack` answers: how many bits were flipped, and what the codeword carries, if `pack` can have made it.
+#[derive(Clone, Copy, Debug, PartialEq, Eq, Drop)]
+pub struct Unpacked {
+    pub flips: u16,
+    pub held: Option<Held>,
 }
 
 // The length of a word, the place of its mark, and the byte behind the data of the last word.
@@ -65,36 +56,14 @@ fn data_start(t: u16) -> usize
     (11 * t as usize + 7) / 8
 }
 
-// How many bytes of data a word of a strength carries; 0 for no strength.
-pub fn capacity(strength: u16) -> usize
+// How many bytes of data a word of a strength carries; none for no strength.
+pub fn capacity(strength: u16) -> Option<usize>
     ensures { CapacityIs strength result }
 {
-    if strength == 0 {
-        return 0;
+    match strength {
+        1..=8 => Some(MARK - data_start(strength)),
+        _ => None,
     }
-    if strength > 8 {
-        return 0;
-    }
-    MARK - data_start(strength)
-}
-
-// Writes all of the bytes to the front of a room.
-fn copy(src: &[u8], dst: &mut [u8])
-    requires { length src.now ≤ length dst.old }
-    ensures { dst.new ≡ take (length src.now) src.now ++ drop (length src.now) dst.old }
-{
-    let n = src.len();
-    dst[..n].copy_from_slice(src);
-}
-
-// Makes a word zeros, the data from a place on, and zeros.
-fn lay(start: usize, piece: &[u8], word: &mut [u8])
-    requires { (length word.old ≡ 256) × (start + length piece.now ≤ 256) }
-    ensures { word.new ≡ laid start piece.now }
-{
-    let zeros = [0u8; WORD];
-    copy(&zeros, word);
-    copy(piece, &mut word[start..]);
 }
 
 // Makes a word the content of the data.
@@ -103,40 +72,36 @@ fn fill(strength: u16, piece: &[u8], last: bool, word: &mut [u8])
     ensures { word.new ≡ content strength piece.now last }
 {
     let start = data_start(strength);
-    lay(start, piece, word);
+    let end = start + piece.len();
+    word.fill(0);
+    word[start..end].copy_from_slice(piece);
     if last {
-        word[start + piece.len()] = END;
+        word[end] = END;
         word[MARK] = 1;
     }
 }
 
 // Do so many bytes fill a word?
-fn fits(room: usize, n: usize, last: bool) -> bool
-    ensures { Tells (Fills room n last) result }
+fn fits(size: usize, n: usize, last: bool) -> bool
+    ensures { IsTrue result ↔ Fills size n last }
 {
-    if last {
-        return n < room;
-    }
-    n == room
+    if last { n < size } else { n == size }
 }
 
 // Makes the word carry the data, the last of a stream or not, and encodes it.
-pub fn pack(strength: u16, piece: &[u8], last: bool, word: &mut [u8]) -> Packed
+pub fn pack(strength: u16, piece: &[u8], last: bool, word: &mut [u8]) -> Result<(), PackError>
     ensures { Packs strength piece.now last word.old result word.new }
 {
     if word.len() != WORD {
-        return Packed::NotPacked(Refusal::Block);
+        return Err(PackError::Refused(Refusal::Block));
     }
-    let room = capacity(strength);
-    if room == 0 {
-        return Packed::NotPacked(Refusal::Strength);
-    }
-    if !fits(room, piece.len(), last) {
-        return Packed::Unfit;
+    let size = capacity(strength).ok_or(Refusal::Strength)?;
+    if !fits(size, piece.len(), last) {
+        return Err(PackError::Unfit);
     }
     fill(strength, piece, last, word);
-    corrector_encoder::encode(strength, word);
-    Packed::Word
+    corrector_encoder::encode(strength, word)?;
+    Ok(())
 }
 
 // One more than the highest value of the byte that holds the last check bits: those behind them are 0.
@@ -144,84 +109,69 @@ fn check_limit(t: u16) -> u16
     requires { IsStrength t }
     ensures { result ≡ 2 ^ (11 * t - 8 * (data_start t - 1)) }
 {
-    match t {
-        1 => 8,
-        2 => 64,
-        3 => 2,
-        4 => 16,
-        5 => 128,
-        6 => 4,
-        7 => 32,
-        _ => 256,
-    }
+    1 << (11 * t as usize - 8 * (data_start(t) - 1))
+}
+
+// The last place with a byte that is not 0.
+fn last_set(b: &[u8]) -> Option<usize>
+    ensures { LastSet b.now result }
+{
+    b.iter().rposition(|x| *x != 0)
 }
 
 // Where the data end in front of the last byte END, behind which there are zeros alone.
-fn end_of(b: &[u8]) -> End
+fn end_of(b: &[u8]) -> Option<usize>
     ensures { EndsAt b.now result }
 {
-    let mut k = b.len();
-    while k > 0 {
-        k -= 1;
-        let x = b[k];
-        if x == END {
-            return End::At(k);
-        }
-        if x != 0 {
-            return End::Nowhere;
-        }
+    let k = last_set(b)?;
+    if b[k] != END {
+        return None;
     }
-    End::Nowhere
+    Some(k)
 }
 
 // What a block carries.
-fn held_in(strength: u16, word: &[u8]) -> Held
+fn held_in(strength: u16, word: &[u8]) -> Option<Held>
     requires { IsStrength strength × IsBlock word.now }
     ensures { Holds strength word.now result }
 {
     let start = data_start(strength);
     if word[start - 1] as u16 >= check_limit(strength) {
-        return Held::Nothing;
+        return None;
     }
-    let mark = word[MARK];
-    if mark == 0 {
-        return Held::Bytes(MARK - start, false);
-    }
-    if mark > 1 {
-        return Held::Nothing;
-    }
-    match end_of(&word[start..MARK]) {
-        End::At(n) => Held::Bytes(n, true),
-        End::Nowhere => Held::Nothing,
+    match word[MARK] {
+        0 => Some(Held {
+            bytes: MARK - start,
+            last: false,
+        }),
+        1 => {
+            let bytes = end_of(&word[start..MARK])?;
+            Some(Held { bytes, last: true })
+        }
+        _ => None,
     }
 }
 
 // Copies the data of a codeword to the front of the room.
-fn take_out(strength: u16, flips: u16, word: &[u8], room: &mut [u8]) -> Unpacked
+fn take_out(strength: u16, word: &[u8], room: &mut [u8]) -> Option<Held>
     requires { IsStrength strength × IsBlock word.now × (capacity_of strength ≤ length room.old) }
-    ensures { TakesOut strength flips word.now room.old result room.new }
+    ensures { TakesOut strength word.now room.old result room.new }
 {
-    match held_in(strength, word) {
-        Held::Nothing => Unpacked::Strange(flips),
-        Held::Bytes(bytes, last) => {
-            let start = data_start(strength);
-            let end = start + bytes;
-            copy(&word[start..end], room);
-            Unpacked::Data { bytes, last, flips }
-        }
-    }
+    let held = held_in(strength, word)?;
+    let start = data_start(strength);
+    let end = start + held.bytes;
+    room[..held.bytes].copy_from_slice(&word[start..end]);
+    Some(held)
 }
 
 // Corrects the word, and puts the data that it carries at the front of the room.
-pub fn unpack(strength: u16, word: &mut [u8], room: &mut [u8]) -> Unpacked
-    ensures { Unpacks strength word.old room.old result word.new
-        room.new }
+pub fn unpack(strength: u16, word: &mut [u8], room: &mut [u8]) -> Result<Unpacked, Refusal>
+    ensures { Unpacks strength word.old room.old result word.new room.new }
 {
-    if room.len() < capacity(strength) {
-        return Unpacked::NotUnpacked(Refusal::Room);
+    if room.len() < capacity(strength).unwrap_or(0) {
+        return Err(Refusal::Room);
     }
-    match corrector::correct(strength, word) {
-        Corrected::NotCorrected(k) => Unpacked::NotUnpacked(k),
-        Corrected::Flips(flips) => take_out(strength, flips, word, room),
-    }
+    let flips = corrector::correct(strength, word)?;
+    let held = take_out(strength, word, room);
+    Ok(Unpacked { flips, held })
 }

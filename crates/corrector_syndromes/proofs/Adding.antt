@@ -25,7 +25,7 @@ use Rattle.corrector_code.specs.Eleven.{F11}
 use Rattle.corrector_code.proofs.Eleven.{gen11}
 use Rattle.corrector_code.proofs.Values.{digit-turn, value_of_digits-join, value_of_digits-lt, value_of_digits-zero}
 use Rattle.corrector_generator.specs.Generators.{odd_power}
-use Rattle.corrector_syndromes.specs.Syndromes.{RowTable, RowAdded, ValuesAdded, OddValues}
+use Rattle.corrector_syndromes.specs.Syndromes.{RowAdded, ValuesAdded, OddValues}
 use Rattle.corrector_syndromes.proofs.Entries.{power-next, power-none}
 open ring (field_at 11) gen11.monic use {mul_comm, mul-zero-r, mul-one-r, mul-lt}
 
@@ -43,20 +43,20 @@ pub record RowOn (s : List ℕ) (j k : ℕ) (r : List ℕ) : Type 0 where
 pub row_from : (s : List ℕ) (j : ℕ) → length s ≡ 8 → RowOn s j 0 s
 row_from s j l = record { within = omega arith; long = l; done = λ i h. absurd (omega arith); rest = λ i h. refl }
 
-pub row_on : (rows : List ℕ) {s r : List ℕ} {j k : ℕ} → RowTable rows → j < 88 → RowOn s j k r → k < 8
-    → RowOn s j (k + 1) (set r k (bit_xor (get_or r k 0) (get_or rows (8 * j + k) 0)))
-row_on rows {s} {r} {j} {k} table hj w h = record {
+pub row_on : {s r : List ℕ} {j k v : ℕ} → v ≡ power F11 (odd_power k) j → RowOn s j k r → k < 8
+    → RowOn s j (k + 1) (set r k (bit_xor (get_or r k 0) v))
+row_on {s} {r} {j} {k} {v} is w h = record {
   within = omega arith;
   long = length-set r k _ ∙ w.long;
   done = λ i l. ⊎_elim
-      (λ e. let z : i ≡ k = omega (arith, e) in ap (λ (n : ℕ). get_or (set r k v) n 0) z ∙ get_or-set_same r k v 0 (let m = w.long in omega arith)
-      ∙ ap₂ bit_xor (w.rest k (omega arith)) (table.entry j k hj h) ∙ ap (λ (n : ℕ). bit_xor (get_or s n 0) (power F11 (odd_power n) j)) (sym z))
-      (λ e. get_or-set_other r k i v 0 (omega (arith, e)) ∙ w.done i (omega (arith, e))) (eq-or-lt_of_le (let q : i ≤ k = omega arith in q));
-  rest = λ i l. get_or-set_other r k i v 0 (omega arith) ∙ w.rest i (omega arith);
+      (λ e. let z : i ≡ k = omega (arith, e) in ap (λ (n : ℕ). get_or (set r k x) n 0) z ∙ get_or-set_same r k x 0 (let m = w.long in omega arith)
+      ∙ ap₂ bit_xor (w.rest k (omega arith)) is ∙ ap (λ (n : ℕ). bit_xor (get_or s n 0) (power F11 (odd_power n) j)) (sym z))
+      (λ e. get_or-set_other r k i x 0 (omega (arith, e)) ∙ w.done i (omega (arith, e))) (eq-or-lt_of_le (let q : i ≤ k = omega arith in q));
+  rest = λ i l. get_or-set_other r k i x 0 (omega arith) ∙ w.rest i (omega arith);
 }
   where
-    v : ℕ
-    v = bit_xor (get_or r k 0) (get_or rows (8 * j + k) 0)
+    x : ℕ
+    x = bit_xor (get_or r k 0) v
 
 pub row-end : {s r : List ℕ} {j k : ℕ} → RowOn s j k r → 8 ≤ k → RowAdded s j r
 row-end w h = record { long = w.long; value = λ i l. w.done i (let m = w.within in omega arith) }
@@ -125,14 +125,25 @@ add-digits-end {s} {r} {n} {j} {x} {i} w e = record {
 }
 
 -- both parts of a remainder
-pub both-parts : {none s r : List ℕ} (lo hi : ℕ) → lo < 2 ^ 64 → ((k : ℕ) → get_or none k 0 ≡ 0) → ValuesAdded none lo 0 s → ValuesAdded s hi 64 r → OddValues (hi * 2 ^ 64 + lo) r
-both-parts {none} {s} {r} lo hi b z p q = record {
+pub both-parts : {none s r : List ℕ} (n : ℕ) → ((k : ℕ) → get_or none k 0 ≡ 0)
+    → ValuesAdded none (n % 2 ^ 64) 0 s → ValuesAdded s (n / 2 ^ 64) 64 r → OddValues n r
+both-parts {none} {s} {r} n z p q = record {
   long = q.long;
   value = λ k h. q.value k h
       ∙ ap (λ (v : ℕ). bit_xor v (mul (field_at 11) (power F11 (odd_power k) 64) (value_of_digits (field_at 11) (odd_power k) hi))) (p.value k h ∙ ap₂ bit_xor (z k) (first k))
-      ∙ sym (value_of_digits-join (field_at 11) gen11.monic (one_below (field_at 11) gen11) (odd_power k) 64 hi lo b);
+      ∙ sym (value_of_digits-join (field_at 11) gen11.monic (one_below (field_at 11) gen11) (odd_power k) 64 hi lo (omega arith))
+      ∙ ap (value_of_digits (field_at 11) (odd_power k)) whole;
 }
   where
+    lo : ℕ
+    lo = n % 2 ^ 64
+
+    hi : ℕ
+    hi = n / 2 ^ 64
+
+    whole : hi * 2 ^ 64 + lo ≡ n
+    whole = omega arith
+
     first : (k : ℕ) → mul (field_at 11) (power F11 (odd_power k) 0) (value_of_digits (field_at 11) (odd_power k) lo) ≡ value_of_digits (field_at 11) (odd_power k) lo
     first k = ap (λ (p : ℕ). mul (field_at 11) p (value_of_digits (field_at 11) (odd_power k) lo)) (power-none (odd_power k)) ∙ mul_comm 1 _ ∙ mul-one-r _ (value_of_digits-lt (field_at 11) gen11.monic (one_below (field_at 11) gen11) (odd_power k) lo)
 

@@ -1,20 +1,15 @@
 -- The odd syndromes: the values at a, a^3, .., a^15 of a remainder. At strength t the first t are those of the word.
 -- Inner contracts alone cite it: what the corrector promises does not speak of it.
---   RowTable rows        entry 8 j + k is the j-th power of a^(2k+1)
 --   OddValues n s        s holds the values at a, a^3, .., a^15 of the polynomial with the binary digits of n
 --   RowAdded s j r       r is s with those of x^j added;  ValuesAdded s n j r  with those of n x^j added
 -- Assumes nothing.
-use Rattle.std.specs.Prelude.{◌≡◌, List, ℕ, ◌+◌, ◌*◌, ◌<◌, get_or, length}
+use Rattle.std.specs.Prelude.{◌≡◌, List, ℕ, ◌<◌, get_or, length}
 use Rattle.std.specs.Int.Bits.{bit_xor}
 use Rattle.algebra.specs.Field.{power}
 use Rattle.field.specs.Field.{field_at, mul}
 use Rattle.corrector_code.specs.Digits.{value_of_digits}
 use Rattle.corrector_code.specs.Eleven.{F11}
 use Rattle.corrector_generator.specs.Generators.{odd_power}
-
--- the powers of a, a^3, .., a^15, eight in a row
-pub record RowTable (rows : List ℕ) : Type 0 where
-  pub entry : (j k : ℕ) → j < 88 → k < 8 → get_or rows (8 * j + k) 0 ≡ power F11 (odd_power k) j
 
 -- r is s, with the values of n x^j added
 pub record ValuesAdded (s : List ℕ) (n j : ℕ) (r : List ℕ) : Type 0 where

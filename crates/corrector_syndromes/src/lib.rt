@@ -3,14 +3,12 @@
 #![tactic(auto)]
 
 ghost use Rattle.std.specs.Prelude.{◌*◌, ◌^◌, ◌<◌};
-ghost use Rattle.corrector_remainder.specs.Remainder.{rest_of};
-ghost use Rattle.corrector_syndromes.specs.Syndromes.{RowTable, RowAdded, ValuesAdded, OddValues};
+ghost use Rattle.corrector_syndromes.specs.Syndromes.{RowAdded, ValuesAdded, OddValues};
 
 mod powers; // the constant table
 
 use crate::powers::ODD_POWERS;
 use corrector_code::{CHECKS, STRONGEST};
-use corrector_remainder::Rest;
 
 // So many syndromes are odd: at a, a^3, .., a^15.
 pub const ODD: usize = STRONGEST as usize;
@@ -18,56 +16,45 @@ pub const ODD: usize = STRONGEST as usize;
 // A remainder has so many digits.
 const DIGITS: usize = CHECKS as usize * ODD;
 
-// The table has a row of odd powers for each digit.
-const POWERS: usize = ODD * DIGITS;
-
-// The table of powers.
-fn odd_powers() -> [u16; POWERS]
-    ensures { RowTable result }
-{
-    ODD_POWERS
-}
+// Of its digits so many stand in the lower part.
+const LOWER: u128 = 1 << 64;
 
 // Adds the row of x^j to the values.
-fn row_added(s: [u16; ODD], rows: &[u16; POWERS], j: usize) -> [u16; ODD]
-    requires { RowTable rows.now × (j < 88) }
-    ensures { RowAdded s j result }
+fn add_row(s: &mut [u16; ODD], j: usize)
+    requires { j < 88 }
+    ensures { RowAdded s.old j s.new }
 {
-    let mut r = s;
-    let mut k: usize = 0;
-    while k < ODD {
-        r[k] = r[k] ^ rows[ODD * j + k];
-        k += 1;
+    let row = &ODD_POWERS[j];
+    // kept: (c) with `s.iter_mut().zip(row)` the goal `returns` stays open: nothing ties s.new to what was written
+    for k in 0..ODD {
+        s[k] ^= row[k];
     }
-    r
 }
 
 // Adds the values of n x^j at a, a^3, .., a^15.
-fn values_added(s: [u16; ODD], rows: &[u16; POWERS], n: u64, j: usize) -> [u16; ODD]
-    requires { RowTable rows.now × (n * 2 ^ j < 2 ^ 88) }
-    ensures { ValuesAdded s n j result }
+fn add_values(s: &mut [u16; ODD], n: u64, j: usize)
+    requires { n * 2 ^ j < 2 ^ 88 }
+    ensures { ValuesAdded s.old n j s.new }
 {
-    let mut r = s;
     let mut x = n;
     let mut i = j;
+    // kept: (d) the digits end with the highest; a `for` over all places would need a break, and a halving beside it
     while x != 0 {
         if x % 2 == 1 {
-            let next = row_added(r, rows, i);
-            r = next;
+            add_row(s, i);
         }
-        x = x / 2;
+        x /= 2;
         i += 1;
     }
-    r
 }
 
 // The values of a remainder at a, a^3, .., a^15: the odd syndromes.
-pub fn odd_values(r: Rest) -> [u16; ODD]
-    requires { rest_of r < 2 ^ 88 }
-    ensures { OddValues (rest_of r) result }
+pub fn odd_values(r: u128) -> [u16; ODD]
+    requires { r < 2 ^ 88 }
+    ensures { OddValues r result }
 {
-    let rows = odd_powers();
-    let none: [u16; ODD] = [0; ODD];
-    let lo = values_added(none, &rows, r.lo, 0);
-    values_added(lo, &rows, r.hi as u64, 64)
+    let mut s = [0; ODD];
+    add_values(&mut s, (r % LOWER) as u64, 0);
+    add_values(&mut s, (r / LOWER) as u64, 64);
+    s
 }

@@ -7,6 +7,9 @@ use mathlib.Core.Logic.{◌↔◌}
 use mathlib.Core.List.{List}
 use Prim.Native.Nat.{ℕ, suc}
 use native.Mathlib.Omega.{arith}
+use Rattle.std.specs.Prelude.{Result, Ok, Err}
+use Rattle.refusals.specs.Admitting.{told}
+use mathlib.Core.Bool.{Bool, true}
 use Rattle.refusals.specs.Order.{Given, Passed}
 use Rattle.refusals.specs.Numbers.{number_of}
 use Rattle.refusals.specs.declared.Refusal.{Refusal}
@@ -14,32 +17,28 @@ use Rattle.refusals.proofs.Numbers.{accepted-back, by_number, refused-back}
 use Rattle.refusals.proofs.Order.{exactly, written}
 use Rattle.claim_rules.specs.Claims.{Claim}
 use Rattle.claim_rules.specs.Admitting.{claim_tests}
-use Rattle.claims.specs.Calls.{Checks, told_checked}
-use Rattle.claims.specs.declared.Checked.{Checked}
-use Rattle.claims.specs.declared.Checked.TheVariants.{Accepted}
+use Rattle.claims.specs.Calls.{Checks, checked_values}
 use Rattle.claims.proofs.Coincide.{check-coincide, check-outcome, exclusive}
 use Rattle.claims.proofs.Contract.{check-complete, check-exists, check-same}
 use Rattle.demands.specs.Demand2.{Holds}
-use Rattle.claim_maker.specs.Calls.{Proves, prove_tests, told_proved}
-use Rattle.claim_maker.specs.declared.Proved.{Proved}
-use Rattle.claim_maker.specs.declared.Proved.TheVariants.{Proven, NotProven}
+use Rattle.claim_maker.specs.Calls.{Proves, prove_tests, proved_values}
 use Rattle.claim_maker.proofs.Coincide.{prove-coincide, prove-outcome}
 use Rattle.claim_maker.proofs.Contract.{prove-accepted, prove-roots}
 use Rattle.demands.specs.Claims.{Claims, Proofs}
 use Rattle.demands.proofs.Demand2.{demand-2, holds}
 
 -- refused under k exactly if test k is the first that holds
-by-test : (m : ℕ) (f : List ℕ) (c : Claim) (r : Checked) (k : ℕ) → Checks m f c r → ((told_checked r).0 ≡ suc k) ↔ Given (suc k) (claim_tests m f c)
+by-test : (m : ℕ) (f : List ℕ) (c : Claim) (r : Result Bool Refusal) (k : ℕ) → Checks m f c r → ((told checked_values r).0 ≡ suc k) ↔ Given (suc k) (claim_tests m f c)
 by-test m f c r k h =
     let e = check-outcome m f c r h in
-    let i = exactly k (claim_tests m f c) (told_checked r).1 in
+    let i = exactly k (claim_tests m f c) (told checked_values r).1 in
     (λ t. i.0 (sym (ap (λ o. o.0) e) ∙ t), λ g. ap (λ o. o.0) e ∙ i.1 g)
 
 pub claims : Claims
 claims = record {
   check-one = check-coincide;
   refused = by-test;
-  accepted = λ m f c r h. (λ e. subst (Checks m f c) e h, λ k. check-coincide m f c r Accepted h k);
+  accepted = λ m f c r h. (λ e. subst (Checks m f c) e h, λ k. check-coincide m f c r (Ok true) h k);
   complete = check-complete;
   solved = λ m cutoff f c list mults r x u h p s.
       let k = check-complete m f c h in
@@ -52,10 +51,10 @@ claims = record {
 -- ---- the making
 
 -- refused under k exactly if test k is the first that holds
-made-by-test : (m : ℕ) (f : List ℕ) (b : Claim) (r : Proved) (x : Claim) (k : ℕ) → Proves m f b r x → ((told_proved r).0 ≡ suc k) ↔ Given (suc k) (prove_tests m f b)
+made-by-test : (m : ℕ) (f : List ℕ) (b : Claim) (r : Result ℕ Refusal) (x : Claim) (k : ℕ) → Proves m f b r x → ((told proved_values r).0 ≡ suc k) ↔ Given (suc k) (prove_tests m f b)
 made-by-test m f b r x k h =
     let e = prove-outcome m f b r x h in
-    let i = exactly k (prove_tests m f b) (told_proved r).1 in
+    let i = exactly k (prove_tests m f b) (told proved_values r).1 in
     (λ t. i.0 (sym (ap (λ o. o.0) e) ∙ t), λ g. ap (λ o. o.0) e ∙ i.1 g)
 
 -- no refusal has the number 0
@@ -65,14 +64,14 @@ number-some k e =
     omega arith
 
 -- made exactly if no test holds
-made-passed : (m : ℕ) (f : List ℕ) (b : Claim) (r : Proved) (x : Claim) → Proves m f b r x → ((told_proved r).0 ≡ 0) ↔ Passed (prove_tests m f b)
-made-passed m f b (Proven n) x h = (λ e. h.0, λ p. refl)
-made-passed m f b (NotProven k) x h = (λ e. absurd (number-some k e), λ p. absurd (exclusive p h.0))
+made-passed : (m : ℕ) (f : List ℕ) (b : Claim) (r : Result ℕ Refusal) (x : Claim) → Proves m f b r x → ((told proved_values r).0 ≡ 0) ↔ Passed (prove_tests m f b)
+made-passed m f b (Ok n) x h = (λ e. h.0, λ p. refl)
+made-passed m f b (Err k) x h = (λ e. absurd (number-some k e), λ p. absurd (exclusive p h.0))
 
 -- a refusal writes nothing
-made-unwritten : (m : ℕ) (f : List ℕ) (b : Claim) (r : Proved) (x : Claim) (k : ℕ) → Proves m f b r x → Given k (prove_tests m f b) → x ≡ b
-made-unwritten m f b (Proven n) x k h g = absurd (exclusive h.0 g)
-made-unwritten m f b (NotProven j) x k h g = h.1
+made-unwritten : (m : ℕ) (f : List ℕ) (b : Claim) (r : Result ℕ Refusal) (x : Claim) (k : ℕ) → Proves m f b r x → Given k (prove_tests m f b) → x ≡ b
+made-unwritten m f b (Ok n) x k h g = absurd (exclusive h.0 g)
+made-unwritten m f b (Err j) x k h g = h.1
 
 pub proofs : Proofs
 proofs = record {

@@ -202,5 +202,5 @@ demand-1 = record {
   write-one = write-coincide;
   next_one = λ file at start end start' end' h k. next-coincide h k;
   read_one = read-coincide;
-  turn_one = λ read bytes k old r s x y w h g. turned-once (h w.file w.at w.read w.lent) (g w.file w.at w.read w.lent);
+  turn_one = λ read bytes k r s w h g. turned-once (h w.file w.at w.read w.lent) (g w.file w.at w.read w.lent);
 }

@@ -16,6 +16,7 @@ use native.Mathlib.Nat.{not-suc-le-zero, le_of_suc-le-suc}
 use borrow.Author.Tests.{le-ltb, ltb-false}
 use lib.ListN.{length, get_or, take, drop, length-map}
 use lib.Seq.{take-append_seam, drop-append_seam, ext_get_or}
+use Rattle.std.specs.Prelude.{Ok}
 use Rattle.refusals.specs.Order.{Passed}
 use Rattle.refusals.proofs.Order.{accepted, written, passes, failed, others}
 use Rattle.algebra.specs.Field.{OnNumbers}
@@ -33,10 +34,8 @@ use Rattle.input.proofs.Polynomials.{polynomial-told, passed-more, passed_first,
 use Rattle.input.proofs.Polynomials.{roots_few, nonzero-place}
 use Rattle.table_rules.specs.Demand.{steps_at}
 use Rattle.find_solve.specs.Calls.{solve_tests}
-use Rattle.find_solve.specs.declared.Solved.TheVariants.{Found}
 use Rattle.find_solve.proofs.Coincide.{solved-told}
 use Rattle.find_search.specs.Calls.{search_tests}
-use Rattle.find_search.specs.declared.Searched.TheVariants.{Seen}
 use Rattle.find_search.proofs.Coincide.{searched-told}
 use Rattle.demands.proofs.Agreement.{agree-list, agree-beside}
 use Rattle.demands.specs.Demand2.{value_at, RootList, HasMultiplicity, MultiplicityList, Holds, Demand2}
@@ -128,12 +127,12 @@ demand-2 m c f list mults p =
       multiplicities = multiplicity-list m f t;
       few = roots_few t;
       solve-gives = λ r after beside s. (
-        solved-told r (Found (length (roots_at m f)) (steps_at m c f)) (s.answer ∙ accepted _ p),
+        solved-told r (Ok (record { s = length (roots_at m f); steps = steps_at m c f })) (s.answer ∙ accepted _ p),
         holds (roots_at m f) list after (s.list ∙ written _ list p),
         holds (multiplicities_at m f) mults beside (s.beside ∙ written _ mults p),
       );
       search-gives = λ r after beside s. (
-        searched-told r (Seen (length (roots_at m f))) (s.answer ∙ accepted _ q),
+        searched-told r (Ok (length (roots_at m f))) (s.answer ∙ accepted _ q),
         holds (roots_at m f) list after (s.list ∙ written _ list q),
         holds (multiplicities_at m f) mults beside (s.beside ∙ written _ mults q),
       );

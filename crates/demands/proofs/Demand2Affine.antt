@@ -11,13 +11,14 @@ use native.Mathlib.Omega.{arith}
 use borrow.Author.Tests.{ne_eqb}
 use lib.ListN.{length}
 use lib.Pow.{pow_pos}
+use Rattle.std.specs.Prelude.{Option, Some, None, Result, Ok}
+use Rattle.refusals.specs.declared.Refusal.{Refusal}
+use Rattle.find_affine.specs.declared.Space.{Space}
 use Rattle.refusals.specs.Order.{Passed}
 use Rattle.refusals.proofs.Order.{accepted, written}
 use Rattle.slices.specs.Lists.{copied}
 use Rattle.find_affine.specs.Affine.{affine_roots, space_values, dimension_of}
 use Rattle.find_affine.specs.Calls.{affine_tests, Spans, Spannable}
-use Rattle.find_affine.specs.declared.Spanned.{Spanned}
-use Rattle.find_affine.specs.declared.Spanned.TheVariants.{NoRoot, Space}
 use Rattle.find_affine.proofs.Answering.{spannable, dimension-is}
 use Rattle.find_affine.proofs.Coincide.{spanned-told}
 use Rattle.find_affine.proofs.RootLaws.{affine-ascending, affine-once, affine-exactly, affine-none, affine-only, affine-size}
@@ -58,11 +59,11 @@ demand-2-affine m cs constant list p = record {
     known_as : Spannable m cs constant list
     known_as = spannable p
 
-    told : (r : Spanned) (after : List ℕ) → Spans m cs constant list r after
+    told : (r : Result (Option Space) Refusal) (after : List ℕ) → Spans m cs constant list r after
         → (affine_roots m cs constant ≡ []) ⊎ ((d : ℕ) × (d ≤ m) × (length (affine_roots m cs constant) ≡ 2 ^ d))
         → ToldNone m (affine_roots m cs constant) list r after ⊎ ToldSpace m (affine_roots m cs constant) list r after
     told r after s (inl e) = inl (record {
-      answer = spanned-told r NoRoot (s.0 ∙ accepted _ p ∙ ap (λ (u : List ℕ). (0, space_values m u)) e ∙ none-values m);
+      answer = spanned-told r (Ok None) (s.0 ∙ accepted _ p ∙ ap (λ (u : List ℕ). (0, space_values m u)) e ∙ none-values m);
       empty = e;
       memory = s.1 ∙ written _ list p ∙ ap (λ (u : List ℕ). copied u list) e ∙ none-copied list;
     })
@@ -70,6 +71,6 @@ demand-2-affine m cs constant list p = record {
       dimension = d.0;
       most = d.1;
       count = d.2;
-      answer = spanned-told r (Space d.0 (2 ^ d.0)) (s.0 ∙ accepted _ p ∙ ap (λ (u : List ℕ). (0, u)) (space-values m d.0 (affine_roots m cs constant) d.2 d.1));
+      answer = spanned-told r (Ok (Some (record { dimension = d.0; count = 2 ^ d.0 }))) (s.0 ∙ accepted _ p ∙ ap (λ (u : List ℕ). (0, u)) (space-values m d.0 (affine_roots m cs constant) d.2 d.1));
       memory = holds (affine_roots m cs constant) list after (s.1 ∙ written _ list p);
     })

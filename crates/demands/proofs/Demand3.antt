@@ -13,6 +13,9 @@ use native.Mathlib.Omega.{arith}
 use borrow.Author.Tests.{le-ltb, ltb-false}
 use lib.Dec.{ltb}
 use lib.ListN.{length}
+use Rattle.refusals.specs.Admitting.{told}
+use Rattle.std.specs.Prelude.{⊤, Result, Ok}
+use Rattle.refusals.specs.declared.Refusal.{Refusal}
 use Rattle.refusals.specs.Order.{Passed}
 use Rattle.refusals.specs.Order.Passed.{none as none_left}
 use Rattle.refusals.proofs.Order.{accepted, written, passes, failed}
@@ -33,17 +36,13 @@ use Rattle.table_rules.proofs.Sizes.{limit-new, limit-stored, size-exactly, soun
 use Rattle.table_rules.proofs.Demand.{demand-3, begin-slots, slots-more}
 use Rattle.table_rules.specs.Sizes.{slots, stored_limit, is_table_size, limit_for, is_sound}
 use Rattle.table_begin.specs.Calls.{begin_tests, Begins}
-use Rattle.table_begin.specs.declared.Begun.{Begun}
-use Rattle.table_begin.specs.declared.Begun.TheVariants.{Ready}
 use Rattle.table_begin.proofs.Coincide.{begun-told}
-use Rattle.table_step.specs.Calls.{step_tests, step_outcome, step_memory, told_stepped, Steps}
+use Rattle.table_step.specs.Calls.{step_tests, step_outcome, step_memory, stepped_values, Steps}
 use Rattle.table_step.specs.declared.Stepped.{Stepped}
 use Rattle.table_step.specs.declared.Stepped.TheVariants.{Taken, Done}
 use Rattle.table_step.proofs.Coincide.{stepped-told}
 use Rattle.table_finish.specs.Calls.{finish_tests, finish_outcome, finish_memory}
-use Rattle.table_finish.specs.declared.Finished.TheVariants.{Listed}
 use Rattle.table_finish.proofs.Coincide.{finished-told}
-use Rattle.find_solve.specs.declared.Solved.TheVariants.{Found}
 use Rattle.find_solve.proofs.Coincide.{solved-told}
 use Rattle.table_rules.specs.Demand.{steps_at}
 use Rattle.find_solve.specs.Calls.{solve_tests}
@@ -74,8 +73,8 @@ module _ (lim : ℕ) (own : limit_for (slots_for lim) ≡ lim) (m c : ℕ) (f : 
   abbrev at : ℕ → List ℕ
   at n = groups_under lim m k f n
 
-  told : PolynomialIn m f
-  told = polynomial-told m f p
+  known_as : PolynomialIn m f
+  known_as = polynomial-told m f p
 
   cutoff-most : c ≤ highest_cutoff
   cutoff-most = ltb-false highest_cutoff c (failed (passed-rest m f p))
@@ -84,7 +83,7 @@ module _ (lim : ℕ) (own : limit_for (slots_for lim) ≡ lim) (m c : ℕ) (f : 
   most = in_force-most house_default c (omega arith) cutoff-most
 
   D : Demand3 m k (roots_at m f)
-  D = demand-3 m told.field k (in_force-least house_default c (omega arith)) f
+  D = demand-3 m known_as.field k (in_force-least house_default c (omega arith)) f
 
   -- each is sound, and so has the size of a table
   sound-at : (n : ℕ) → n ≤ count → is_sound (at n) ≡ true
@@ -167,7 +166,7 @@ module _ (lim : ℕ) (own : limit_for (slots_for lim) ≡ lim) (m c : ℕ) (f : 
       ap (λ (t : List ℕ). finish_memory t list) at-end ∙ written _ list (finish-passes list h) ∙ ap (λ (r : List ℕ). copied r list) end-roots
 
   -- what a call of step answers where n steps were taken
-  answers_at : {n : ℕ} {t : List ℕ} (u : List ℕ) (r : Stepped) → After (at 0) n t → Steps t r u → told_stepped r ≡ step_outcome (after_steps n (at 0))
+  answers_at : {n : ℕ} {t : List ℕ} (u : List ℕ) (r : Result Stepped Refusal) → After (at 0) n t → Steps t r u → told stepped_values r ≡ step_outcome (after_steps n (at 0))
   answers_at u r a h = h.0 ∙ ap step_outcome (after_is a)
 
   -- from the table of all roots, under that limit
@@ -175,35 +174,35 @@ module _ (lim : ℕ) (own : limit_for (slots_for lim) ≡ lim) (m c : ℕ) (f : 
   followed = record {
     groups = D;
     each = λ n t l a. after_is a ∙ each n l;
-    taken = λ n t u r l a s. stepped-told r Taken
+    taken = λ n t u r l a s. stepped-told r (Ok Taken)
         (answers_at u r a s ∙ ap step_outcome (each n (omega arith)) ∙ step-answers n false (omega arith) (done_at n (D.before n l).0));
     done = λ n t u r l a s. (
-      stepped-told r Done (answers_at u r a s ∙ ap step_outcome (still n l) ∙ step-answers count true (omega arith) done_end),
+      stepped-told r (Ok Done) (answers_at u r a s ∙ ap step_outcome (still n l) ∙ step-answers count true (omega arith) done_end),
       after_is (call u r a s) ∙ still (suc n) (omega arith) ∙ sym (after_is a ∙ still n l),
     );
     still = λ n t l a. after_is a ∙ still n l;
     bound = D.bound;
     finish-gives = λ t list r after a l h. (
-      finished-told r (Listed (length (roots_at m f))) (h.0 ∙ ap (λ (t : List ℕ). finish_outcome t list) (after_is a ∙ at-end)
+      finished-told r (Ok (length (roots_at m f))) (h.0 ∙ ap (λ (t : List ℕ). finish_outcome t list) (after_is a ∙ at-end)
           ∙ accepted _ (finish-passes list l) ∙ ap (λ (r : List ℕ). (0, length r ∷ [])) end-roots),
       h.1 ∙ ap (λ (t : List ℕ). finish_memory t list) (after_is a) ∙ lists list l,
     );
     whole-gives = λ t list mults r s x y u a l n h k. (
-      solved-told s (Found (length (roots_at m f)) count) (k.answer ∙ accepted _ (solve-passes list mults l n)),
+      solved-told s (Ok (record { s = length (roots_at m f); steps = count })) (k.answer ∙ accepted _ (solve-passes list mults l n)),
       k.list ∙ written _ list (solve-passes list mults l n) ∙ sym (h.1 ∙ ap (λ (t : List ℕ). finish_memory t list) (after_is a) ∙ lists list l),
     );
   }
 
 -- of whatever table begin leaves
-pub demand-3-calls : (m c : ℕ) (f table : List ℕ) → Passed (begin_tests m c f table) → (r : Begun) (b : List ℕ) → Begins m c f table r b
-    → (r ≡ Ready) × Followed limit m c f b
+pub demand-3-calls : (m c : ℕ) (f table : List ℕ) → Passed (begin_tests m c f table) → (r : Result ⊤ Refusal) (b : List ℕ) → Begins m c f table r b
+    → (r ≡ Ok tt) × Followed limit m c f b
 demand-3-calls m c f table p r b h =
     let q : Passed (polynomial_tests m f ((6, ltb highest_cutoff c) ∷ [])) =
     passed-more m f (passed_first m f p) (passes (failed (passed-rest m f p)) none_left) in
-    let told : PolynomialIn m f = polynomial-told m f p in
+    let known_as : PolynomialIn m f = polynomial-told m f p in
     let e : b ≡ groups_slots m (in_force c) f 0 =
-    h.1 ∙ written _ table p ∙ begin-slots m told.field (in_force c) (in_force-least house_default c (omega arith)) f by_factor slots in
-    (begun-told r Ready (h.0 ∙ accepted [] p), subst (Followed limit m c f) (sym e) (followed limit (limit-new refl) m c f q (roots_few told)))
+    h.1 ∙ written _ table p ∙ begin-slots m known_as.field (in_force c) (in_force-least house_default c (omega arith)) f by_factor slots in
+    (begun-told r (Ok tt) (h.0 ∙ accepted [] p), subst (Followed limit m c f) (sym e) (followed limit (limit-new refl) m c f q (roots_few known_as)))
 
 -- of the table that begin left of a polynomial within the limit of its time
 pub demand-3-stored : (m c : ℕ) (f : List ℕ) → Passed (polynomial_tests m f ((6, ltb highest_cutoff c) ∷ [])) → length f ≤ suc stored_limit

@@ -6,6 +6,7 @@ use mathlib.Core.List.{List}
 use Prim.Native.Nat.{ℕ}
 use borrow.Author.Tests.{ltb-false}
 use lib.ListN.{length}
+use Rattle.std.specs.Prelude.{Ok}
 use Rattle.refusals.specs.Order.{Passed}
 use Rattle.refusals.proofs.Order.{written, failed}
 use Rattle.field.specs.Field.{roots_at}
@@ -13,9 +14,7 @@ use Rattle.input.specs.Limit.{limit}
 use Rattle.input.proofs.Polynomials.{polynomial-told, passed-rest}
 use Rattle.table_rules.specs.Demand.{steps_at}
 use Rattle.find_solve.specs.Calls.{solve_tests}
-use Rattle.find_solve.specs.declared.Solved.TheVariants.{Found}
 use Rattle.find_search.specs.Calls.{search_tests}
-use Rattle.find_search.specs.declared.Searched.TheVariants.{Seen}
 use Rattle.demands.specs.Demand2.{Demand2}
 use Rattle.demands.specs.Engines.{Engines}
 use Rattle.demands.proofs.Demand2.{search-passes, holds, demand-2}
@@ -28,8 +27,8 @@ engines m c f list mults p =
       asked = (polynomial-told m f p, ltb-false (length list) limit (failed (passed-rest m f q)));
       resultants-give = λ k after o. (o.count, holds (roots_at m f) list after o.slots);
       agree = λ r s k x y z u v a b o. (
-        (d.solve-gives r x u a).0 ∙ ap (λ n. Found n (steps_at m c f)) (sym o.count),
-        (d.search-gives s y v b).0 ∙ ap Seen (sym o.count),
+        (d.solve-gives r x u a).0 ∙ ap (λ n. Ok (record { s = n; steps = steps_at m c f })) (sym o.count),
+        (d.search-gives s y v b).0 ∙ ap Ok (sym o.count),
         (d.agree r s x y u v a b).0,
         b.list ∙ written _ list q ∙ sym o.slots,
       );

@@ -6,6 +6,8 @@ use mathlib.Core.List.{List, [], ◌∷◌, ◌++◌}
 use Prim.Native.Nat.{ℕ, suc, ◌*◌, ◌≤◌}
 use borrow.Author.Tests.{le-ltb}
 use lib.ListN.{length, replicate}
+use Rattle.std.specs.Prelude.{Result, Ok}
+use Rattle.refusals.specs.declared.Refusal.{Refusal}
 use Rattle.refusals.specs.Order.{Passed}
 use Rattle.refusals.specs.Order.Passed.{none}
 use Rattle.refusals.proofs.Order.{passes}
@@ -13,7 +15,6 @@ use Rattle.input.specs.Limit.{limit}
 use Rattle.table_rules.specs.Demand.{steps_at}
 use Rattle.find_solve.specs.Calls.{solve_tests, Solves}
 use Rattle.find_solve.specs.declared.Solved.{Solved}
-use Rattle.find_solve.specs.declared.Solved.TheVariants.{Found}
 use Rattle.job_records.specs.Layout.{head_length, words, part}
 use Rattle.job_records.specs.Reading.{read_at}
 use Rattle.job_records.specs.Files.{Reads}
@@ -32,14 +33,14 @@ taken list mults w l k =
     call_passes w (passes (le-ltb (length list) limit l) (passes (le-ltb (length mults) limit k) none))
 
 -- and lists the roots again
-listed-again : {m c : ℕ} {roots room : List ℕ} (list mults : List ℕ) (r : Solved) (x u : List ℕ)
+listed-again : {m c : ℕ} {roots room : List ℕ} (list mults : List ℕ) (r : Result Solved Refusal) (x u : List ℕ)
     → Writable m c roots room → limit ≤ length list → limit ≤ length mults
     → Solves m c (root_polynomial m roots) list mults r x u
-    → (r ≡ Found (length roots) (steps_at m c (root_polynomial m roots))) × Holds roots list x
+    → (r ≡ Ok (record { s = length roots; steps = steps_at m c (root_polynomial m roots) })) × Holds roots list x
     × Holds (replicate (length roots) 1) mults u
 listed-again {m} {c} {roots} list mults r x u w l k s =
     let d = (demand-2 m c (root_polynomial m roots) list mults (taken list mults w l k)).solve-gives r x u s in (
-      d.0 ∙ ap (λ rs. Found (length rs) (steps_at m c (root_polynomial m roots))) (roots-back w),
+      d.0 ∙ ap (λ rs. Ok (record { s = length rs; steps = steps_at m c (root_polynomial m roots) })) (roots-back w),
       subst (λ rs. Holds rs list x) (roots-back w) d.1,
       subst (λ es. Holds es mults u) (simple-back w) d.2,
     )

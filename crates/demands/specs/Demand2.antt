@@ -8,6 +8,8 @@
 --   Demand2    on a polynomial that they accept, at the cutoff c: whatever the contracts of the whole call and of the
 --              search admit
 -- Assumes nothing.
+use Rattle.std.specs.Prelude.{Result, Ok}
+use Rattle.refusals.specs.declared.Refusal.{Refusal}
 use Rattle.std.specs.Prelude.{◌≡◌, ◌↔◌, ◌≢◌, ℕ, ◌^◌, ◌<◌, ◌≤◌, length, get_or, take, drop}
 use mathlib.Core.List.{List, Memᴰ, []}
 use Rattle.algebra.specs.Trial.{All, Ascending, Distinct}
@@ -18,10 +20,7 @@ use Rattle.input.specs.Limit.{limit}
 use Rattle.table_rules.specs.Demand.{steps_at}
 use Rattle.find_solve.specs.Calls.{Solves}
 use Rattle.find_solve.specs.declared.Solved.{Solved}
-use Rattle.find_solve.specs.declared.Solved.TheVariants.{Found}
 use Rattle.find_search.specs.Calls.{Searches}
-use Rattle.find_search.specs.declared.Searched.{Searched}
-use Rattle.find_search.specs.declared.Searched.TheVariants.{Seen}
 
 abbrev pub value_at : ℕ → List ℕ → ℕ → ℕ
 value_at m f x = eval (G m) f x
@@ -63,12 +62,12 @@ pub record Demand2 (m c : ℕ) (f list mults : List ℕ) : Type 0 where
   pub multiplicities : MultiplicityList m f (roots_at m f) (multiplicities_at m f)
   pub few : length (roots_at m f) ≤ limit
   -- the trace engine: whatever the whole call's contract admits
-  pub solve-gives : (r : Solved) (after beside : List ℕ) → Solves m c f list mults r after beside
-      → (r ≡ Found (length (roots_at m f)) (steps_at m c f)) × Holds (roots_at m f) list after
+  pub solve-gives : (r : Result Solved Refusal) (after beside : List ℕ) → Solves m c f list mults r after beside
+      → (r ≡ Ok (record { s = length (roots_at m f); steps = steps_at m c f })) × Holds (roots_at m f) list after
       × Holds (multiplicities_at m f) mults beside
   -- the plain trial: whatever the search's contract admits
-  pub search-gives : (r : Searched) (after beside : List ℕ) → Searches m f list mults r after beside
-      → (r ≡ Seen (length (roots_at m f))) × Holds (roots_at m f) list after × Holds (multiplicities_at m f) mults beside
+  pub search-gives : (r : Result ℕ Refusal) (after beside : List ℕ) → Searches m f list mults r after beside
+      → (r ≡ Ok (length (roots_at m f))) × Holds (roots_at m f) list after × Holds (multiplicities_at m f) mults beside
   -- they agree on both lists
-  pub agree : (r : Solved) (s : Searched) (x y u v : List ℕ)
+  pub agree : (r : Result Solved Refusal) (s : Result ℕ Refusal) (x y u v : List ℕ)
       → Solves m c f list mults r x u → Searches m f list mults s y v → (x ≡ y) × (u ≡ v)

@@ -7,6 +7,8 @@
 --               whatever their contracts admit
 --   stored_begun the table of 100 slots that begin left of a polynomial before the limit rose
 -- Assumes nothing.
+use Rattle.std.specs.Prelude.{Result, Ok}
+use Rattle.refusals.specs.declared.Refusal.{Refusal}
 use Rattle.std.specs.Prelude.{◌≡◌, List, ℕ, suc, ◌*◌, ◌/◌, ◌<◌, ◌≤◌, length}
 use Rattle.slices.specs.Lists.{copied}
 use Rattle.input.specs.Cutoff.{in_force}
@@ -18,16 +20,13 @@ use Rattle.table_step.specs.Calls.{Steps}
 use Rattle.table_step.specs.declared.Stepped.{Stepped}
 use Rattle.table_step.specs.declared.Stepped.TheVariants.{Taken, Done}
 use Rattle.table_finish.specs.Calls.{Finishes}
-use Rattle.table_finish.specs.declared.Finished.{Finished}
-use Rattle.table_finish.specs.declared.Finished.TheVariants.{Listed}
 use Rattle.find_solve.specs.Calls.{Solves}
 use Rattle.find_solve.specs.declared.Solved.{Solved}
-use Rattle.find_solve.specs.declared.Solved.TheVariants.{Found}
 
 -- t is what n calls of step leave of the table: each is one that the contract of step admits
 pub data After (table : List ℕ) : ℕ → List ℕ → Type 0 where
   start : After table 0 table
-  call : {n : ℕ} {t : List ℕ} (u : List ℕ) (r : Stepped) → After table n t → Steps t r u → After table (suc n) u
+  call : {n : ℕ} {t : List ℕ} (u : List ℕ) (r : Result Stepped Refusal) → After table n t → Steps t r u → After table (suc n) u
 
 -- by the groups of all roots: no step is taken yet
 abbrev pub stored_begun : ℕ → ℕ → List ℕ → List ℕ
@@ -42,19 +41,19 @@ pub record Followed (limit m c : ℕ) (f begun : List ℕ) : Type 0 where
   pub each : (n : ℕ) (t : List ℕ) → n ≤ steps_at m c f → After begun n t → t ≡ groups_under limit m (in_force c) f n
   -- as many steps are taken as there are groups above the cutoff; then the answer is "done", and nothing is written
   -- any more
-  pub taken : (n : ℕ) (t u : List ℕ) (r : Stepped) → n < steps_at m c f → After begun n t → Steps t r u → r ≡ Taken
-  pub done : (n : ℕ) (t u : List ℕ) (r : Stepped) → steps_at m c f ≤ n → After begun n t → Steps t r u
-      → (r ≡ Done) × (u ≡ t)
+  pub taken : (n : ℕ) (t u : List ℕ) (r : Result Stepped Refusal) → n < steps_at m c f → After begun n t → Steps t r u → r ≡ Ok Taken
+  pub done : (n : ℕ) (t u : List ℕ) (r : Result Stepped Refusal) → steps_at m c f ≤ n → After begun n t → Steps t r u
+      → (r ≡ Ok Done) × (u ≡ t)
   pub still : (n : ℕ) (t : List ℕ) → steps_at m c f ≤ n → After begun n t
       → t ≡ groups_under limit m (in_force c) f (steps_at m c f)
   -- never more than the bound
   pub bound : steps_at m c f ≤ m * (length (roots_at m f) / suc (in_force c))
   -- finish lists the roots, and the whole call gives the roots and steps of begin, steps until done, finish
-  pub finish-gives : (t list : List ℕ) (r : Finished) (after : List ℕ) → After begun (steps_at m c f) t
+  pub finish-gives : (t list : List ℕ) (r : Result ℕ Refusal) (after : List ℕ) → After begun (steps_at m c f) t
       → highest ≤ length list
-      → Finishes t list r after → (r ≡ Listed (length (roots_at m f))) × (after ≡ copied (roots_at m f) list)
-  pub whole-gives : (t list mults : List ℕ) (r : Finished) (s : Solved) (x y u : List ℕ)
+      → Finishes t list r after → (r ≡ Ok (length (roots_at m f))) × (after ≡ copied (roots_at m f) list)
+  pub whole-gives : (t list mults : List ℕ) (r : Result ℕ Refusal) (s : Result Solved Refusal) (x y u : List ℕ)
       → After begun (steps_at m c f) t
       → highest ≤ length list → highest ≤ length mults
       → Finishes t list r x → Solves m c f list mults s y u
-      → (s ≡ Found (length (roots_at m f)) (steps_at m c f)) × (y ≡ x)
+      → (s ≡ Ok (record { s = length (roots_at m f); steps = steps_at m c f })) × (y ≡ x)

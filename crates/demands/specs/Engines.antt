@@ -2,6 +2,8 @@
 -- successive resultants. Whatever their contracts admit is the same list.
 --   Engines   on a polynomial that the whole call accepts, at the cutoff c
 -- Assumes nothing.
+use Rattle.std.specs.Prelude.{Result, Ok}
+use Rattle.refusals.specs.declared.Refusal.{Refusal}
 use Rattle.std.specs.Prelude.{◌≡◌, List, ℕ, ◌≤◌, length}
 use Rattle.field.specs.Field.{roots_at}
 use Rattle.input.specs.Limit.{limit}
@@ -9,11 +11,8 @@ use Rattle.input.specs.Polynomials.{PolynomialIn}
 use Rattle.table_rules.specs.Demand.{steps_at}
 use Rattle.find_solve.specs.Calls.{Solves}
 use Rattle.find_solve.specs.declared.Solved.{Solved}
-use Rattle.find_solve.specs.declared.Solved.TheVariants.{Found}
 use Rattle.find_search.specs.Calls.{Searches}
 use Rattle.find_search.specs.Searching.{SearchedOut}
-use Rattle.find_search.specs.declared.Searched.{Searched}
-use Rattle.find_search.specs.declared.Searched.TheVariants.{Seen}
 use Rattle.demands.specs.Demand2.{Holds}
 
 pub record Engines (m c : ℕ) (f list mults : List ℕ) : Type 0 where
@@ -22,6 +21,6 @@ pub record Engines (m c : ℕ) (f list mults : List ℕ) : Type 0 where
   -- successive resultants: whatever that contract admits
   pub resultants-give : (k : ℕ) (after : List ℕ) → SearchedOut m f list k after → (k ≡ length (roots_at m f)) × Holds (roots_at m f) list after
   -- all three tell the same number of roots, and leave the same list
-  pub agree : (r : Solved) (s : Searched) (k : ℕ) (x y z u v : List ℕ)
+  pub agree : (r : Result Solved Refusal) (s : Result ℕ Refusal) (k : ℕ) (x y z u v : List ℕ)
       → Solves m c f list mults r x u → Searches m f list mults s y v → SearchedOut m f list k z
-      → (r ≡ Found k (steps_at m c f)) × (s ≡ Seen k) × (x ≡ y) × (y ≡ z)
+      → (r ≡ Ok (record { s = k; steps = steps_at m c f })) × (s ≡ Ok k) × (x ≡ y) × (y ≡ z)

@@ -14,6 +14,7 @@ pub mod Loops
 pub mod Raising
 pub mod Tree
 pub mod Logarithms
+pub mod ByLogs
 pub mod Solutions
 pub mod Instance
 mod Doubles

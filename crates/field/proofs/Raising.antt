@@ -4,7 +4,7 @@
 --   SquaresTo         the row up to i;  squares-from, squares-on, squares-end  its loop;  twice-lt  twice an
 --                     element, reduced, is one
 --   Mapping           the sum up to i;  mapping-from, mapping-on, mapping-end  its loop
---   Raising           the turns that are left;  raising-from, raising-on, raising-end  their loop
+--   Raising           the turns from 1 on;  raising-from, raising-on, raising-end  their loop
 --   raised-back       m turns bring an element back;  raised_by-lt  turns leave elements
 --   raised-squared    what m - 1 turns leave, times c, is the square root
 --   raised-root       where c is 1, the square root;  raised-inverse  from 1 on, the inverse
@@ -37,11 +37,11 @@ pub record SquaresTo (F : Field) (c : ℕ) (row : List ℕ) (y i : ℕ) : Type 0
   pub next : y ≡ turned F c (power (numbers F) 2 i)
   pub done : (j : ℕ) → j < i → get_or row j 0 ≡ turned F c (2 ^ j)
 
--- the turns that are left
-pub record Raising (F : Field) (c x y left : ℕ) : Type 0 where
-  pub some : 0 < left
+-- the turns from `turn` on, the first of which is 1
+pub record Raising (F : Field) (c x y turn : ℕ) : Type 0 where
+  pub within : turn ≤ F.degree
   pub y-lt : y < size F
-  pub ahead : raised_by F c (left - 1) y ≡ raised_by F c (F.degree - 1) x
+  pub ahead : raised_by F c (F.degree - turn) y ≡ raised_by F c (F.degree - 1) x
 
 module _ (F : Field) (gen : Generated F) where
   open ring F gen.monic use {mul_comm, mul_assoc, mul-xor-r, mul-one-l, mul-one-r, mul-lt, mul-two, mul-swap, square-xor}
@@ -103,26 +103,26 @@ module _ (F : Field) (gen : Generated F) where
   pub squares-end : {c y i : ℕ} {row : List ℕ} → SquaresTo F c row y i → F.degree ≤ i → Squares F c row
   squares-end s h = record { entry = λ j l. s.done j (omega arith) }
 
-  -- ---- the turns that are left
-  pub raising-from : {c x : ℕ} → 0 < F.degree → x < size F → Raising F c x x F.degree
-  raising-from p h = record { some = p; y-lt = h; ahead = refl }
+  -- ---- the turns, from 1 on
+  pub raising-from : {c x : ℕ} → 0 < F.degree → x < size F → Raising F c x x 1
+  raising-from p h = record { within = omega arith; y-lt = h; ahead = refl }
 
-  pub raising-on : {c x y v left : ℕ} {row : List ℕ} → Squares F c row → Raising F c x y left → 1 < left → v ≡ linear_map row y
-      → Raising F c x v (left - 1)
+  pub raising-on : {c x y v turn : ℕ} {row : List ℕ} → Squares F c row → Raising F c x y turn → turn < F.degree → v ≡ linear_map row y
+      → Raising F c x v (turn + 1)
   unfolding raised_by
-  raising-on {c} {x} {y} {v} {left} s r h e =
+  raising-on {c} {x} {y} {v} {turn} s r h e =
       record {
-        some = omega arith;
-        y-lt = subst (λ (t : ℕ). t < size F) (sym turn) (turned_lt c y);
-        ahead = ap (raised_by F c (left - 1 - 1)) turn ∙ ap (λ (n : ℕ). raised_by F c n y) (let q : suc (left - 1 - 1) ≡ left - 1 = omega arith in q) ∙ r.ahead;
+        within = omega arith;
+        y-lt = subst (λ (t : ℕ). t < size F) (sym turned-y) (turned_lt c y);
+        ahead = ap (raised_by F c (F.degree - (turn + 1))) turned-y ∙ ap (λ (n : ℕ). raised_by F c n y) (let q : suc (F.degree - (turn + 1)) ≡ F.degree - turn = omega arith in q) ∙ r.ahead;
       }
     where
-      turn : v ≡ turned F c y
-      turn = e ∙ turned-row s y r.y-lt
+      turned-y : v ≡ turned F c y
+      turned-y = e ∙ turned-row s y r.y-lt
 
-  pub raising-end : {c x y left : ℕ} → Raising F c x y left → left ≤ 1 → y ≡ raised_by F c (F.degree - 1) x
+  pub raising-end : {c x y turn : ℕ} → Raising F c x y turn → F.degree ≤ turn → y ≡ raised_by F c (F.degree - 1) x
   unfolding raised_by
-  raising-end {c} {x} {y} {left} r h = ap (λ (n : ℕ). raised_by F c n y) (let q : 0 ≡ left - 1 = omega arith in q) ∙ r.ahead
+  raising-end {c} {x} {y} {turn} r h = ap (λ (n : ℕ). raised_by F c n y) (let q : 0 ≡ F.degree - turn = omega arith in q) ∙ r.ahead
 
   -- ---- what the turns come to
   pub raised_by-lt : (c n x : ℕ) → x < size F → raised_by F c n x < size F

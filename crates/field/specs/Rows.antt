@@ -5,10 +5,8 @@
 --   ListedRow   m and p are a row
 --   row_at       the row of the field of degree m, as the code hands it out;  IsRow  a row is that of degree m
 -- Assumes nothing.
-use Rattle.std.specs.Prelude.{◌≡◌, Bool, true, false, cond, List, [], ◌∷◌, ℕ, ◌^◌, eqb}
+use Rattle.std.specs.Prelude.{◌≡◌, Option, Some, None, Bool, true, false, cond, List, [], ◌∷◌, ℕ, ◌^◌, eqb}
 use Rattle.field.specs.declared.rows.Row.{Row}
-use Rattle.field.specs.declared.rows.FoundRow.{FoundRow}
-use Rattle.field.specs.declared.rows.FoundRow.TheVariants.{At, Unknown}
 
 abbrev pub rows : List (ℕ × ℕ)
 rows = (4, 19) ∷ (8, 285) ∷ (11, 2053) ∷ []
@@ -34,11 +32,11 @@ pub record ListedRow (m p : ℕ) : Type 0 where
   pub poly : poly_of m ≡ p
 
 -- the row beside the degree m in these rows
-unfoldable pub row_in : List (ℕ × ℕ) → ℕ → FoundRow
-row_in [] m = Unknown
-row_in (r ∷ rs) m = cond (eqb r.0 m) (At (record { degree = r.0; poly = r.1; size = 2 ^ r.0 })) (row_in rs m)
+unfoldable pub row_in : List (ℕ × ℕ) → ℕ → Option Row
+row_in [] m = None
+row_in (r ∷ rs) m = cond (eqb r.0 m) (Some (record { degree = r.0; poly = r.1; size = 2 ^ r.0 })) (row_in rs m)
 
-abbrev pub row_at : ℕ → FoundRow
+abbrev pub row_at : ℕ → Option Row
 row_at m = row_in rows m
 
 pub record IsRow (m : ℕ) (row : Row) : Type 0 where

@@ -8,3 +8,4 @@ pub mod arithmetic; // the reduction, the product, the square root, the position
 pub mod powers; // powers by repeated squaring
 pub mod division; // the inverse
 pub mod solver; // the quadratic solver
+pub mod tables; // the log and antilog tables of a field, as they are lent

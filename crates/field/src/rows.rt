@@ -10,61 +10,44 @@ pub struct Row {
     pub size: u16,
 }
 
+// The fields of 16, of 256 and of 2048 elements.
+pub const ROW4: Row = Row {
+    degree: 4,
+    poly: 19,
+    size: 16,
+};
+
+pub const ROW8: Row = Row {
+    degree: 8,
+    poly: 285,
+    size: 256,
+};
+
+pub const ROW11: Row = Row {
+    degree: 11,
+    poly: 2053,
+    size: 2048,
+};
+
 // How many fields there are.
 pub const FIELDS: usize = 3;
 
 // The fields' rows, which the tests, the reader and the field types consult.
-pub const ROWS: [Row; FIELDS] = [
-    Row {
-        degree: 4,
-        poly: 19,
-        size: 16,
-    },
-    Row {
-        degree: 8,
-        poly: 285,
-        size: 256,
-    },
-    Row {
-        degree: 11,
-        poly: 2053,
-        size: 2048,
-    },
-];
-
-#[derive(Drop)]
-pub enum FoundRow {
-    At(Row),
-    Unknown,
-}
+pub const ROWS: [Row; FIELDS] = [ROW4, ROW8, ROW11];
 
 // The row of the field of degree m.
-pub fn row_of(m: u16) -> FoundRow
+pub fn row_of(m: u16) -> Option<Row>
     ensures { result ≡ row_at m }
 {
-    let mut i = 0;
-    while i < FIELDS {
-        let row = ROWS[i];
-        if row.degree == m {
-            return FoundRow::At(row);
-        }
-        i += 1;
-    }
-    FoundRow::Unknown
+    ROWS.iter().find(|row| row.degree == m).copied()
 }
 
-// The row of a degree that is known.
-fn known_row(m: u16) -> Row
+// The row of the field of a known degree.
+pub fn known_row(m: u16) -> Row
     requires { known m ≡ true }
     ensures { IsRow m result }
 {
-    let mut i = 0;
-    let mut row = ROWS[0];
-    while row.degree != m {
-        i += 1;
-        row = ROWS[i];
-    }
-    row
+    row_of(m).unwrap()
 }
 
 // The polynomial of the field of a known degree.
@@ -72,8 +55,7 @@ pub fn poly_of(m: u16) -> u16
     requires { known m ≡ true }
     ensures { result ≡ poly_of m }
 {
-    let row = known_row(m);
-    row.poly
+    known_row(m).poly
 }
 
 // How many elements it has.
@@ -81,6 +63,5 @@ pub fn size_of(m: u16) -> u16
     requires { known m ≡ true }
     ensures { result ≡ 2 ^ m }
 {
-    let row = known_row(m);
-    row.size
+    known_row(m).size
 }

@@ -1,5 +1,3 @@
-mod Arms
-mod Tested
-pub mod Reading
+pub mod Agreeing
 mod Logs11
 pub mod Field11

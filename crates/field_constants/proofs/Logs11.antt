@@ -1,5 +1,4 @@
--- Products, inverses and square roots by the log and the antilog, in any generated field.
---   log-inverse   the antilog of what the log is short of twice the order is the inverse
+-- Quotients and square roots by the log and the antilog, in any generated field.
 --   log-quotient  the antilog of a log and what another is short of twice the order is the quotient
 --   log-root      the antilog of the position, made even, is the square root
 --   quotient      s / a times a has the square of s
@@ -13,31 +12,12 @@ use Rattle.field.specs.Field.{Field, size, order, mul, numbers, inverse, positio
 use Rattle.field.specs.Powers.{turned}
 use Rattle.field.specs.Tables.{log_of, antilog_of}
 use Rattle.field.proofs.Ring.{ring, power-lt, power-add}
-use Rattle.field.proofs.Generator.{Generated, one_below, power-order, position-is, inverse-only, mul-inverse}
+use Rattle.field.proofs.Generator.{Generated, one_below, power-order, position-is, mul-inverse}
+use Rattle.field.proofs.ByLogs.{log-inverse}
 use Rattle.field.proofs.Logarithms.{log-position, log-half, antilog-even, antilog-odd}
 
 module _ (F : Field) (gen : Generated F) where
   open ring F gen.monic use {mul-one-r, mul_assoc, mul_comm, mul-zero-r}
-
-  -- the rest of the way round
-  pub log-inverse : (x : ℕ) → 0 < x → x < size F → antilog_of F (2 * order F - log_of F x) ≡ inverse F x
-  log-inverse x p l = ap (antilog_of F) index ∙ antilog-even F back ∙ sym (inverse-only F gen x (power (numbers F) 2 back) p l below one)
-    where
-      back : ℕ
-      back = order F - position F x
-
-      index : 2 * order F - log_of F x ≡ 2 * (order F - position F x)
-      index = omega (arith, log-position F x p)
-
-      below : power (numbers F) 2 (order F - position F x) < size F
-      below = power-lt F gen.monic (one_below F gen) 2 (order F - position F x)
-
-      one : mul F x (power (numbers F) 2 (order F - position F x)) ≡ 1
-      one =
-          ap (λ (y : ℕ). mul F y (power (numbers F) 2 (order F - position F x))) (sym (position-is F gen x p l).1)
-          ∙ sym (power-add F gen.monic (one_below F gen) 2 (position F x) (order F - position F x))
-          ∙ ap (power (numbers F) 2) (let h = (position-is F gen x p l).0 in let e : position F x + (order F - position F x) ≡ order F = omega arith in e)
-          ∙ power-order F gen
 
   -- one way on and the rest of another way round; odd where x is 0
   pub log-quotient : (x y : ℕ) → x < size F → 0 < y → y < size F
@@ -49,7 +29,7 @@ module _ (F : Field) (gen : Generated F) where
       turned-back =
           sym (antilog-even F (order F - position F y))
           ∙ ap (antilog_of F) (let e : 2 * (order F - position F y) ≡ 2 * order F - log_of F y = omega (arith, log-position F y p) in e)
-          ∙ log-inverse y p l
+          ∙ log-inverse F gen y p l
 
       go : Dec (0 < x) → antilog_of F (log_of F x + (2 * order F - log_of F y)) ≡ mul F (inverse F y) x
       go (yes q) =

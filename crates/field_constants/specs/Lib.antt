@@ -1,3 +1,2 @@
--- What is meant: the words of the tables, and the entry that a word holds.
-pub mod Words
+-- What is meant: a number with its digits from 11 on folded back.
 pub mod Entries

@@ -4,7 +4,9 @@ ghost use Rattle.field.specs.Field.{field_at, mul, inverse};
 ghost use Rattle.field.specs.Quadratics.{roots_in, roots_of_quadratic};
 
 use crate::tables::{antilog11, half11, log11};
+use field::rows::ROW11;
 use field::solver::Quadratic;
+use field_tables::constants::tables_of;
 
 // The product of two elements.
 pub fn product11(x: u16, y: u16) -> u16
@@ -14,7 +16,7 @@ pub fn product11(x: u16, y: u16) -> u16
     if x == 0 {
         return 0;
     }
-    antilog11(log11(x) + log11(y))
+    tables_of(ROW11.degree).product(x, y)
 }
 
 // The inverse of a nonzero element.
@@ -22,7 +24,7 @@ pub fn inverse11(x: u16) -> u16
     requires { (0 < x) × (x < 2048) }
     ensures { result ≡ inverse (field_at 11) x }
 {
-    antilog11(4094 - log11(x))
+    tables_of(ROW11.degree).inverse(x)
 }
 
 // The quotient x / y, where y is not 0: the difference of the logs is odd where x is 0.

@@ -1,30 +1,33 @@
 -- What the public element calls answer, for every input (docs/RULES.md section 2; the order of refusals is RULES 8.2).
 --   told_answer, told_quadratic   the number and the values of an answer: a refusal's number, or 0 and the values
+--   roots_told           the values of a quadratic's answer: how many of its roots are double, and the roots
 --   pair_tests, nonzero_tests, position_tests   the tests in their order, each behind its number
+--   AdmitsRow            all tests pass and the row is the field's, or the refusal is that of the first that holds
 --   position_under       the position of a root under a convention
 --   quadratic_values     of a quadratic: whether its one root is double, and its roots
 --   product_outcome ..   the outcome of each call: its tests and its value
 --   TellsProduct ..     THE CONTRACT of each call: which answers it admits
 -- Assumes nothing.
-use Rattle.std.specs.Prelude.{Bool, not, cond, ◌||◌, List, [], ◌∷◌, ◌≡◌, ℕ, ◌-◌, ◌%◌, ◌^◌, eqb, leb, ltb}
-use Rattle.refusals.specs.Order.{outcome}
+use Rattle.std.specs.Prelude.{Result, Ok, Err, Bool, not, cond, ◌||◌, List, [], ◌∷◌, ◌≡◌, ℕ, ◌-◌, ◌%◌, ◌^◌, eqb, leb, ltb}
+use Rattle.refusals.specs.Order.{outcome, Given, Passed}
 use Rattle.refusals.specs.Numbers.{number_of}
-use Rattle.field.specs.Rows.{known}
+use Rattle.refusals.specs.Admitting.{told}
+use Rattle.refusals.specs.declared.Refusal.{Refusal}
+use Rattle.field.specs.Rows.{known, IsRow}
+use Rattle.field.specs.declared.rows.Row.{Row}
 use Rattle.field.specs.Field.{Field, field_at, order, mul, inverse, position}
 use Rattle.field.specs.Quadratics.{roots_in, times_in, doubles}
 use Rattle.field.specs.Quadratics.{roots_of_quadratic, multiplicities_of_quadratic}
-use Rattle.field_elements.specs.declared.Answer.{Answer}
-use Rattle.field_elements.specs.declared.Answer.TheVariants.{Value, Refused}
-use Rattle.field_elements.specs.declared.Roots.{Roots}
-use Rattle.field_elements.specs.declared.Roots.TheVariants.{Found, Refused as Turned}
+use Rattle.field.specs.declared.solver.Quadratic.{Quadratic}
 
-abbrev pub told_answer : Answer → ℕ × List ℕ
-told_answer (Value v) = (0, v ∷ [])
-told_answer (Refused k) = (number_of k, [])
+abbrev pub told_answer : Result ℕ Refusal → ℕ × List ℕ
+told_answer = told (λ v. v ∷ [])
 
-abbrev pub told_quadratic : Roots → ℕ × List ℕ
-told_quadratic (Found q) = (0, doubles (times_in q) ∷ roots_in q)
-told_quadratic (Turned k) = (number_of k, [])
+abbrev pub roots_told : Quadratic → List ℕ
+roots_told q = doubles (times_in q) ∷ roots_in q
+
+abbrev pub told_quadratic : Result Quadratic Refusal → ℕ × List ℕ
+told_quadratic = told roots_told
 
 -- is a no element?
 abbrev pub outside : ℕ → ℕ → Bool
@@ -40,6 +43,11 @@ nonzero_tests m a = (1, not (known m)) ∷ (4, outside m a) ∷ (13, eqb a 0) �
 -- those of a position, whose convention is 0 or 1
 abbrev pub position_tests : ℕ → ℕ → ℕ → List (ℕ × Bool)
 position_tests m r convention = (1, not (known m)) ∷ (21, ltb 1 convention) ∷ (4, outside m r) ∷ (13, eqb r 0) ∷ []
+
+-- what the tests find
+abbrev pub AdmitsRow : List (ℕ × Bool) → ℕ → Result Row Refusal → Type 0
+AdmitsRow tests m (Ok row) = Passed tests × IsRow m row
+AdmitsRow tests m (Err k) = Given (number_of k) tests
 
 -- the place of the root r = a^j: j under convention 0, that of Goppa locators, products of (z + X); under 1, that of
 -- recorders, products of (1 + X z), whose roots are inverses, (2^m-1-j) modulo (2^m-1)
@@ -64,14 +72,14 @@ abbrev pub quadratic_outcome : ℕ → ℕ → ℕ → ℕ × List ℕ
 quadratic_outcome m a b = outcome (pair_tests m a b) (quadratic_values (field_at m) a b)
 
 -- the contract of each call: the answers that it admits
-abbrev pub TellsProduct : ℕ → ℕ → ℕ → Answer → Type 0
+abbrev pub TellsProduct : ℕ → ℕ → ℕ → Result ℕ Refusal → Type 0
 TellsProduct m a b r = told_answer r ≡ product_outcome m a b
 
-abbrev pub TellsInverse : ℕ → ℕ → Answer → Type 0
+abbrev pub TellsInverse : ℕ → ℕ → Result ℕ Refusal → Type 0
 TellsInverse m a r = told_answer r ≡ inverse_outcome m a
 
-abbrev pub TellsPosition : ℕ → ℕ → ℕ → Answer → Type 0
+abbrev pub TellsPosition : ℕ → ℕ → ℕ → Result ℕ Refusal → Type 0
 TellsPosition m x convention r = told_answer r ≡ position_outcome m x convention
 
-abbrev pub TellsQuadratic : ℕ → ℕ → ℕ → Roots → Type 0
+abbrev pub TellsQuadratic : ℕ → ℕ → ℕ → Result Quadratic Refusal → Type 0
 TellsQuadratic m a b r = told_quadratic r ≡ quadratic_outcome m a b

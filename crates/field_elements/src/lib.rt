@@ -2,114 +2,89 @@
 #![tactic(auto)]
 
 ghost use Rattle.field_elements.specs.Calls.{TellsProduct, TellsInverse, TellsPosition, TellsQuadratic};
-ghost use Rattle.field_elements.specs.Calls.{pair_tests, nonzero_tests, position_tests};
-ghost use Rattle.refusals.specs.Admitting.{Admits};
+ghost use Rattle.field_elements.specs.Calls.{AdmitsRow, pair_tests, nonzero_tests, position_tests};
 
-use field::rows::{FoundRow, row_of, size_of};
+use field::rows::{Row, row_of};
 use field::solver::Quadratic;
-use field_tables::field_types::{inverse_in, position_in, product_in, roots_in};
-use refusals::{Admission, Refusal, also};
+use field_tables::constants::{halves_of, logs_of};
+use refusals::Refusal;
 
 pub mod places; // positions of field 11 without a table
 
 // An element of a field by its number, or a number that may be none.
 pub type Element = u16;
 
-// What an element call answers: a value, or what is turned away.
-#[derive(Drop)]
-pub enum Answer {
-    Value(u16),
-    Refused(Refusal),
-}
-
-// What the quadratic call answers: the roots, or what is turned away.
-#[derive(Drop)]
-pub enum Roots {
-    Found(Quadratic),
-    Refused(Refusal),
-}
-
-// The tests of the calls on two elements.
-fn admit_pair(m: u16, a: Element, b: Element) -> Admission
-    ensures { Admits (pair_tests m a b) result }
+// The tests of the calls on two elements, and the field's row.
+fn admit_pair(m: u16, a: Element, b: Element) -> Result<Row, Refusal>
+    ensures { AdmitsRow (pair_tests m a b) m result }
 {
-    let found = row_of(m);
-    let FoundRow::At(row) = found else {
-        return Admission::Out(Refusal::Field);
-    };
+    let row = row_of(m).ok_or(Refusal::Field)?;
     if row.size <= a {
-        return Admission::Out(Refusal::Element);
+        return Err(Refusal::Element);
     }
     if row.size <= b {
-        return Admission::Out(Refusal::Element);
+        return Err(Refusal::Element);
     }
-    Admission::In
+    Ok(row)
 }
 
 // The tests of the calls on one element that must not be 0: those of a pair of it, and one behind them.
-fn admit_nonzero(m: u16, a: Element) -> Admission
-    ensures { Admits (nonzero_tests m a) result }
+fn admit_nonzero(m: u16, a: Element) -> Result<Row, Refusal>
+    ensures { AdmitsRow (nonzero_tests m a) m result }
 {
-    also(admit_pair(m, a, a), a == 0, Refusal::OfZero)
+    let row = admit_pair(m, a, a)?;
+    if a == 0 {
+        return Err(Refusal::OfZero);
+    }
+    Ok(row)
 }
 
 // The product of a and b in the field of degree m.
-pub fn product(m: u16, a: Element, b: Element) -> Answer
+pub fn product(m: u16, a: Element, b: Element) -> Result<u16, Refusal>
     ensures { TellsProduct m a b result }
 {
-    match admit_pair(m, a, b) {
-        Admission::Out(k) => Answer::Refused(k),
-        Admission::In => Answer::Value(product_in(m, a, b)),
-    }
+    let row = admit_pair(m, a, b)?;
+    Ok(row.product(a, b))
 }
 
 // The inverse of a in the field of degree m.
-pub fn inverse(m: u16, a: Element) -> Answer
+pub fn inverse(m: u16, a: Element) -> Result<u16, Refusal>
     ensures { TellsInverse m a result }
 {
-    match admit_nonzero(m, a) {
-        Admission::Out(k) => Answer::Refused(k),
-        Admission::In => Answer::Value(inverse_in(m, a)),
-    }
+    let row = admit_nonzero(m, a)?;
+    Ok(row.inverse(a))
 }
 
 // The tests of the position call: those of an element that must not be 0, with the convention's behind the field's.
-fn admit_position(m: u16, r: Element, convention: u16) -> Admission
-    ensures { Admits (position_tests m r convention) result }
+fn admit_position(m: u16, r: Element, convention: u16) -> Result<Row, Refusal>
+    ensures { AdmitsRow (position_tests m r convention) m result }
 {
     if convention <= 1 {
         return admit_nonzero(m, r);
     }
-    match row_of(m) {
-        FoundRow::At(_) => Admission::Out(Refusal::Convention),
-        FoundRow::Unknown => Admission::Out(Refusal::Field),
-    }
+    row_of(m).ok_or(Refusal::Field)?;
+    Err(Refusal::Convention)
 }
 
 // The position of a root r in the field of degree m: where the bad bit stands. Under convention 0 (Goppa locators,
 // products of z + X) the root 2^j stands for place j; under 1 (recorders, products of 1 + X z) for its mirror image
 // among the 2^m - 1 places, and place 0 stays 0.
-pub fn position(m: u16, r: Element, convention: u16) -> Answer
+pub fn position(m: u16, r: Element, convention: u16) -> Result<u16, Refusal>
     ensures { TellsPosition m r convention result }
 {
-    if let Admission::Out(k) = admit_position(m, r, convention) {
-        return Answer::Refused(k);
-    }
-    let j = position_in(m, r);
+    let row = admit_position(m, r, convention)?;
+    let j = row.position(logs_of(m), r);
     if convention == 0 {
-        return Answer::Value(j);
+        return Ok(j);
     }
-    let size = size_of(m);
-    let order = size - 1;
-    Answer::Value((order - j) % order)
+    let order = row.size - 1;
+    Ok((order - j) % order)
 }
 
 // The roots of z^2 + az + b in the field of degree m.
-pub fn quadratic(m: u16, a: Element, b: Element) -> Roots
+pub fn quadratic(m: u16, a: Element, b: Element) -> Result<Quadratic, Refusal>
     ensures { TellsQuadratic m a b result }
 {
-    if let Admission::Out(k) = admit_pair(m, a, b) {
-        return Roots::Refused(k);
-    }
-    Roots::Found(roots_in(m, a, b))
+    let row = admit_pair(m, a, b)?;
+    Ok(row.quadratic(halves_of(m), a, b))
 }

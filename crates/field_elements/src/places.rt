@@ -4,11 +4,11 @@ ghost use Rattle.std.specs.Prelude.{◌≡◌, ◌<◌};
 ghost use Rattle.field.specs.Field.{field_at};
 ghost use Rattle.field_elements.specs.Calls.{position_under};
 
+use field::rows::ROW11;
 use field_constants::tables::log11;
-use field_tables::field_types::F11;
 
 // How many positions there are.
-const ORDER: u16 = F11::SIZE - 1;
+const ORDER: u16 = ROW11.size - 1;
 
 // The position of a root of field 11 under the recorders' convention.
 pub fn recorder_place11(r: u16) -> u16

@@ -1,21 +1,11 @@
 -- A field's tables serve every name of the field.
---   last-is, last11                    the last field is that of degree 11, and 11 names it
 --   logs_at, antilogs-at, halves-at    a table of the field of degree n is the table for m, where m is n
 -- Assumes nothing.
 use mathlib.Core.Path.{◌≡◌, sym, subst}
 use mathlib.Core.List.{List}
 use Prim.Native.Nat.{ℕ}
-use native.Mathlib.Omega.{arith}
 use Rattle.field.specs.Field.{field_at}
 use Rattle.field.specs.Tables.{Logs, Antilogs, Halves}
-use Rattle.field.proofs.Known.{last_row, row11}
-use Rattle.field_tables.specs.Naming.{LastField}
-
-pub last-is : {m : ℕ} → LastField m → m ≡ 11
-last-is l = last_row _ l.field l.not4 l.not8
-
-pub last11 : LastField 11
-last11 = record { field = row11.degree; not4 = λ e. omega arith; not8 = λ e. omega arith }
 
 module _ {m n : ℕ} (e : m ≡ n) {l : List ℕ} where
   pub logs_at : Logs (field_at n) l → Logs (field_at m) l

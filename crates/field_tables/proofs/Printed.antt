@@ -1,6 +1,6 @@
 -- The quadratic table of field 4 reads as docs/RULES.md section 2.3 prints it.
 --   printed-rule    the printed list keeps the table's rule: one computed test
---   halves4-reads   whatever keeps the rule in field 4, as what `constants::halves4` gives does, is the printed list
+--   halves4-reads   whatever keeps the rule in field 4, as what `constants::halves_of` gives does, is the printed list
 -- Assumes nothing.
 use mathlib.Core.Path.{◌≡◌, sym, subst, ◌∙◌}
 use mathlib.Core.List.{List, [], ◌∷◌, ◌++◌}

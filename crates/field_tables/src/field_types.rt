@@ -1,134 +1,86 @@
-// The field types, the way in for the element calls: each has its own constants, which are its row's, and thin calls
-// over what the fields share.
-ghost use Rattle.std.specs.Prelude.{◌≡◌, true, ◌<◌, ◌^◌};
-ghost use Rattle.field.specs.Rows.{known};
+// The field types, the way in for the element calls: each is its row, and thin calls over what the rows share.
+ghost use Rattle.std.specs.Prelude.{◌≡◌, refl, true, ◌<◌, ◌^◌};
+ghost use Rattle.field.specs.Rows.{known, IsRow};
 ghost use Rattle.field.specs.Field.{field_at, mul, inverse, position};
 ghost use Rattle.field.specs.Quadratics.{SolvesQuadratic};
+ghost use Rattle.field.specs.declared.rows.Row.{Row};
+ghost use Rattle.field.proofs.Known.{row4, row8, row11};
 
-use crate::constants::{halves4, halves8, halves11, logs4, logs8, logs11};
-use field::arithmetic::{position_of, product_of};
-use field::division::inverse_of;
-use field::rows::ROWS;
-use field::solver::{Quadratic, quadratic_of};
+use crate::constants::{halves_of, logs_of};
+use field::rows::{ROW4, ROW8, ROW11, Row};
+use field::solver::Quadratic;
+
+// A field by its row.
+pub trait Field {
+    const ROW: Row;
+
+    ghost ROW: { Row };
+
+    ghost is_row: { IsRow ROW.degree ROW };
+
+    final fn mul(a: u16, b: u16) -> u16
+        requires { b < ROW.size }
+        ensures { result ≡ mul (field_at ROW.degree) a b }
+    {
+        Self::ROW.product(a, b)
+    }
+
+    final fn inverse(a: u16) -> u16
+        requires { (0 < a) × (a < ROW.size) }
+        ensures { result ≡ inverse (field_at ROW.degree) a }
+    {
+        Self::ROW.inverse(a)
+    }
+
+    final fn position(r: u16) -> u16
+        requires { (0 < r) × (r < ROW.size) }
+        ensures { result ≡ position (field_at ROW.degree) r }
+    {
+        Self::ROW.position(logs_of(Self::ROW.degree), r)
+    }
+
+    final fn roots(a: u16, b: u16) -> Quadratic
+        requires { (a < ROW.size) × (b < ROW.size) }
+        ensures { SolvesQuadratic (field_at ROW.degree) a b result }
+    {
+        Self::ROW.quadratic(halves_of(Self::ROW.degree), a, b)
+    }
+}
 
 // The field of 16 elements.
 #[derive(Drop)]
-pub struct F4 {}
+pub struct F4;
 
-impl F4 {
-    pub const DEGREE: u16 = ROWS[0].degree;
+impl Field for F4 {
+    const ROW: Row = ROW4;
 
-    pub const POLY: u16 = ROWS[0].poly;
+    ghost ROW = { record { degree = 4; poly = 19; size = 16 } };
 
-    pub const SIZE: u16 = ROWS[0].size;
-
-    pub fn mul(a: u16, b: u16) -> u16
-        requires { b < F4.SIZE }
-        ensures { result ≡ mul (field_at 4) a b }
-    {
-        product_of(F4::DEGREE, F4::POLY, a, b)
-    }
-
-    pub fn inverse(a: u16) -> u16
-        requires { (0 < a) × (a < F4.SIZE) }
-        ensures { result ≡ inverse (field_at 4) a }
-    {
-        inverse_of(F4::DEGREE, F4::POLY, a)
-    }
-
-    pub fn position(r: u16) -> u16
-        requires { (0 < r) × (r < F4.SIZE) }
-        ensures { result ≡ position (field_at 4) r }
-    {
-        position_of(F4::DEGREE, F4::POLY, &logs4(F4::DEGREE), r)
-    }
-
-    pub fn roots(a: u16, b: u16) -> Quadratic
-        requires { (a < F4.SIZE) × (b < F4.SIZE) }
-        ensures { SolvesQuadratic (field_at 4) a b result }
-    {
-        quadratic_of(F4::DEGREE, F4::POLY, &halves4(F4::DEGREE), a, b)
-    }
+    ghost is_row = { record { list = row4; degree = refl; size = refl } };
 }
 
 // The field of 256 elements.
 #[derive(Drop)]
-pub struct F8 {}
+pub struct F8;
 
-impl F8 {
-    pub const DEGREE: u16 = ROWS[1].degree;
+impl Field for F8 {
+    const ROW: Row = ROW8;
 
-    pub const POLY: u16 = ROWS[1].poly;
+    ghost ROW = { record { degree = 8; poly = 285; size = 256 } };
 
-    pub const SIZE: u16 = ROWS[1].size;
-
-    pub fn mul(a: u16, b: u16) -> u16
-        requires { b < F8.SIZE }
-        ensures { result ≡ mul (field_at 8) a b }
-    {
-        product_of(F8::DEGREE, F8::POLY, a, b)
-    }
-
-    pub fn inverse(a: u16) -> u16
-        requires { (0 < a) × (a < F8.SIZE) }
-        ensures { result ≡ inverse (field_at 8) a }
-    {
-        inverse_of(F8::DEGREE, F8::POLY, a)
-    }
-
-    pub fn position(r: u16) -> u16
-        requires { (0 < r) × (r < F8.SIZE) }
-        ensures { result ≡ position (field_at 8) r }
-    {
-        position_of(F8::DEGREE, F8::POLY, &logs8(F8::DEGREE), r)
-    }
-
-    pub fn roots(a: u16, b: u16) -> Quadratic
-        requires { (a < F8.SIZE) × (b < F8.SIZE) }
-        ensures { SolvesQuadratic (field_at 8) a b result }
-    {
-        quadratic_of(F8::DEGREE, F8::POLY, &halves8(F8::DEGREE), a, b)
-    }
+    ghost is_row = { record { list = row8; degree = refl; size = refl } };
 }
 
 // The field of 2048 elements.
 #[derive(Drop)]
-pub struct F11 {}
+pub struct F11;
 
-impl F11 {
-    pub const DEGREE: u16 = ROWS[2].degree;
+impl Field for F11 {
+    const ROW: Row = ROW11;
 
-    pub const POLY: u16 = ROWS[2].poly;
+    ghost ROW = { record { degree = 11; poly = 2053; size = 2048 } };
 
-    pub const SIZE: u16 = ROWS[2].size;
-
-    pub fn mul(a: u16, b: u16) -> u16
-        requires { b < F11.SIZE }
-        ensures { result ≡ mul (field_at 11) a b }
-    {
-        product_of(F11::DEGREE, F11::POLY, a, b)
-    }
-
-    pub fn inverse(a: u16) -> u16
-        requires { (0 < a) × (a < F11.SIZE) }
-        ensures { result ≡ inverse (field_at 11) a }
-    {
-        inverse_of(F11::DEGREE, F11::POLY, a)
-    }
-
-    pub fn position(r: u16) -> u16
-        requires { (0 < r) × (r < F11.SIZE) }
-        ensures { result ≡ position (field_at 11) r }
-    {
-        position_of(F11::DEGREE, F11::POLY, &logs11(F11::DEGREE), r)
-    }
-
-    pub fn roots(a: u16, b: u16) -> Quadratic
-        requires { (a < F11.SIZE) × (b < F11.SIZE) }
-        ensures { SolvesQuadratic (field_at 11) a b result }
-    {
-        quadratic_of(F11::DEGREE, F11::POLY, &halves11(F11::DEGREE), a, b)
-    }
+    ghost is_row = { record { list = row11; degree = refl; size = refl } };
 }
 
 // The product of a and an element b in the known field of degree m.

@@ -1,5 +1,5 @@
-// The constant tables of each field, by value, and the field types over them. A table is named in one function and
-// nowhere else: a constant array is built anew wherever it is named, and each naming is proved entry by entry.
+// The constant tables of each field, in read-only memory, and the field types over them. A table is named in one
+// function and nowhere else, since each naming is proved entry by entry.
 #![tactic(auto)]
 
 mod antilogs; // the antilogs

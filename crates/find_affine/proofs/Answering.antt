@@ -14,6 +14,7 @@ use lib.Dec.{T, eqb, ltb, eqb→eq, eqb_refl}
 use lib.ListN.{length}
 use lib.Pow.{pow_pos, pow-lt}
 use Rattle.algebra.proofs.Trial.{first-only}
+use Rattle.std.specs.Prelude.{Some, None}
 use Rattle.refusals.specs.Order.{Passed}
 use Rattle.refusals.proofs.Order.{failed, others}
 use Rattle.slices.specs.Lists.{copied}
@@ -22,7 +23,6 @@ use Rattle.slices.proofs.Bounded.{all_below-exactly}
 use Rattle.find_affine.specs.Affine.{affine_roots, dimension_of, space_values}
 use Rattle.find_affine.specs.Spaces.{spanned, dimension_below, Listed}
 use Rattle.find_affine.specs.Calls.{affine_tests, Spannable, SpannedOut}
-use Rattle.find_affine.specs.declared.Spanned.TheVariants.{NoRoot, Space}
 use Rattle.find_affine.proofs.ListLoops.{length-spanned, dimension-le}
 
 -- two powers of two that are one have one exponent
@@ -41,21 +41,21 @@ dimension-is m n k e h =
     (λ i l t. same_power i k (eqb→eq (2 ^ i) n t ∙ e))
 
 module _ {m : ℕ} {cs : List ℕ} {constant : ℕ} {list : List ℕ} where
-  pub told_none : affine_roots m cs constant ≡ [] → SpannedOut m cs constant list NoRoot list
+  pub told_none : affine_roots m cs constant ≡ [] → SpannedOut m cs constant list None list
   unfolding space_values copied
-  told_none e = record { told = sym (ap (λ l. (0, space_values m l)) e); slots = sym (ap (λ l. copied l list) e) }
+  told_none e = record { values = sym (ap (space_values m) e); slots = sym (ap (λ l. copied l list) e) }
 
   pub told-space : {vectors : List ℕ} {first d n : ℕ} {after : List ℕ} → affine_roots m cs constant ≡ spanned m vectors first
-      → Listed m vectors first list n after → d ≡ dimension_below m vectors → SpannedOut m cs constant list (Space d n) after
+      → Listed m vectors first list n after → d ≡ dimension_below m vectors → SpannedOut m cs constant list (Some (record { dimension = d; count = n })) after
   unfolding space_values
   told-space {vectors} {first} {d} {n} {after} e l f =
       let c : length (spanned m vectors first) ≡ 2 ^ dimension_below m vectors = length-spanned m vectors first in
       let some : length (spanned m vectors first) ≡ 0 → ⊥ = λ z. let p = pow_pos (dimension_below m vectors) in omega arith in
       record {
-        told = sym (
-            ap (λ (s : List ℕ). (0, space_values m s)) e
-            ∙ ap (λ (b : Bool). (0, cond b (0 ∷ []) (length (spanned m vectors first) ∷ dimension_of m (length (spanned m vectors first)) ∷ []))) (ne_eqb _ _ some)
-            ∙ ap₂ (λ (a b : ℕ). (0, a ∷ b ∷ [])) (sym l.count) (dimension-is m (length (spanned m vectors first)) (dimension_below m vectors) c (dimension-le m vectors) ∙ sym f)
+        values = sym (
+            ap (space_values m) e
+            ∙ ap (λ (b : Bool). cond b (0 ∷ []) (length (spanned m vectors first) ∷ dimension_of m (length (spanned m vectors first)) ∷ [])) (ne_eqb _ _ some)
+            ∙ ap₂ (λ (a b : ℕ). a ∷ b ∷ []) (sym l.count) (dimension-is m (length (spanned m vectors first)) (dimension_below m vectors) c (dimension-le m vectors) ∙ sym f)
             );
         slots = l.slots ∙ sym (ap (λ (s : List ℕ). copied s list) e);
       }

@@ -13,44 +13,41 @@ use native.Mathlib.Omega.{arith}
 use borrow.Author.Tests.{eqb-false}
 use lib.Dec.{eqb}
 use lib.ListN.{length, get_or}
+use Rattle.std.specs.Prelude.{Option, Some, None, Result, Ok}
+use Rattle.refusals.specs.Admitting.{told}
+use Rattle.refusals.specs.declared.Refusal.{Refusal}
 use Rattle.refusals.specs.Order.{memory, Given, Passed}
 use Rattle.refusals.proofs.Order.{cases, refused, accepted}
-use Rattle.refusals.proofs.Numbers.{by_number, refused-back, accepted-back}
-use Rattle.refusals.proofs.Told.{way_back, coincide}
+use Rattle.refusals.proofs.Told.{told-one, told-coincide}
 use Rattle.slices.specs.Lists.{copied}
 use Rattle.find_affine.specs.Affine.{affine_roots, dimension_of, space_values}
-use Rattle.find_affine.specs.Calls.{told_spanned, affine_outcome, affine_tests, Spans}
-use Rattle.find_affine.specs.declared.Spanned.{Spanned}
-use Rattle.find_affine.specs.declared.Spanned.TheVariants.{NoRoot, Space, NotSpanned}
+use Rattle.find_affine.specs.Calls.{spanned_values, affine_outcome, affine_tests, Spans}
+use Rattle.find_affine.specs.declared.Space.{Space}
 
 -- one value is "none", two are a space
-space_back : List ℕ → Spanned
-space_back [] = NoRoot
-space_back (n ∷ []) = NoRoot
-space_back (n ∷ k ∷ l) = Space k n
+space_back : List ℕ → Option Space
+space_back [] = None
+space_back (n ∷ []) = None
+space_back (n ∷ k ∷ l) = Some (record { dimension = k; count = n })
 
-spanned_of : ℕ × List ℕ → Spanned
-spanned_of o = by_number NotSpanned (space_back o.1) o.0
+-- it takes the values back
+space-back : (r : Option Space) → space_back (spanned_values r) ≡ r
+unfolding space_back
+space-back None = refl
+space-back (Some s) = refl
 
--- it takes number and values back
-spanned-back : (r : Spanned) → spanned_of (told_spanned r) ≡ r
-unfolding spanned_of space_back
-spanned-back NoRoot = accepted-back NotSpanned NoRoot
-spanned-back (Space k n) = accepted-back NotSpanned (Space k n)
-spanned-back (NotSpanned k) = refused-back NotSpanned NoRoot k
-
-pub spanned-told : (r s : Spanned) → told_spanned r ≡ told_spanned s → r ≡ s
-spanned-told = way_back told_spanned spanned_of spanned-back
+pub spanned-told : (r s : Result (Option Space) Refusal) → told spanned_values r ≡ told spanned_values s → r ≡ s
+spanned-told = told-one spanned_values space_back space-back
 
 -- the answer and the lent list
-pub affine-coincide : (m : ℕ) (cs : List ℕ) (constant : ℕ) (list : List ℕ) (r s : Spanned) (x y : List ℕ)
+pub affine-coincide : (m : ℕ) (cs : List ℕ) (constant : ℕ) (list : List ℕ) (r s : Result (Option Space) Refusal) (x y : List ℕ)
     → Spans m cs constant list r x → Spans m cs constant list s y → (r ≡ s) × (x ≡ y)
 affine-coincide m cs constant list =
-    coincide told_spanned spanned-told (affine_outcome m cs constant list)
+    told-coincide spanned_values space_back space-back (affine_outcome m cs constant list)
     (memory (affine_tests m cs constant (length list)) (copied (affine_roots m cs constant) list) list)
 
 -- a space has at least one root
-pub space-counted : (m : ℕ) (cs : List ℕ) (constant : ℕ) (list : List ℕ) (k n : ℕ) (after : List ℕ) → Spans m cs constant list (Space k n) after → 0 < n
+pub space-counted : (m : ℕ) (cs : List ℕ) (constant : ℕ) (list : List ℕ) (k n : ℕ) (after : List ℕ) → Spans m cs constant list (Ok (Some (record { dimension = k; count = n }))) after → 0 < n
 unfolding space_values
 space-counted m cs constant list k n after h = go (cases (affine_tests m cs constant (length list)))
   where

@@ -1,11 +1,11 @@
 -- The loops over lists of roots: what holds at each turn.
 --   Growing     sums with v stand behind the first n numbers
 --   Listing     the sums of `first` and the first j vectors stand at the front
---   Counting    the vectors that are not 0, counted
+--   kept-count  the vectors that are not 0, counted
 --   length-spanned   there are 2^k sums of `first` and k vectors that are not 0
 -- Assumes nothing.
 use mathlib.Core.Path.{◌≡◌, refl, sym, ap, ap₂, ◌∙◌, subst}
-use mathlib.Core.Bool.{Bool, true, false, cond}
+use mathlib.Core.Bool.{Bool, true, false, cond, not}
 use mathlib.Core.List.{List, [], ◌∷◌, ◌++◌, map, map-append, append_assoc}
 use Prim.Native.Nat.{ℕ, zero, suc, ◌+◌, ◌^◌, ◌≤◌, ◌<◌}
 use native.Mathlib.Nat.{two-pow-succ}
@@ -17,6 +17,8 @@ use lib.Dec.{eqb}
 use lib.Pow.{pow_mono}
 use lib.ListN.{length, get_or, take, drop, set, length-append, length-map, length-set, get_or-append, take-append-drop}
 use lib.Seq.{length-take-le, get_or-take, take-suc, drop-cons, set_at, drop-set-lt}
+use Rattle.std.specs.List.{filter}
+use Rattle.std.proofs.lemmas.List.Elements.{filter-append}
 use Rattle.slices.specs.Lists.{copied}
 use Rattle.slices.proofs.Lists.{copied-front, copied_behind}
 use Rattle.input.specs.Limit.{widest}
@@ -205,22 +207,17 @@ listing-few {vs} {first} {s₀} {s} {k} {j} {n} l h r =
 
 -- ---- the dimension
 
-pub record Counting (vs : List ℕ) (k j : ℕ) : Type 0 where
-  pub count : k ≡ dimension_below j vs
-  pub few : k ≤ j
-
-pub counting-from : (vs : List ℕ) → Counting vs 0 0
+-- the first n vectors that are not 0
+pub kept-count : (n : ℕ) (vs : List ℕ) → n ≤ length vs → length (filter (λ v. not (eqb v 0)) (take n vs)) ≡ dimension_below n vs
 unfolding dimension_below
-counting-from vs = record { count = refl; few = omega arith }
-
-pub counting-yes : {vs : List ℕ} {k j : ℕ} → Counting vs k j → (get_or vs j 0 ≡ 0 → ⊥) → Counting vs (k + 1) (j + 1)
-unfolding dimension_below
-counting-yes {vs} {k} {j} c n =
-    let f = c.few in
-    record { count = rw (add-one k, add-one j, ne_eqb (get_or vs j 0) 0 n) (ap suc c.count); few = omega arith }
-
-pub counting-no : {vs : List ℕ} {k j : ℕ} → Counting vs k j → get_or vs j 0 ≡ 0 → Counting vs k (j + 1)
-unfolding dimension_below
-counting-no {vs} {k} {j} c e =
-    let f = c.few in
-    record { count = rw (add-one, eq-eqb (get_or vs j 0) 0 e) c.count; few = omega arith }
+kept-count zero vs h = refl
+kept-count (suc n) vs h =
+    let p = λ (v : ℕ). not (eqb v 0) in
+    let x = get_or vs n 0 in
+    ap (λ l. length (filter p l)) (take-suc vs n 0 h) ∙ ap length (filter-append p (take n vs) (x ∷ [])) ∙ length-append (filter p (take n vs)) (filter p (x ∷ []))
+    ∙ go (eqb x 0) (kept-count n vs (omega arith))
+  where
+    go : (b : Bool) → length (filter (λ v. not (eqb v 0)) (take n vs)) ≡ dimension_below n vs
+        → length (filter (λ v. not (eqb v 0)) (take n vs)) + length (cond (not b) (get_or vs n 0 ∷ []) []) ≡ cond b (dimension_below n vs) (suc (dimension_below n vs))
+    go true e = omega arith
+    go false e = omega arith

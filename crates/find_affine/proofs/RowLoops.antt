@@ -1,27 +1,32 @@
 -- The loops over rows: what holds at each turn.
 --   Mapping    the first k elements of a list are those of another by f
 --   Sweeping   a row's first j entries are swept
---   swept_none nothing is added where t is 0
---   Seeking    the pivot is looked for from k on
+--   pivot-first   the pivot is the first entry that is not 0
+--   swept-nothing  a row without one adds nothing
 --   Filling    the first j entries are those of a function, the others 0;  units-end, images-end  two such
 --   Rowing     the first i rows of the system stand
 --   Eliminating   i turns of the elimination were made
 --   Summing    the terms of an affine polynomial, added up to place i
 -- Assumes nothing.
 use mathlib.Core.Path.{◌≡◌, refl, sym, ap, ap₂, ◌∙◌, subst}
-use mathlib.Core.Bool.{true}
+use mathlib.Core.Bool.{true, cond}
 use mathlib.Core.Logic.{⊎_elim}
 use mathlib.Core.List.{List, [], ◌∷◌, ◌++◌, map, append-nil}
 use Prim.Native.Nat.{ℕ, zero, suc, ◌+◌, ◌*◌, ◌%◌, ◌^◌, ◌≤◌, ◌<◌}
-use native.Mathlib.Nat.{le_of_suc-le-suc, not-suc-le-zero, mul-zero, pow-suc}
+use native.Mathlib.Nat.{le_of_suc-le-suc, not-suc-le-zero, zero-mul, one-mul, mod-eq_of_lt}
 use native.Mathlib.Numerals.{add-one}
 use native.Mathlib.Decide.{dec_lt, ℕ_discrete}
 use native.Mathlib.Omega.{arith}
 use borrow.Author.Tests.{eq-eqb, ne_eqb}
 use lib.Bits.{bit_xor, xor_zero_r}
+use lib.Dec.{eqb}
 use lib.Pow.{pow_mono}
 use lib.ListN.{length, get_or, take, drop, set, replicate, length-set, drop_of_length-le}
 use lib.Seq.{take_all, drop-cons, get_or-set_same, get_or-set_other}
+use Rattle.std.specs.Prelude.{Option, Some, None, MatchOption}
+use Rattle.std.specs.Option.{unwrap_or}
+use Rattle.std.specs.List.{AllWithin, HoldsAt}
+use Rattle.std.proofs.lemmas.Iterator.{index_from_first}
 use Rattle.field.specs.Rows.{ListedRow, known}
 use Rattle.field.specs.Field.{field_at, mul}
 use Rattle.field.proofs.Known.{by_row, listed}
@@ -30,7 +35,7 @@ use Rattle.field.proofs.Ring.{mul-lt, mul_comm}
 use Rattle.field.proofs.Generator.{Generated, generated, zero-product}
 use Rattle.find_affine.specs.Affine.{terms_at}
 use Rattle.input.specs.Limit.{widest}
-use Rattle.find_affine.specs.Systems.{columns, pivot_of, swept, swept_by, rows_after, vectors_after, digit_row, Imaged, Units, Rowed}
+use Rattle.find_affine.specs.Systems.{columns, pivot_of, swept, swept_by, rows_after, vectors_after, digit_row, Imaged, Units, Rowed, IsPivot}
 
 -- ---- a list mapped in place
 
@@ -97,40 +102,40 @@ sweeping-on {t} {by} {s₀} {s} {j} {x} c h i e = record {
 pub sweeping-end : {t : ℕ} {by s₀ s : List ℕ} {j : ℕ} → Sweeping t by s₀ s j → length by ≤ j → s ≡ swept t by s₀
 sweeping-end {t} {by} {s₀} {s} {j} c h = c.done ∙ ap (λ u. swept t u s₀) (take_all j by h)
 
--- nothing is added
-pub swept_none : (by s : List ℕ) → swept 0 by s ≡ s
-unfolding swept
-swept_none by [] = refl
-swept_none [] (a ∷ s) = refl
-swept_none (b ∷ by) (a ∷ s) = ap₂ (λ (x : ℕ) (l : List ℕ). x ∷ l) (ap (bit_xor a) (mul-zero (b % 2)) ∙ xor_zero_r a) (swept_none by s)
-
 -- ---- the pivot
 
--- the pivot of the row is that of what lies ahead
-pub record Seeking (row : List ℕ) (k : ℕ) : Type 0 where
-  pub within : k ≤ length row
-  pub same : pivot_of row ≡ k + pivot_of (drop k row)
-
-pub seeking-from : (row : List ℕ) → Seeking row 0
-seeking-from row = record { within = omega arith; same = omega arith }
-
-pub seeking-on : {row : List ℕ} {k : ℕ} → Seeking row k → k < length row → get_or row k 0 ≡ 0 → Seeking row (k + 1)
+-- the first entry that is not 0
+pub pivot-first : (row : List ℕ) (r : Option ℕ) → length row ≡ columns
+    → MatchOption r (AllWithin (λ a. a ≡ 0) row 0 (length row)) (λ i. (i < length row) × HoldsAt (λ a. a ≡ 0 → ⊥) row i × AllWithin (λ a. a ≡ 0) row 0 i)
+    → IsPivot row r
 unfolding pivot_of
-seeking-on {row} {k} p h z =
-    let e : pivot_of (drop k row) ≡ suc (pivot_of (drop (k + 1) row)) = rw (add-one, drop-cons row k 0 h, eq-eqb (get_or row k 0) 0 z) in
-    record { within = omega arith; same = omega (arith, p.same) }
+pivot-first row r l h = go r h (index_from_first pivot_of (λ a. a ≡ 0 → ⊥) (λ a. a ≡ 0) refl (λ a s n. rw (ne_eqb a 0 n)) (λ a s z. rw (eq-eqb a 0 z, add-one)) row r h)
+  where
+    go : (r : Option ℕ)
+        → MatchOption r (AllWithin (λ a. a ≡ 0) row 0 (length row)) (λ i. (i < length row) × HoldsAt (λ a. a ≡ 0 → ⊥) row i × AllWithin (λ a. a ≡ 0) row 0 i)
+        → pivot_of row ≡ unwrap_or r (length row) → IsPivot row r
+    go None h e = e
+    go (Some i) h e = let f = h.0 in (sym e, omega arith)
 
-pub seeking-stop : {row : List ℕ} {k : ℕ} → Seeking row k → k < length row → (get_or row k 0 ≡ 0 → ⊥) → k ≡ pivot_of row
-unfolding pivot_of
-seeking-stop {row} {k} p h n =
-    let e : pivot_of (drop k row) ≡ 0 = rw (drop-cons row k 0 h, ne_eqb (get_or row k 0) 0 n) in
-    omega (arith, p.same)
+-- a row without a bit adds nothing
+pub swept-nothing : (t : ℕ) (by s : List ℕ) → pivot_of by ≡ length by → swept t by s ≡ s
+unfolding swept pivot_of
+swept-nothing t by [] e = refl
+swept-nothing t [] (a ∷ s) e = refl
+swept-nothing t (b ∷ by) (a ∷ s) e = go (ℕ_discrete b 0) e (swept-nothing t by s)
+  where
+    go : Dec (b ≡ 0) → cond (eqb b 0) (suc (pivot_of by)) 0 ≡ suc (length by) → (pivot_of by ≡ length by → swept t by s ≡ s)
+        → bit_xor a (b % 2 * t) ∷ swept t by s ≡ a ∷ s
+    go (yes z) e rest =
+        let f : suc (pivot_of by) ≡ suc (length by) = ap (λ c. cond c (suc (pivot_of by)) 0) (sym (eq-eqb b 0 z)) ∙ e in
+        ap₂ (λ (x : ℕ) (l : List ℕ). x ∷ l) (ap (λ c. bit_xor a (c % 2 * t)) z ∙ ap (bit_xor a) (zero-mul t) ∙ xor_zero_r a) (rest (omega arith))
+    go (no n) e rest =
+        let f : 0 ≡ suc (length by) = ap (λ c. cond c (suc (pivot_of by)) 0) (sym (ne_eqb b 0 n)) ∙ e in
+        absurd (let z : ⊥ = omega arith in z)
 
-pub seeking-end : {row : List ℕ} {k : ℕ} → Seeking row k → length row ≤ k → k ≡ pivot_of row
-unfolding pivot_of
-seeking-end {row} {k} p h =
-    let e : pivot_of (drop k row) ≡ 0 = rw (drop_of_length-le row {i = k} h) in
-    omega (arith, p.same)
+map-nothing : (f : List ℕ → List ℕ) → ((s : List ℕ) → f s ≡ s) → (rows : List (List ℕ)) → map f rows ≡ rows
+map-nothing f h [] = refl
+map-nothing f h (s ∷ rows) = ap₂ (λ (x : List ℕ) (l : List (List ℕ)). x ∷ l) (h s) (map-nothing f h rows)
 
 -- ---- entries filled in
 
@@ -164,15 +169,12 @@ filling-on {g} {s} {j} {x} f h e = record { long = length-set s j x ∙ f.long; 
     rest : (i : ℕ) → j + 1 ≤ i → get_or (set s j x) i 0 ≡ 0
     rest i l = get_or-set_other s j i x 0 (λ p. omega arith) ∙ f.rest i (omega arith)
 
--- the entries that are powers of two
-pub next_power : {x : ℕ} (j : ℕ) → x ≡ 2 ^ j → x * 2 ≡ 2 ^ (j + 1)
-next_power {x} j e = ap (λ y. y * 2) e ∙ sym (pow-suc 2 j) ∙ ap (λ i. 2 ^ i) (sym (add-one j))
-
-pub power-fits : {x : ℕ} (j : ℕ) → x ≡ 2 ^ j → j ≤ widest → x * 2 < 65536
-power-fits {x} j e h = let p : 2 ^ j ≤ 2 ^ widest = pow_mono h in omega arith
-
 pub units-end : {n j : ℕ} {s : List ℕ} → Filling (λ i. 2 ^ i) s j → j ≡ n + 1 → Units n s
 units-end f e = record { long = f.long; unit = λ i h. f.done i (omega arith); zeros = λ i h. f.rest i (omega arith) }
+
+-- a digit of a number of 16
+pub one-shifted : (j : ℕ) → j ≤ widest → 1 * 2 ^ j % 65536 ≡ 2 ^ j
+one-shifted j h = let p : 2 ^ j ≤ 2 ^ widest = pow_mono h in ap (λ a. a % 65536) (one-mul (2 ^ j)) ∙ mod-eq_of_lt (omega arith)
 
 -- the columns of a system
 pub images-end : {m constant j : ℕ} {cs s : List ℕ} → Filling (λ i. terms_at m cs (2 ^ i)) s j → j ≡ m → m ≤ widest → Imaged m cs constant (set s m constant)
@@ -234,6 +236,14 @@ eliminating-on {rows₀} {vectors₀} {rows} {vectors} {i} {p} e q r v = record 
   vectors-are = v ∙ ap (λ (n : ℕ). swept_by n (get_or rows i []) vectors) q
       ∙ ap₂ (λ u w. swept_by (pivot_of (get_or u i [])) (get_or u i []) w) e.rows_are e.vectors-are ∙ ap (λ n. vectors_after n rows₀ vectors₀) (sym (add-one i));
 }
+
+-- a turn without a pivot leaves all as it was
+pub eliminating-none : {rows₀ : List (List ℕ)} {vectors₀ : List ℕ} {rows : List (List ℕ)} {vectors : List ℕ} {i : ℕ}
+    → Eliminating rows₀ vectors₀ rows vectors i → pivot_of (get_or rows i []) ≡ length (get_or rows i []) → Eliminating rows₀ vectors₀ rows vectors (i + 1)
+eliminating-none {rows₀} {vectors₀} {rows} {vectors} {i} e n =
+    let row = get_or rows i [] in
+    let p = pivot_of row in
+    eliminating-on e refl (sym (map-nothing (swept_by p row) (λ s. swept-nothing (get_or s p 0) row s n) rows)) (sym (swept-nothing (get_or vectors p 0) row vectors n))
 
 -- ---- the terms of an affine polynomial
 

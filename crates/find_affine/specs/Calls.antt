@@ -1,20 +1,20 @@
 -- What the call on affine polynomials answers, for every input (docs/RULES.md section 3.6).
 --   affine_tests   its tests in their order, each behind its number
 --   affine_outcome its outcome: that there is no root, or how many there are and the dimension
---   told_spanned   the number and the values of its answer
+--   spanned_values what it tells of the roots: that there is none, or how many there are and the dimension
 --   Spans         THE CONTRACT: the answers and lists that the call admits
 --   Spannable     what is known of what was let in;  SpannedOut  what is then answered and left
 -- Assumes nothing.
-use Rattle.std.specs.Prelude.{◌≡◌, Bool, true, not, ◌||◌, List, [], ◌∷◌, ℕ, ◌^◌, ◌≤◌, ◌<◌, eqb, ltb, length}
+use Rattle.std.specs.Prelude.{◌≡◌, Bool, true, not, ◌||◌, List, [], ◌∷◌, ℕ, ◌^◌, ◌≤◌, ◌<◌, Option, Some, None, Result, eqb, ltb, length}
 use Rattle.algebra.specs.Polynomial.{Below}
 use Rattle.refusals.specs.Order.{outcome, Answers}
-use Rattle.refusals.specs.Numbers.{number_of}
+use Rattle.refusals.specs.Admitting.{told}
+use Rattle.refusals.specs.declared.Refusal.{Refusal}
 use Rattle.slices.specs.Lists.{copied}
 use Rattle.slices.specs.Bounded.{any_from}
 use Rattle.field.specs.Rows.{known}
 use Rattle.find_affine.specs.Affine.{affine_roots, space_values}
-use Rattle.find_affine.specs.declared.Spanned.{Spanned}
-use Rattle.find_affine.specs.declared.Spanned.TheVariants.{NoRoot, Space, NotSpanned}
+use Rattle.find_affine.specs.declared.Space.{Space}
 
 abbrev pub affine_tests : ℕ → List ℕ → ℕ → ℕ → List (ℕ × Bool)
 affine_tests m cs constant room =
@@ -26,16 +26,15 @@ affine_outcome m cs constant list =
     outcome (affine_tests m cs constant (length list)) (space_values m (affine_roots m cs constant))
 
 -- "none" has one value, a space two
-abbrev pub told_spanned : Spanned → ℕ × List ℕ
-told_spanned NoRoot = (0, 0 ∷ [])
-told_spanned (Space k n) = (0, n ∷ k ∷ [])
-told_spanned (NotSpanned k) = (number_of k, [])
+abbrev pub spanned_values : Option Space → List ℕ
+spanned_values None = 0 ∷ []
+spanned_values (Some s) = s.count ∷ s.dimension ∷ []
 
 -- the contract: an answer, and the lent list afterwards
-abbrev pub Spans : ℕ → List ℕ → ℕ → List ℕ → Spanned → List ℕ → Type 0
+abbrev pub Spans : ℕ → List ℕ → ℕ → List ℕ → Result (Option Space) Refusal → List ℕ → Type 0
 Spans m cs constant list r after =
     Answers (affine_tests m cs constant (length list)) (space_values m (affine_roots m cs constant))
-    (copied (affine_roots m cs constant) list) list (told_spanned r) after
+    (copied (affine_roots m cs constant) list) list (told spanned_values r) after
 
 pub record Spannable (m : ℕ) (cs : List ℕ) (constant : ℕ) (list : List ℕ) : Type 0 where
   pub field : known m ≡ true
@@ -44,6 +43,6 @@ pub record Spannable (m : ℕ) (cs : List ℕ) (constant : ℕ) (list : List ℕ
   pub element : constant < 2 ^ m
   pub room : 2 ^ m ≤ length list
 
-pub record SpannedOut (m : ℕ) (cs : List ℕ) (c : ℕ) (list : List ℕ) (r : Spanned) (after : List ℕ) : Type 0 where
-  pub told : told_spanned r ≡ (0, space_values m (affine_roots m cs c))
+pub record SpannedOut (m : ℕ) (cs : List ℕ) (c : ℕ) (list : List ℕ) (r : Option Space) (after : List ℕ) : Type 0 where
+  pub values : spanned_values r ≡ space_values m (affine_roots m cs c)
   pub slots : after ≡ copied (affine_roots m cs c) list

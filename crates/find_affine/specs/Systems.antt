@@ -5,12 +5,13 @@
 --   Rowed         the rows of the system: a row for each digit
 --   Units         1, 2, 4, .., 2^n, then zeros
 --   pivot_of       the lowest column with a bit; how many there are where there is none
+--   IsPivot       it is found, or there is none
 --   swept         t added to each entry of a row where another row has a bit
 --   swept_by p     so with the row's own entry at p
 --   rows_after     the rows behind i turns of the elimination: each sweeps the pivot of its row out of all rows
 --   vectors_after  the vectors, swept along
 -- Assumes nothing.
-use Rattle.std.specs.Prelude.{◌≡◌, cond, List, [], ◌∷◌, map, ℕ, zero, suc, ◌*◌, ◌/◌, ◌%◌, ◌^◌, ◌≤◌, ◌<◌, eqb, length, get_or}
+use Rattle.std.specs.Prelude.{◌≡◌, cond, List, [], ◌∷◌, map, ℕ, zero, suc, ◌*◌, ◌/◌, ◌%◌, ◌^◌, ◌≤◌, ◌<◌, Option, MatchOption, eqb, length, get_or}
 use Rattle.std.specs.Int.Bits.{bit_xor}
 use Rattle.input.specs.Limit.{widest}
 use Rattle.find_affine.specs.Affine.{terms_at}
@@ -39,6 +40,9 @@ pub record Units (n : ℕ) (vectors : List ℕ) : Type 0 where
 unfoldable pub pivot_of : List ℕ → ℕ
 pivot_of [] = 0
 pivot_of (a ∷ s) = cond (eqb a 0) (suc (pivot_of s)) 0
+
+abbrev pub IsPivot : List ℕ → Option ℕ → Type 0
+IsPivot row r = MatchOption r (pivot_of row ≡ length row) (λ p. (p ≡ pivot_of row) × (p < columns))
 
 unfoldable pub swept : ℕ → List ℕ → List ℕ → List ℕ
 swept t by [] = []

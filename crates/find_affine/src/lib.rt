@@ -10,9 +10,9 @@ ghost use Rattle.std.specs.Prelude.{◌≡◌};
 ghost use Rattle.refusals.specs.Admitting.{Admits};
 ghost use Rattle.find_affine.specs.Calls.{affine_tests, Spans, Spannable, SpannedOut};
 
-use field::rows::{FoundRow, row_of, size_of};
+use field::rows::{row_of, size_of};
 use input::WIDEST;
-use refusals::{Admission, Refusal};
+use refusals::Refusal;
 use slices::all_below;
 
 pub mod images; // the value of an affine polynomial, and the columns of the system
@@ -22,40 +22,35 @@ pub mod listing; // the roots from one of them and a basis, ascending
 // The columns of the system: a digit of the root each, and the constant.
 pub const COLUMNS: usize = WIDEST + 1;
 
-// What the call answers: no root, or the dimension k of the roots and their number 2^k, or what is turned away.
-#[derive(Drop)]
-pub enum Spanned {
-    NoRoot,
-    Space { dimension: u16, count: u16 },
-    NotSpanned(Refusal),
+// The roots that there are: the dimension k, and their number 2^k.
+#[derive(Clone, Copy, Debug, PartialEq, Eq)]
+pub struct Space {
+    pub dimension: u16,
+    pub count: u16,
 }
 
 // Refusals 1, 20, 4 and 7, of the coefficients, the constant and the lent slots.
-fn admit(m: u16, coeffs: &[u16], constant: u16, room: usize) -> Admission
+fn admit(m: u16, coeffs: &[u16], constant: u16, room: usize) -> Result<(), Refusal>
     ensures { Admits (affine_tests m coeffs.now constant room) result }
 {
-    let found = row_of(m);
-    let FoundRow::At(row) = found else {
-        return Admission::Out(Refusal::Field);
-    };
-    let size = row.size;
+    let row = row_of(m).ok_or(Refusal::Field)?;
     if coeffs.len() != m as usize {
-        return Admission::Out(Refusal::Count);
+        return Err(Refusal::Count);
     }
-    if !all_below(coeffs, size) {
-        return Admission::Out(Refusal::Element);
+    if !all_below(coeffs, row.size) {
+        return Err(Refusal::Element);
     }
-    if size <= constant {
-        return Admission::Out(Refusal::Element);
+    if row.size <= constant {
+        return Err(Refusal::Element);
     }
-    if room < size as usize {
-        return Admission::Out(Refusal::Room);
+    if room < row.size as usize {
+        return Err(Refusal::Room);
     }
-    Admission::In
+    Ok(())
 }
 
 // The roots of what was let in.
-fn span(m: u16, coeffs: &[u16], constant: u16, roots: &mut [u16]) -> Spanned
+fn span(m: u16, coeffs: &[u16], constant: u16, roots: &mut [u16]) -> Option<Space>
     requires { Spannable m coeffs.now constant roots.old }
     ensures { SpannedOut m coeffs.now constant roots.old result roots.new }
 {
@@ -64,22 +59,25 @@ fn span(m: u16, coeffs: &[u16], constant: u16, roots: &mut [u16]) -> Spanned
     let vectors = elimination::kernel(n, elimination::system(columns), elimination::units(n));
     let last = vectors[n];
     if last == 0 {
-        return Spanned::NoRoot;
+        return None;
     }
-    let count = listing::list(n, vectors, last ^ size_of(m), roots);
-    Spanned::Space {
-        dimension: listing::dimension(n, vectors),
+    let count = listing::list(n, &vectors, last ^ size_of(m), roots);
+    Some(Space {
+        dimension: listing::dimension(n, &vectors),
         count,
-    }
+    })
 }
 
 // The roots of the affine polynomial with these coefficients, that of z^(2^i) at place i, and this constant: ascending
-// at the front of the list.
-pub fn affine(m: u16, coeffs: &[u16], constant: u16, roots: &mut [u16]) -> Spanned
+// at the front of the list. None where there is no root.
+pub fn affine(
+    m: u16,
+    coeffs: &[u16],
+    constant: u16,
+    roots: &mut [u16],
+) -> Result<Option<Space>, Refusal>
     ensures { Spans m coeffs.now constant roots.old result roots.new }
 {
-    match admit(m, coeffs, constant, roots.len()) {
-        Admission::Out(k) => Spanned::NotSpanned(k),
-        Admission::In => span(m, coeffs, constant, roots),
-    }
+    admit(m, coeffs, constant, roots.len())?;
+    Ok(span(m, coeffs, constant, roots))
 }

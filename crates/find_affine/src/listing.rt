@@ -14,41 +14,29 @@ fn grow(list: &mut [u16], n: usize, v: u16) -> usize
     if v == 0 {
         return n;
     }
-    let mut k = 0;
-    while k < n {
+    for k in 0..n {
         list[n + k] = v ^ list[k];
-        k += 1;
     }
     n + n
 }
 
 // Lists the sums of `first` and any of the first n vectors. Returns how many there are.
-pub fn list(n: usize, vectors: [u16; COLUMNS], first: u16, roots: &mut [u16]) -> u16
+pub fn list(n: usize, vectors: &[u16; COLUMNS], first: u16, roots: &mut [u16]) -> u16
     requires { (n ≤ widest) × (2 ^ n ≤ length roots.old) }
-    ensures { Listed n vectors first roots.old result roots.new }
+    ensures { Listed n vectors.now first roots.old result roots.new }
 {
     roots[0] = first;
-    let mut k: usize = 1;
-    let mut j = 0;
-    while j < n {
-        k = grow(roots, k, vectors[j]);
-        j += 1;
+    let mut k = 1;
+    for v in &vectors[..n] {
+        k = grow(roots, k, *v);
     }
     k as u16
 }
 
 // How many of the first n vectors are left.
-pub fn dimension(n: usize, vectors: [u16; COLUMNS]) -> u16
+pub fn dimension(n: usize, vectors: &[u16; COLUMNS]) -> u16
     requires { n ≤ widest }
-    ensures { result ≡ dimension_below n vectors }
+    ensures { result ≡ dimension_below n vectors.now }
 {
-    let mut k: u16 = 0;
-    let mut j = 0;
-    while j < n {
-        if vectors[j] != 0 {
-            k += 1;
-        }
-        j += 1;
-    }
-    k
+    vectors[..n].iter().filter(|v| **v != 0).count() as u16
 }

@@ -5,10 +5,9 @@
 --                  the end
 --   low-is         the low coefficients of a polynomial that was let in, divided by its leading one;  low_below  they
 --                  are elements;  low-roots  the monic polynomial has the same roots
---   tried-written  roots that were tried are written;  tried-not  none was
+--   tried-written  roots that were tried are written
 -- Assumes nothing.
 use mathlib.Core.Path.{◌≡◌, refl, sym, ap, ◌∙◌, subst}
-use mathlib.Core.Bool.{true, false, true≢false}
 use mathlib.Core.List.{List, [], ◌∷◌, ◌++◌, map}
 use Prim.Native.Nat.{ℕ, suc, ◌+◌, ◌-◌, ◌^◌, ◌≤◌, ◌<◌}
 use native.Mathlib.Omega.{arith}
@@ -28,7 +27,7 @@ use Rattle.slices.specs.Lists.{copied}
 use Rattle.slices.proofs.Lists.{length-copied, copied-front, copied_behind}
 use Rattle.slices.proofs.Filling.{Filling, fill-from, fill_on, fill_stop, map_at}
 use Rattle.input.proofs.Fields.{known-field}
-use Rattle.find_direct.specs.Listing.{Leading, ListedIf}
+use Rattle.find_direct.specs.Listing.{Leading, Listed}
 use Rattle.find_direct.proofs.Leads.{leads}
 
 pub numbers11 : OnNumbers (G 11) (2 ^ 11)
@@ -135,13 +134,7 @@ module _ {n : ℕ} {f : List ℕ} (g : Leading n f) (least : 4 ≤ n) (v : ℕ) 
         ∙ roots_of-norm numbers11 f g.polynomial.small (leads g (n - 1) (let e : n ≡ suc (n - 1) = omega arith in e))
 
     pub tried-written : {xs roots roots' : List ℕ} → length xs ≡ n - 1 → roots_at 11 (monic (G 11) (take (n - 1) p)) ≡ xs
-        → roots' ≡ copied xs roots → ListedIf (roots_at 11 f) roots (n - 1) true roots'
+        → roots' ≡ copied xs roots → Listed (roots_at 11 f) roots (n - 1) roots'
     tried-written {xs} {roots} long r w =
         let e : xs ≡ roots_at 11 f = sym r ∙ low-roots in
-        record {
-          found = λ _. record { count = sym long ∙ ap length e; slots-are = w ∙ ap (λ (l : List ℕ). copied l roots) e };
-          missed = λ z. absurd (true≢false z);
-        }
-
-pub tried-not : {rs roots : List ℕ} {k : ℕ} → ListedIf rs roots k false roots
-tried-not = record { found = λ z. absurd (true≢false (sym z)); missed = λ _. refl }
+        record { count = sym long ∙ ap length e; slots-are = w ∙ ap (λ (l : List ℕ). copied l roots) e }

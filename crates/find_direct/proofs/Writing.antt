@@ -2,10 +2,9 @@
 --   listed-none, listed-one, listed-two   by how many roots there are;  listed-as  a list that is told in another way
 --   written_one                           a root that is known
 --   lead-as                               the leading place told in another way
---   found-direct                          what is found over the degree;  found-if, missed-if  by a guess
+--   found-direct                          what is found over the degree
 -- Assumes nothing.
 use mathlib.Core.Path.{◌≡◌, refl, sym, ap, ◌∙◌, subst}
-use mathlib.Core.Bool.{Bool, true, false}
 use mathlib.Core.List.{List, [], ◌∷◌}
 use Prim.Native.Nat.{ℕ, ◌≤◌}
 use native.Mathlib.Nat.{not-suc-le-zero, le_of_suc-le-suc}
@@ -15,8 +14,8 @@ use Rattle.slices.specs.Lists.{copied}
 use Rattle.field.specs.Quadratics.{roots_in}
 use Rattle.field.specs.declared.solver.Quadratic.{Quadratic}
 use Rattle.field.specs.declared.solver.Quadratic.TheVariants.{NoRoot, Double, Two}
-use Rattle.find_direct.specs.Listing.{Listed, ListedIf, DirectOut, Leading}
-use Rattle.find_direct.specs.declared.Direct.TheVariants.{Written, Missed}
+use Rattle.find_direct.specs.Listing.{Listed, DirectOut, Leading}
+use Rattle.std.specs.Prelude.{Some}
 
 -- a list that is told and written
 told : {rs l roots roots' : List ℕ} {k : ℕ} → l ≡ rs → k ≡ length l → roots' ≡ copied l roots → Listed rs roots k roots'
@@ -55,17 +54,8 @@ written_one {roots = roots} x h e = told (sym e) refl (set-one roots x h)
 pub lead-as : {n k : ℕ} {f : List ℕ} → n ≡ k → Leading n f → Leading k f
 lead-as {f = f} e g = subst (λ (i : ℕ). Leading i f) e g
 
-pub found-direct : {rs roots roots' : List ℕ} {k : ℕ} → Listed rs roots k roots' → DirectOut rs roots (Written k) roots'
+pub found-direct : {rs roots roots' : List ℕ} {k : ℕ} → Listed rs roots k roots' → DirectOut rs roots (Some k) roots'
 found-direct {rs} {roots} {roots'} {k} l = record {
   found = λ j e. subst (λ (i : ℕ). Listed rs roots i roots') (cc) l;
   missed = λ e. absurd (let z : ◌≡◌ {A = ℕ} 0 1 = cc in let b : ⊥ = omega arith in b);
-}
-
-pub found-if : {rs roots roots' : List ℕ} {k : ℕ} {r : Bool} → ListedIf rs roots k r roots' → r ≡ true → DirectOut rs roots (Written k) roots'
-found-if l e = found-direct (l.found e)
-
-pub missed-if : {rs roots roots' : List ℕ} {k : ℕ} {r : Bool} → ListedIf rs roots k r roots' → r ≡ false → DirectOut rs roots Missed roots'
-missed-if l e = record {
-  found = λ j f. absurd (let z : ◌≡◌ {A = ℕ} 0 1 = cc in let b : ⊥ = omega arith in b);
-  missed = λ f. l.missed e;
 }

@@ -54,28 +54,19 @@ fn quadratic_roots(coeffs: &[u16], roots: &mut [u16]) -> u16
     write_roots(a, b, roots)
 }
 
-// What is found: how many roots were written, or that a guess failed and nothing was.
-#[derive(Drop)]
-pub enum Direct {
-    Written(u16),
-    Missed,
-}
-
 // Writes the roots of an accepted polynomial with n coefficients up to its leading one, of degree 1 to 4, ascending,
-// to the front of the list. From degree 3 on a guess fails where there are fewer of them than the degree.
-pub fn direct_roots(n: usize, coeffs: &[u16], roots: &mut [u16]) -> Direct
+// to the front of the list. Returns how many there are. From degree 3 on a guess fails where there are fewer of them
+// than the degree: then nothing is written.
+pub fn direct_roots(n: usize, coeffs: &[u16], roots: &mut [u16]) -> Option<u16>
     requires { Leading n coeffs.now × (2 ≤ n) × (n ≤ 5) × (4 ≤ length roots.old) }
     ensures { DirectOut (roots_at 11 coeffs.now) roots.old result roots.new }
 {
-    if n == 2 {
-        linear_root(coeffs, roots);
-        return Direct::Written(1);
+    match n {
+        2 => {
+            linear_root(coeffs, roots);
+            Some(1)
+        }
+        3 => Some(quadratic_roots(coeffs, roots)),
+        _ => tried_roots(n, coeffs, roots),
     }
-    if n == 3 {
-        return Direct::Written(quadratic_roots(coeffs, roots));
-    }
-    if tried_roots(n, coeffs, roots) {
-        return Direct::Written((n - 1) as u16);
-    }
-    Direct::Missed
 }

@@ -24,12 +24,13 @@ use Rattle.field.specs.Field.{G, multiplicities_at, roots_at}
 use Rattle.slices.specs.Lists.{copied}
 use Rattle.slices.proofs.Lists.{copied_behind, copied-front, length-copied}
 use Rattle.slices.proofs.Filling.{Filling, fill-from, fill_on, fill_stop}
+use Rattle.poly.specs.Lent.{Lent}
 use Rattle.poly.specs.Monic.{TopIs}
 use Rattle.poly.proofs.Logs.{numbers_of}
 use Rattle.poly.proofs.Parts.{part_none, part-rest}
 use Rattle.input.proofs.Fields.{known-field}
 use Rattle.input.proofs.Polynomials.{nonzero-place}
-use Rattle.find_multiplicities.specs.Counting.{Countable, CountableLent, Removable, Removed, Usable}
+use Rattle.find_multiplicities.specs.Counting.{Countable, Removable, Removed, Usable}
 
 -- ---- lists
 
@@ -42,7 +43,8 @@ length-counts m f (r ∷ s) = ap suc (length-counts m (left (G m) f r) s)
 
 -- the first i roots are counted, and what they left stands from `at` on
 pub record Counting (m : ℕ) (roots ls ts f₀ mults₀ f mults : List ℕ) (at i : ℕ) : Type 0 where
-  pub given : Usable m roots ls ts f₀ mults₀
+  pub tables : Lent m ls ts
+  pub given : Usable m roots f₀ mults₀
   pub within : i ≤ length roots
   pub at_most : at ≤ length f
   pub long : length f ≡ length f₀
@@ -50,10 +52,11 @@ pub record Counting (m : ℕ) (roots ls ts f₀ mults₀ f mults : List ℕ) (at
   pub filled : Filling (copied (multiplicities_in (G m) f₀ roots) mults₀) mults₀ mults i
   pub ahead : drop i (multiplicities_in (G m) f₀ roots) ≡ multiplicities_in (G m) (drop at f) (drop i roots)
 
-pub counting-from : {m : ℕ} {roots ls ts f mults : List ℕ} → Usable m roots ls ts f mults → Counting m roots ls ts f mults f mults 0 0
-counting-from {m} {roots} {ls} {ts} {f} {mults} g =
+pub counting-from : {m : ℕ} {roots ls ts f mults : List ℕ} → Lent m ls ts → Usable m roots f mults → Counting m roots ls ts f mults f mults 0 0
+counting-from {m} {roots} {ls} {ts} {f} {mults} l g =
     let room = g.room in
     record {
+      tables = l;
       given = g;
       within = omega arith;
       at_most = omega arith;
@@ -66,9 +69,8 @@ counting-from {m} {roots} {ls} {ts} {f} {mults} g =
 
 module _ {m : ℕ} {roots ls ts f₀ mults₀ f mults : List ℕ} {at i : ℕ} (s : Counting m roots ls ts f₀ mults₀ f mults at i) where
   -- what taking out asks
-  pub counting-asks : i < length roots → Removable m (get_or roots i 0) ls ts (take (length f - at) (drop at f))
+  pub counting-asks : i < length roots → Removable m (get_or roots i 0) (take (length f - at) (drop at f))
   counting-asks l = record {
-    tables = s.given.tables;
     element = below_at (2 ^ m) roots s.given.elements i l;
     small = subst (Below (2 ^ m)) (sym (part-rest at f)) s.small;
   }
@@ -118,12 +120,13 @@ module _ {m : ℕ} {roots ls ts f₀ mults₀ f mults : List ℕ} {at i : ℕ} (
       let value : e ≡ get_or (copied all mults₀) i 0 =
       here ∙ sym (get_or-append all (drop (length all) mults₀) 0 i (omega (arith, length-counts m f₀ roots)) ∙ first) in
       record {
+        tables = s.tables;
         given = s.given;
         within = omega arith;
         at_most = subst (λ k. at + e ≤ k) (sym long) (counting-sum r);
         long = long ∙ s.long;
         small = subst (Below (2 ^ m)) (sym rest)
-            (M.left_in-below (numbers_of s.given.tables) (length g) g x (below_at (2 ^ m) roots s.given.elements i l) s.small);
+            (M.left_in-below (numbers_of s.tables) (length g) g x (below_at (2 ^ m) roots s.given.elements i l) s.small);
         filled = fill_on s.filled (omega arith) value;
         ahead = sym (drop-drop 1 i all) ∙ ap (drop 1) next ∙ ap (λ u. multiplicities_in (G m) u (drop (i + 1) roots)) (sym rest);
       }
@@ -159,14 +162,12 @@ module _ {m : ℕ} {f roots mults : List ℕ} (g : Countable m f roots mults) wh
       go [] h = refl
       go (x ∷ s) h = absurd (let b : ⊥ = omega arith in b)
 
-module _ {m : ℕ} {f roots ls ts mults : List ℕ} (g : CountableLent m f roots ls ts mults) where
+module _ {m : ℕ} {f roots ls ts mults : List ℕ} (l : Lent m ls ts) (c : Countable m f roots mults) where
   -- what the count on a copy asks
-  pub lent-asks : (d : List ℕ) {w : List ℕ} → w ≡ copied f d → Usable m roots ls ts (take (length f) w) mults
+  pub lent-asks : (d : List ℕ) {w : List ℕ} → w ≡ copied f d → Usable m roots (take (length f) w) mults
   lent-asks d {w} e =
-      let c = g.countable in
       let front : take (length f) w ≡ f = ap (take (length f)) e ∙ copied-front f d refl in
       record {
-        tables = g.tables;
         elements = subst (Below (2 ^ m)) (sym c.all) (roots_of-below (G m) (2 ^ m) f);
         small = subst (Below (2 ^ m)) (sym front) c.polynomial.small;
         few = omega (arith, ap length front, c.polynomial.few);
@@ -177,9 +178,8 @@ module _ {m : ℕ} {f roots ls ts mults : List ℕ} (g : CountableLent m f roots
   pub lent-counts : (d : List ℕ) {w mults' : List ℕ} → w ≡ copied f d → mults' ≡ copied (multiplicities_in (G m) (take (length f) w) roots) mults
       → mults' ≡ copied (multiplicities_at m f) mults
   lent-counts d {w} e h =
-      let c = g.countable in
       let s : List ℕ = roots_at m f in
       let j = nonzero-place c.polynomial in
       h ∙ ap (λ u. copied u mults)
       (ap₂ (λ (a b : List ℕ). multiplicities_in (G m) a b) (ap (take (length f)) e ∙ copied-front f d refl) c.all
-      ∙ M.taken_out (numbers_of g.tables) s f (roots_of-below (G m) (2 ^ m) f) c.polynomial.small j.0 j.1 (roots_of-distinct (G m) (2 ^ m) f))
+      ∙ M.taken_out (numbers_of l) s f (roots_of-below (G m) (2 ^ m) f) c.polynomial.small j.0 j.1 (roots_of-distinct (G m) (2 ^ m) f))

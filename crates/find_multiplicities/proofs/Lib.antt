@@ -1,4 +1,3 @@
 pub mod Asking
-mod Ones
 mod Removing
 mod Counting

@@ -18,7 +18,8 @@ use Rattle.algebra.proofs.Multiplicity.{turn-root, turn-none}
 use Rattle.algebra.proofs.NumberMultiplicity.{quotient_by-below}
 use Rattle.field.specs.Field.{G}
 use Rattle.poly.specs.Lent.{Lent, LogRow, held, log_row}
-use Rattle.poly.specs.Division.{Divisible, divided}
+use Rattle.poly.specs.Asking.{Divisible}
+use Rattle.poly.specs.Division.{divided}
 use Rattle.poly.proofs.Logs.{held-row, log-at, numbers_of, row-is-row}
 use Rattle.poly.proofs.Parts.{part-rest, part_none}
 use Rattle.poly.proofs.Divisions.{divided-behind, length-divided}
@@ -26,7 +27,8 @@ use Rattle.find_multiplicities.specs.Counting.{Removable, Removed}
 
 -- e times it was taken out, and what is left stands from e on
 pub record Removing (m r : ℕ) (ls ts row f₀ f : List ℕ) (e : ℕ) : Type 0 where
-  pub given : Removable m r ls ts f₀
+  pub tables : Lent m ls ts
+  pub given : Removable m r f₀
   pub row_is : row ≡ log_row m (r ∷ [])
   pub within : e ≤ length f
   pub long : length f ≡ length f₀
@@ -35,10 +37,11 @@ pub record Removing (m r : ℕ) (ls ts row f₀ f : List ℕ) (e : ℕ) : Type 0
   pub rest : left (G m) (drop e f) r ≡ left (G m) f₀ r
 
 -- the row holds the log of r
-pub removing-from : {m r : ℕ} {ls ts f : List ℕ} → Removable m r ls ts f → Removing m r ls ts (get_or ls r 0 ∷ []) f f 0
-removing-from {m} {r} {ls} {ts} {f} g = record {
+pub removing-from : {m r : ℕ} {ls ts f : List ℕ} → Lent m ls ts → Removable m r f → Removing m r ls ts (get_or ls r 0 ∷ []) f f 0
+removing-from {m} {r} {ls} {ts} {f} l g = record {
+  tables = l;
   given = g;
-  row_is = ap (λ x. x ∷ []) (log-at g.tables g.element);
+  row_is = ap (λ x. x ∷ []) (log-at l g.element);
   within = omega arith;
   long = refl;
   small = g.small;
@@ -52,8 +55,8 @@ module _ {m r : ℕ} {ls ts row f₀ f : List ℕ} {e : ℕ} (s : Removing m r l
   part = part-rest e f
 
   -- what the value asks
-  pub removing-asks : Lent m ls ts × Below (2 ^ m) (take (length f - e) (drop e f)) × (r < 2 ^ m)
-  removing-asks = (s.given.tables, subst (Below (2 ^ m)) (sym part) s.small, s.given.element)
+  pub removing-asks : Below (2 ^ m) (take (length f - e) (drop e f)) × (r < 2 ^ m)
+  removing-asks = (subst (Below (2 ^ m)) (sym part) s.small, s.given.element)
 
   -- the end at a value that is not 0
   pub removing-stop : {v : ℕ} → v ≡ eval (G m) (take (length f - e) (drop e f)) r → v ≢ 0 → Removed m r f₀ e f
@@ -67,10 +70,9 @@ module _ {m r : ℕ} {ls ts row f₀ f : List ℕ} {e : ℕ} (s : Removing m r l
   row-long = ap length s.row_is
 
   -- what the division asks
-  pub removing-divides : e < length f → Divisible m ls ts row (take (length f - e) (drop e f))
+  pub removing-divides : e < length f → Divisible m row (take (length f - e) (drop e f))
   removing-divides l = record {
-    tables = s.given.tables;
-    logs = subst (LogRow m) (sym s.row_is) (row-is-row s.given.tables (r ∷ []) (s.given.element, tt));
+    logs = subst (LogRow m) (sym s.row_is) (row-is-row s.tables (r ∷ []) (s.given.element, tt));
     small = subst (Below (2 ^ m)) (sym part) s.small;
     room = rw part-rest (omega (arith, row-long, length-drop e f));
   }
@@ -82,7 +84,7 @@ module _ {m r : ℕ} {ls ts row f₀ f : List ℕ} {e : ℕ} (s : Removing m r l
   unfolding quotient_by
   removing-on {v} {y} l h z d =
       let g : List ℕ = drop e f in
-      let p : held m row ≡ r ∷ [] = ap (held m) s.row_is ∙ held-row s.given.tables (r ∷ []) (s.given.element, tt) in
+      let p : held m row ≡ r ∷ [] = ap (held m) s.row_is ∙ held-row s.tables (r ∷ []) (s.given.element, tt) in
       let w : y ≡ divided m (r ∷ []) g = d ∙ ap₂ (λ (a b : List ℕ). divided m a b) p part in
       let whole : take e f ++ (y ++ drop (length f - e) (drop e f)) ≡ take e f ++ divided m (r ∷ []) g = ap (λ u. take e f ++ u) (part_none e f y ∙ w) in
       let front : length (take e f) ≡ e = length-take-le e f (omega arith) in
@@ -92,13 +94,14 @@ module _ {m r : ℕ} {ls ts row f₀ f : List ℕ} {e : ℕ} (s : Removing m r l
       let rest : drop (e + 1) (take e f ++ (y ++ drop (length f - e) (drop e f))) ≡ quotient_by (G m) r g = ap (drop (e + 1)) whole ∙ behind in
       let t = turn-root (G m) g r (omega arith) (eq-eqb (eval (G m) g r) 0 (sym (ap (λ u. eval (G m) u r) part) ∙ sym h ∙ z)) in
       let long : length (take e f ++ (y ++ drop (length f - e) (drop e f))) ≡ length f =
-      ap length whole ∙ omega (arith, length-append (take e f) (divided m (r ∷ []) g), front, n, length-divided s.given.tables (r ∷ []) g (omega arith)) in
+      ap length whole ∙ omega (arith, length-append (take e f) (divided m (r ∷ []) g), front, n, length-divided s.tables (r ∷ []) g (omega arith)) in
       record {
+        tables = s.tables;
         given = s.given;
         row_is = s.row_is;
         within = omega arith;
         long = long ∙ s.long;
-        small = subst (Below (2 ^ m)) (sym rest) (quotient_by-below (numbers_of s.given.tables) r g s.given.element s.small);
+        small = subst (Below (2 ^ m)) (sym rest) (quotient_by-below (numbers_of s.tables) r g s.given.element s.small);
         count = ap (λ u. e + 1 + multiplicity (G m) u r) rest ∙ omega (arith, s.count, t.0);
         rest = ap (λ u. left (G m) u r) rest ∙ sym t.1 ∙ s.rest;
       }

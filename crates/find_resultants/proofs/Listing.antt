@@ -27,14 +27,16 @@ use Rattle.slices.proofs.Bounded.{all_zero-exactly}
 use Rattle.slices.proofs.Lists.{length-copied, copied-front}
 use Rattle.slices.proofs.Ordered.{merged-kept, merged-count}
 use Rattle.field.specs.Field.{G, roots_at}
+use Rattle.field.proofs.Known.{listed}
+use Rattle.field.proofs.Instance.{known-numbers}
 use Rattle.poly.specs.Monic.{TopIs}
-use Rattle.poly.proofs.Logs.{numbers_of}
 use Rattle.input.specs.Limit.{limit}
+use Rattle.input.specs.Polynomials.{PolynomialIn}
 use Rattle.find_search.specs.Searching.{SearchedOut}
 use Rattle.poly_resultants.specs.Maps.{Led}
 use Rattle.poly_resultants.specs.Levels.{room, Climbs, Levelled}
 use Rattle.poly_resultants.proofs.Numbers.{few-roots}
-use Rattle.find_resultants.specs.Finding.{Findable}
+use Rattle.poly_resultants.specs.Chains.{Chained}
 
 -- ---- zeros above the highest coefficient
 
@@ -54,13 +56,13 @@ led-from m (x ∷ y ∷ l) h n = led-from m (y ∷ l) (omega arith) (λ e. n (sa
         one : length (x ∷ y ∷ l) - 1 ≡ suc (length (y ∷ l) - 1)
         one = omega arith
 
-module _ {m : ℕ} {f ls ts chain : List ℕ} {end : ℕ} {roots : List ℕ} (a : Findable m f ls ts chain end roots) {j : ℕ} (t : TopIs f j) where
+module _ {m : ℕ} {f : List ℕ} (a : PolynomialIn m f) {j : ℕ} (t : TopIs f j) where
   -- the numbers of the field, and f
   N : OnNumbers (G m) (2 ^ m)
-  N = numbers_of a.searchable.tables
+  N = known-numbers (listed m a.field)
 
   small : Below (2 ^ m) f
-  small = a.searchable.polynomial.small
+  small = a.small
 
   long : length (take j f) ≡ j
   long = length-take-le j f t.within
@@ -83,7 +85,7 @@ module _ {m : ℕ} {f ls ts chain : List ℕ} {end : ℕ} {roots : List ℕ} (a 
     where
       go : Dec (0 < j) → 0 < j
       go (yes h) = h
-      go (no h) = absurd (impossible a.searchable.polynomial.nonzero ((all_zero-exactly f).1 (zeros f (λ i. t.above i (omega arith)))))
+      go (no h) = absurd (impossible a.nonzero ((all_zero-exactly f).1 (zeros f (λ i. t.above i (omega arith)))))
         where
           zeros : (l : List ℕ) → ((i : ℕ) → get_or l i 0 ≡ 0) → l ≡ replicate (length l) 0
           zeros [] z = refl
@@ -99,15 +101,15 @@ module _ {m : ℕ} {f ls ts chain : List ℕ} {end : ℕ} {roots : List ℕ} (a 
   led = led-from m (take j f) (let s = some in omega (arith, long)) lead
 
   -- no number is a root of a polynomial of one coefficient
-  pub found_none : j < 2 → SearchedOut m f roots 0 roots
+  pub found_none : {roots : List ℕ} → j < 2 → SearchedOut m f roots 0 roots
   unfolding copied
-  found_none h = record { count = ap length (sym none); slots = sym (ap (λ s. copied s roots) none ∙ nothing roots) }
+  found_none {roots} h = record { count = ap length (sym none); slots = sym (ap (λ s. copied s roots) none ∙ nothing roots) }
     where
       nothing : (l : List ℕ) → copied [] l ≡ l
       nothing l = refl
 
       fewer : (xs : List ℕ) → Distinct xs → All (λ x. (x < 2 ^ m) × (eval (G m) (take j f) x ≡ 0)) xs → length xs < 1
-      fewer xs d e = let n = few-roots m a.searchable.tables.degree (take j f) xs (take_below (2 ^ m) j f small) led d e in omega (arith, long)
+      fewer xs d e = let n = few-roots m a.field (take j f) xs (take_below (2 ^ m) j f small) led d e in omega (arith, long)
 
       none : roots_at m f ≡ []
       none = roots_of-empty N f small (λ z hz e. let n : 1 < 1 = fewer (z ∷ []) (tt, tt) ((hz, eval-cut z hz ∙ e), tt) in omega arith)
@@ -117,7 +119,7 @@ module _ {m : ℕ} {f ls ts chain : List ℕ} {end : ℕ} {roots : List ℕ} (a 
   module _ (two : 2 ≤ j) where
     -- f, copied to a room of its own
     pub found-copies : length (take j f) ≤ suc limit
-    found-copies = let w = t.within in let l = a.searchable.polynomial.few in omega (arith, long)
+    found-copies = let w = t.within in let l = a.few in omega (arith, long)
 
     pub found-fits : {g : List ℕ} (z : List ℕ) → length z ≡ suc limit → g ≡ copied (take j f) z → j ≤ length g
     found-fits z n e = omega (arith, ap length e, length-copied (take j f) z (omega (arith, found-copies)), found-copies, long)
@@ -125,21 +127,20 @@ module _ {m : ℕ} {f ls ts chain : List ℕ} {end : ℕ} {roots : List ℕ} (a 
     pub found-cut : {g : List ℕ} (z : List ℕ) → g ≡ copied (take j f) z → take j g ≡ take j f
     found-cut z e = ap (take j) e ∙ copied-front (take j f) z long
 
-    pub found-asks : {g xs : List ℕ} → g ≡ take j f → room ≤ length xs → Climbs m ls ts chain end g xs
-    found-asks {g} {xs} e h = subst (λ u. Climbs m ls ts chain end u xs) (sym e) (record {
-      tables = a.searchable.tables;
-      steps = a.chained.steps;
-      fours = a.chained.fours;
+    pub found-asks : {chain g xs : List ℕ} {end : ℕ} → Chained m chain end → g ≡ take j f → room ≤ length xs → Climbs m chain end g xs
+    found-asks {chain} {g} {xs} {end} c e h = subst (λ u. Climbs m chain end u xs) (sym e) (record {
+      steps = c.steps;
+      fours = c.fours;
       poly = record {
         small = take_below (2 ^ m) j f small;
         least = omega (arith, long);
-        limited = let w = t.within in let l = a.searchable.polynomial.few in omega (arith, long);
+        limited = let w = t.within in let l = a.few in omega (arith, long);
         led = led;
       };
       space = h;
     })
 
-    module _ {g : List ℕ} {k : ℕ} {xs : List ℕ} (e : g ≡ take j f) (l' : Levelled m chain end g k xs) where
+    module _ {chain : List ℕ} {end : ℕ} (c : Chained m chain end) {g : List ℕ} {k : ℕ} {xs : List ℕ} (e : g ≡ take j f) (l' : Levelled m chain end g k xs) where
       l : Levelled m chain end (take j f) k xs
       l = subst (λ u. Levelled m chain end u k xs) e l'
 
@@ -148,22 +149,22 @@ module _ {m : ℕ} {f ls ts chain : List ℕ} {end : ℕ} {roots : List ℕ} (a 
       members x = (
         λ i. let e = all-at (λ x. (x < 2 ^ m) × (eval (G m) (take j f) x ≡ 0)) (take k xs) l.roots i in
             (e.0, (is_root-is N f small x e.0).1 (sym (eval-cut x e.0) ∙ e.1)),
-        λ h. l.whole x h.0 (eval-cut x h.0 ∙ (is_root-is N f small x h.0).0 h.1) (a.chained.reach x h.0),
+        λ h. l.whole x h.0 (eval-cut x h.0 ∙ (is_root-is N f small x h.0).0 h.1) (c.reach x h.0),
       )
 
       found-few : length (take k xs) ≤ limit
       found-few =
-          let n = few-roots m a.searchable.tables.degree (take j f) (take k xs) (take_below (2 ^ m) j f small) led l.distinct l.roots in
+          let n = few-roots m a.field (take j f) (take k xs) (take_below (2 ^ m) j f small) led l.distinct l.roots in
           let w = t.within in
-          let p = a.searchable.polynomial.few in
+          let p = a.few in
           omega (arith, long)
 
-      pub found-room : 0 + length (take k xs) ≤ length roots
-      found-room = let r = a.searchable.room in omega (arith, found-few)
+      pub found-room : (roots : List ℕ) → limit ≤ length roots → 0 + length (take k xs) ≤ length roots
+      found-room roots r = omega (arith, found-few)
 
-      pub found_all : {n : ℕ} {roots' : List ℕ} → Merged 0 (take k xs) roots n roots' → SearchedOut m f roots n roots'
+      pub found_all : {roots : List ℕ} {n : ℕ} {roots' : List ℕ} → Merged 0 (take k xs) roots n roots' → SearchedOut m f roots n roots'
       unfolding roots_of
       found_all g = let e = merged-kept (is_root (G m) f) (2 ^ m) g members in record { count = e.0; slots = e.1 }
 
-      pub found-small : {n : ℕ} {roots' : List ℕ} → Merged 0 (take k xs) roots n roots' → n ≤ limit
+      pub found-small : {roots : List ℕ} {n : ℕ} {roots' : List ℕ} → Merged 0 (take k xs) roots n roots' → n ≤ limit
       found-small g = omega (arith, merged-count g (omega arith), found-few)

@@ -4,67 +4,53 @@
 // has to split, and no polynomial is divided.
 #![tactic(auto)]
 
-ghost use Rattle.std.specs.Prelude.{◌≤◌, length};
+ghost use Rattle.std.specs.Prelude.{◌≡◌, true, ◌≤◌, length};
+ghost use Rattle.field.specs.Rows.{known};
 ghost use Rattle.input.specs.Limit.{limit};
 ghost use Rattle.input.specs.Polynomials.{PolynomialIn};
-ghost use Rattle.find_search.specs.Searching.{Searchable, SearchedOut};
-ghost use Rattle.find_resultants.specs.Finding.{Findable};
+ghost use Rattle.find_search.specs.Searching.{SearchedOut};
+ghost use Rattle.poly_resultants.specs.Chains.{Chained};
 
-use field_tables::constants::{antilogs4, antilogs8, antilogs11, logs4, logs8, logs11};
-use field_tables::field_types::F11;
+use field::tables::Tables;
+use field_tables::constants::tables_of;
 use input::COEFFICIENTS;
 use poly::monic::top;
-use poly_resultants::constants::{END4, END8, END11, chain4, chain8, chain11};
+use poly_resultants::constants::{CHAIN4, CHAIN8, CHAIN11, END4, END8, END11};
 use poly_resultants::levels::{ROOM, level};
 
+// The chain of maps of the known field of degree m, and the end that the numbers it leaves are below.
+fn chain_of(m: u16) -> (&'static [u16], u16)
+    requires { known m ≡ true }
+    ensures { Chained m result.0.now result.1 }
+{
+    match m {
+        4 => (&CHAIN4, END4),
+        8 => (&CHAIN8, END8),
+        _ => (&CHAIN11, END11),
+    }
+}
+
 // Lists every element at which f is 0 at the front of the roots, ascending. Returns how many there are.
-fn find_lent(
-    m: u16,
-    f: &[u16],
-    logs: &[u16],
-    antilogs: &[u16],
-    chain: &[u16],
-    end: u16,
-    roots: &mut [u16],
-) -> u16
-    requires { Findable m f.now logs.now antilogs.now chain.now end roots.old }
-    ensures { SearchedOut m f.now roots.old result roots.new }
+fn find_lent(tables: &Tables, f: &[u16], roots: &mut [u16]) -> u16
+    requires { PolynomialIn tables.now.degree f.now × (limit ≤ length roots.old) }
+    ensures { SearchedOut tables.now.degree f.now roots.old result roots.new }
 {
     let j = top(f);
     if j < 2 {
         return 0;
     }
-    let mut g = [0u16; COEFFICIENTS];
+    let (chain, end) = chain_of(tables.degree);
+    let mut g = [0; COEFFICIENTS];
     slices::copy(&f[..j], &mut g);
-    let mut xs = [0u16; ROOM];
-    let k = level(m, logs, antilogs, chain, end, &mut g[..j], &mut xs);
+    let mut xs = [0; ROOM];
+    let k = level(tables, chain, end, &mut g[..j], &mut xs);
     slices::merge(roots, 0, &xs[..k]) as u16
 }
 
-// The same in field 11, over its chain.
-pub fn find11(f: &[u16], logs: &[u16], antilogs: &[u16], roots: &mut [u16]) -> u16
-    requires { Searchable 11 f.now logs.now antilogs.now roots.old }
-    ensures { SearchedOut 11 f.now roots.old result roots.new }
-{
-    find_lent(
-        F11::DEGREE,
-        f,
-        logs,
-        antilogs,
-        &chain11(F11::DEGREE),
-        END11,
-        roots,
-    )
-}
-
-// The roots of an accepted polynomial, over the field's tables and its chain, which are lent here.
+// The roots of an accepted polynomial, over its field's tables.
 pub fn find_in(m: u16, f: &[u16], roots: &mut [u16]) -> u16
     requires { PolynomialIn m f.now × (limit ≤ length roots.old) }
     ensures { SearchedOut m f.now roots.old result roots.new }
 {
-    match m {
-        4 => find_lent(m, f, &logs4(m), &antilogs4(m), &chain4(m), END4, roots),
-        8 => find_lent(m, f, &logs8(m), &antilogs8(m), &chain8(m), END8, roots),
-        _ => find_lent(m, f, &logs11(m), &antilogs11(m), &chain11(m), END11, roots),
-    }
+    find_lent(&tables_of(m), f, roots)
 }

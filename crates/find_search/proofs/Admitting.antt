@@ -15,7 +15,8 @@ use lib.ListN.{length, take}
 use Rattle.refusals.specs.Order.{Passed}
 use Rattle.refusals.specs.Admitting.{Admits, with_test}
 use Rattle.refusals.specs.declared.Refusal.TheVariants.{Room}
-use Rattle.refusals.specs.declared.Admission.{Admission}
+use Rattle.refusals.specs.declared.Refusal.{Refusal}
+use Rattle.std.specs.Prelude.{⊤, Result, Ok}
 use Rattle.refusals.proofs.Admitting.{admits-also}
 use Rattle.refusals.proofs.Order.{failed, others}
 use Rattle.slices.specs.Lists.{copied}
@@ -28,7 +29,6 @@ use Rattle.input.proofs.RootMemory.{lists-accepted}
 use Rattle.find_multiplicities.specs.Counting.{Countable}
 use Rattle.find_multiplicities.proofs.Asking.{countable}
 use Rattle.find_search.specs.Calls.{search_tests, Searches}
-use Rattle.find_search.specs.declared.Searched.TheVariants.{Seen}
 use Rattle.find_search.specs.Searching.{SearchedOut}
 
 pub search-room : (m : ℕ) (f roots : List ℕ) {us : List (ℕ × Bool)} → Passed (polynomial_tests m f ((7, ltb (length roots) limit) ∷ us)) → limit ≤ length roots
@@ -40,7 +40,7 @@ roots-room p h = omega (arith, roots_few p)
 -- ---- both lists
 
 -- the second list's room is tested behind the first's
-pub both-rooms : (m : ℕ) (f roots mults : List ℕ) (found : Admission) {r : Admission} → Admits (polynomial_tests m f ((7, ltb (length roots) limit) ∷ [])) found
+pub both-rooms : (m : ℕ) (f roots mults : List ℕ) (found : Result ⊤ Refusal) {r : Result ⊤ Refusal} → Admits (polynomial_tests m f ((7, ltb (length roots) limit) ∷ [])) found
     → r ≡ with_test found (ltb (length mults) limit) Room → Admits (search_tests m f roots mults) r
 both-rooms m f roots mults found h e =
     admits-also (polynomial_tests m f ((7, ltb (length roots) limit) ∷ [])) found (ltb (length mults) limit) Room e h
@@ -67,5 +67,5 @@ module _ (m : ℕ) (f roots mults : List ℕ) (p : Passed (search_tests m f root
     searched-counts = countable roots told o.count o.slots beside-room
 
     -- and both lists are filled
-    pub searched-both : {mults' : List ℕ} → mults' ≡ copied (multiplicities_at m f) mults → Searches m f roots mults (Seen k) roots' mults'
+    pub searched-both : {mults' : List ℕ} → mults' ≡ copied (multiplicities_at m f) mults → Searches m f roots mults (Ok k) roots' mults'
     searched-both e = lists-accepted p (ap (λ (a : ℕ). (0, a ∷ [])) o.count) o.slots e

@@ -3,23 +3,22 @@
 --   searched-told     two answers with one number and value are one
 --   search-coincide   so for the call
 -- Assumes nothing.
-use mathlib.Core.Path.{◌≡◌}
-use mathlib.Core.List.{List}
+use mathlib.Core.Path.{◌≡◌, refl}
+use mathlib.Core.List.{List, [], ◌∷◌}
 use Prim.Native.Nat.{ℕ}
 use lib.ListN.{get_or}
-use Rattle.refusals.proofs.Numbers.{refused-back, accepted-back}
-use Rattle.refusals.proofs.Told.{told-by}
+use Rattle.std.specs.Prelude.{Result}
+use Rattle.refusals.specs.Admitting.{told}
+use Rattle.refusals.specs.declared.Refusal.{Refusal}
+use Rattle.refusals.proofs.Told.{told-one}
 use Rattle.input.proofs.RootMemory.{lists-coincide}
-use Rattle.find_search.specs.Calls.{told_searched, Searches}
-use Rattle.find_search.specs.declared.Searched.{Searched}
-use Rattle.find_search.specs.declared.Searched.TheVariants.{Seen, NotSearched}
+use Rattle.find_search.specs.Calls.{Searches}
 
 -- two answers with one number and value are one; the value is the number of roots
-pub searched-told : (r s : Searched) → told_searched r ≡ told_searched s → r ≡ s
-searched-told = told-by told_searched (λ o. o.0) NotSearched (λ o. Seen (get_or o.1 0 0))
-    (elim [ Seen s ↦ accepted-back NotSearched (Seen s) | NotSearched k ↦ refused-back NotSearched (Seen 0) k ])
+pub searched-told : (r s : Result ℕ Refusal) → told (λ s. s ∷ []) r ≡ told (λ s. s ∷ []) s → r ≡ s
+searched-told = told-one (λ s. s ∷ []) (λ v. get_or v 0 0) (λ s. refl)
 
 -- the answer and the lent lists
-pub search-coincide : (m : ℕ) (cs roots mults : List ℕ) (r s : Searched) (x y u v : List ℕ)
+pub search-coincide : (m : ℕ) (cs roots mults : List ℕ) (r s : Result ℕ Refusal) (x y u v : List ℕ)
     → Searches m cs roots mults r x u → Searches m cs roots mults s y v → (r ≡ s) × (x ≡ y) × (u ≡ v)
-search-coincide m cs roots mults r s x y u v h k = lists-coincide told_searched searched-told r s h k
+search-coincide m cs roots mults r s x y u v h k = lists-coincide (told (λ s. s ∷ [])) searched-told r s h k

@@ -2,17 +2,15 @@
 -- then the roots, ascending, and that of the second their multiplicities.
 --   search_tests     its tests in their order, each behind its number
 --   search_outcome   its outcome: the number of roots
---   told_searched    the number and the value of its answer
 --   Searches        THE CONTRACT: the answers and lists that the search admits
 -- Assumes nothing.
-use Rattle.std.specs.Prelude.{Bool, List, [], ◌∷◌, ℕ, length}
+use Rattle.std.specs.Prelude.{Bool, List, [], ◌∷◌, ℕ, length, Result}
 use Rattle.refusals.specs.Order.{outcome}
-use Rattle.refusals.specs.Numbers.{number_of}
+use Rattle.refusals.specs.Admitting.{told}
+use Rattle.refusals.specs.declared.Refusal.{Refusal}
 use Rattle.field.specs.Field.{roots_at}
 use Rattle.input.specs.RootMemory.{room_tests, ListsRoots}
 use Rattle.input.specs.Polynomials.{polynomial_tests}
-use Rattle.find_search.specs.declared.Searched.{Searched}
-use Rattle.find_search.specs.declared.Searched.TheVariants.{Seen, NotSearched}
 
 abbrev pub search_tests : ℕ → List ℕ → List ℕ → List ℕ → List (ℕ × Bool)
 search_tests m cs roots mults = polynomial_tests m cs (room_tests roots mults)
@@ -20,11 +18,7 @@ search_tests m cs roots mults = polynomial_tests m cs (room_tests roots mults)
 abbrev pub search_outcome : ℕ → List ℕ → List ℕ → List ℕ → ℕ × List ℕ
 search_outcome m cs roots mults = outcome (search_tests m cs roots mults) (length (roots_at m cs) ∷ [])
 
-abbrev pub told_searched : Searched → ℕ × List ℕ
-told_searched (Seen s) = (0, s ∷ [])
-told_searched (NotSearched k) = (number_of k, [])
-
 -- the contract: an answer, and the lent lists afterwards
-abbrev pub Searches : ℕ → List ℕ → List ℕ → List ℕ → Searched → List ℕ → List ℕ → Type 0
+abbrev pub Searches : ℕ → List ℕ → List ℕ → List ℕ → Result ℕ Refusal → List ℕ → List ℕ → Type 0
 Searches m cs roots mults r =
-    ListsRoots (search_tests m cs roots mults) (length (roots_at m cs) ∷ []) m cs roots mults (told_searched r)
+    ListsRoots (search_tests m cs roots mults) (length (roots_at m cs) ∷ []) m cs roots mults (told (λ s. s ∷ []) r)

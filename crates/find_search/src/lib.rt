@@ -4,25 +4,18 @@
 #![tactic(auto)]
 
 ghost use Rattle.std.specs.Prelude.{◌≡◌, ◌+◌, ◌≤◌, ◌<◌, length};
-ghost use Rattle.field_tables.specs.Naming.{LastField};
 ghost use Rattle.input.specs.Limit.{limit};
 ghost use Rattle.input.specs.Polynomials.{PolynomialIn};
 ghost use Rattle.find_search.specs.Calls.{Searches};
-ghost use Rattle.find_search.specs.Searching.{Searchable, SearchedOut, Tried, Noted, Wordable};
+ghost use Rattle.find_search.specs.Searching.{SearchedOut, Tried, Noted, Wordable};
 
-use field_tables::constants::{antilogs4, antilogs8, logs4, logs8};
+use field::tables::Tables;
+use field_tables::constants::tables_of;
 use find_multiplicities::multiplicities_in;
 use input::{LIMIT, admit_room};
 use poly::values::{evaluate, evaluate_four};
 use poly_values::{PLANES, VECTORS};
-use refusals::{Admission, Refusal, also};
-
-// What the plain search answers: the number of roots, or what is turned away.
-#[derive(Drop)]
-pub enum Searched {
-    Seen(u16),
-    NotSearched(Refusal),
-}
+use refusals::{Refusal, also};
 
 // Puts the element x behind the k roots at the front of the list where its value v is 0. Returns how many there are
 // then.
@@ -38,35 +31,32 @@ fn note(v: u16, x: u16, roots: &mut [u16], k: u16) -> u16
 }
 
 // Tries the first four elements.
-fn try_first(m: u16, f: &[u16], logs: &[u16], antilogs: &[u16], roots: &mut [u16]) -> u16
-    requires { Searchable m f.now logs.now antilogs.now roots.old }
-    ensures { Tried m f.now roots.old 4 result roots.new }
+fn try_first(tables: &Tables, f: &[u16], roots: &mut [u16]) -> u16
+    requires { PolynomialIn tables.now.degree f.now × (limit ≤ length roots.old) }
+    ensures { Tried tables.now.degree f.now roots.old 4 result roots.new }
 {
     let mut k: u16 = 0;
-    let mut x: u16 = 0;
-    while x < 4 {
-        let v = evaluate(m, logs, antilogs, f, x);
+    for x in 0..4 {
+        let v = evaluate(tables, f, x);
         k = note(v, x, roots, k);
-        x += 1;
     }
     k
 }
 
 // Lists every element at which f is 0 at the front of the roots, ascending. Returns how many there are.
-fn search_lent(m: u16, f: &[u16], logs: &[u16], antilogs: &[u16], roots: &mut [u16]) -> u16
-    requires { Searchable m f.now logs.now antilogs.now roots.old }
-    ensures { SearchedOut m f.now roots.old result roots.new }
+fn search_lent(tables: &Tables, f: &[u16], roots: &mut [u16]) -> u16
+    requires { PolynomialIn tables.now.degree f.now × (limit ≤ length roots.old) }
+    ensures { SearchedOut tables.now.degree f.now roots.old result roots.new }
 {
-    let size = logs.len() as u16;
-    let mut k = try_first(m, f, logs, antilogs, roots);
-    let mut x: u16 = 4;
-    while x < size {
-        let v = evaluate_four(m, logs, antilogs, f, x);
-        k = note(v.a, x, roots, k);
-        k = note(v.b, x + 1, roots, k);
-        k = note(v.c, x + 2, roots, k);
-        k = note(v.d, x + 3, roots, k);
-        x += 4;
+    let size = tables.logs.len() as u16;
+    let mut k = try_first(tables, f, roots);
+    for block in 1..size / 4 {
+        let x = block * 4;
+        let v = evaluate_four(tables, f, x);
+        k = note(v[0], x, roots, k);
+        k = note(v[1], x + 1, roots, k);
+        k = note(v[2], x + 2, roots, k);
+        k = note(v[3], x + 3, roots, k);
     }
     k
 }
@@ -100,50 +90,34 @@ fn search11(f: &[u16], roots: &mut [u16]) -> u16
     let mut p = [1u64; PLANES];
     poly_values::values11(f, &mut p);
     let mut k: u16 = 0;
-    let mut w: usize = 0;
-    while w < VECTORS {
+    for w in 0..VECTORS {
         let z = poly_values::occupied11(&p, w);
-        k = note_word(f, z ^ 18446744073709551615, (w * 64) as u16, roots, k);
-        w += 1;
+        k = note_word(f, z ^ u64::MAX, (w * 64) as u16, roots, k);
     }
     k
 }
 
-// The same for the degree m of the field that is left.
-fn search_words(m: u16, f: &[u16], roots: &mut [u16]) -> u16
-    requires { LastField m × PolynomialIn m f.now × (limit ≤ length roots.old) }
-    ensures { SearchedOut m f.now roots.old result roots.new }
-{
-    search11(f, roots)
-}
-
-// The roots of an accepted polynomial: in the small fields element by element, over the field's tables, which are lent
-// here; in field 11 by words.
+// The roots of an accepted polynomial: in the small fields element by element, over the field's tables; in field 11 by
+// words.
 fn search_in(m: u16, f: &[u16], roots: &mut [u16]) -> u16
     requires { PolynomialIn m f.now × (limit ≤ length roots.old) }
     ensures { SearchedOut m f.now roots.old result roots.new }
 {
-    match m {
-        4 => search_lent(m, f, &logs4(m), &antilogs4(m), roots),
-        8 => search_lent(m, f, &logs8(m), &antilogs8(m), roots),
-        _ => search_words(m, f, roots),
+    if m == 11 {
+        return search11(f, roots);
     }
+    search_lent(&tables_of(m), f, roots)
 }
 
 // The plain search: every element is tried, the distinct roots stand ascending at the front of the first list, their
 // multiplicities at the front of the second, and their number is returned.
-pub fn search(m: u16, coeffs: &[u16], roots: &mut [u16], mults: &mut [u16]) -> Searched
+pub fn search(m: u16, coeffs: &[u16], roots: &mut [u16], mults: &mut [u16]) -> Result<u16, Refusal>
     ensures { Searches m coeffs.now roots.old mults.old
         result roots.new mults.new }
 {
     let found = admit_room(m, coeffs, roots.len() < LIMIT);
-    match also(found, mults.len() < LIMIT, Refusal::Room) {
-        Admission::Out(k) => Searched::NotSearched(k),
-        Admission::In => {
-            let k = search_in(m, coeffs, roots);
-            let e = k as usize;
-            multiplicities_in(m, coeffs, &roots[..e], mults);
-            Searched::Seen(k)
-        }
-    }
+    also(found, mults.len() < LIMIT, Refusal::Room)?;
+    let k = search_in(m, coeffs, roots);
+    multiplicities_in(m, coeffs, &roots[..k as usize], mults);
+    Ok(k)
 }

@@ -20,7 +20,7 @@ use Rattle.input.proofs.Polynomials.{roots_few}
 use Rattle.table_rules.specs.Demand.{step_count}
 use Rattle.find_direct.specs.Listing.{Leading, Listed}
 use Rattle.find_solve.specs.Solving.{SolvedOut}
-use Rattle.find_solve.specs.declared.Counts.{Counts}
+use Rattle.find_solve.specs.declared.Solved.{Solved}
 
 pub leading_at : {m n : ℕ} {f : List ℕ} → m ≡ 11 → PolynomialIn m f → TopIs f n → Leading n f
 leading_at {f = f} e p t = record { polynomial = subst (λ (x : ℕ). PolynomialIn x f) e p; top = t }
@@ -37,11 +37,11 @@ module _ (f : List ℕ) {roots roots' : List ℕ} {k : ℕ} (l : Listed (roots_a
   pub direct-below : Below 2048 (take k roots')
   direct-below = subst (Below 2048) (sym front-is) (roots_of-below (G 11) 2048 f)
 
-  pub direct-out : {c : ℕ} {r : Counts} → r.s ≡ k → r.steps ≡ step_count 11 c (take k roots') → SolvedOut 11 c f roots r roots'
+  pub direct-out : {c : ℕ} {r : Solved} → r.s ≡ k → r.steps ≡ step_count 11 c (take k roots') → SolvedOut 11 c f roots r roots'
   direct-out {c} e t = record { count = e ∙ l.count; steps = t ∙ ap (step_count 11 c) front-is; slots-are = l.slots-are }
 
-pub direct-at : {m c : ℕ} {f roots roots' : List ℕ} {r : Counts} → m ≡ 11 → SolvedOut 11 c f roots r roots' → SolvedOut m c f roots r roots'
+pub direct-at : {m d c : ℕ} {f roots roots' : List ℕ} {r : Solved} → m ≡ d → SolvedOut d c f roots r roots' → SolvedOut m c f roots r roots'
 direct-at {c = c} {f = f} {roots = roots} {roots' = roots'} {r = r} e s = subst (λ (x : ℕ). SolvedOut x c f roots r roots') (sym e) s
 
-pub traced-after : {c : ℕ} {f roots roots₁ roots' : List ℕ} {r : Counts} → roots₁ ≡ roots → SolvedOut 11 c f roots₁ r roots' → SolvedOut 11 c f roots r roots'
+pub traced-after : {c : ℕ} {f roots roots₁ roots' : List ℕ} {r : Solved} → roots₁ ≡ roots → SolvedOut 11 c f roots₁ r roots' → SolvedOut 11 c f roots r roots'
 traced-after {c = c} {f = f} {roots' = roots'} {r = r} e s = subst (λ (l : List ℕ). SolvedOut 11 c f l r roots') e s

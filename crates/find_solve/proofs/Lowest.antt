@@ -2,10 +2,11 @@
 --   low-some            a polynomial that was let in has a leading coefficient
 --   low-inverts, low-multiplies   what the quotient of its coefficients asks
 --   low-none, low-one   of degree 0 it has no root, and of degree 1 the quotient
+--   low-over            so over a degree that is the same
 --   few-steps           no more roots than the cutoff take no step
 --   low-empty, low-single   what the whole call answers then
 -- Assumes nothing.
-use mathlib.Core.Path.{◌≡◌, refl, sym, ap, ◌∙◌}
+use mathlib.Core.Path.{◌≡◌, refl, sym, ap, ◌∙◌, subst}
 use mathlib.Core.Bool.{Bool, true, false}
 use mathlib.Core.Logic.{◌≢◌}
 use mathlib.Core.Option.{some}
@@ -19,18 +20,18 @@ use Rattle.algebra.specs.Field.{OnNumbers}
 use Rattle.algebra.specs.Routines.{norm}
 use Rattle.algebra.proofs.StaysBelow.{below-from, below_at}
 use Rattle.algebra.proofs.RootList.{roots_of-norm, roots_of-none, roots_of-one}
-use Rattle.field.specs.Rows.{known}
 use Rattle.slices.specs.Bounded.{all_zero}
 use Rattle.slices.specs.Lists.{copied}
 use Rattle.slices.proofs.Bounded.{all_below-exactly}
 use Rattle.field.specs.Field.{field_at, mul, inverse, G, roots_at}
-use Rattle.poly.proofs.Monics.{norm-skip, norm-lead}
+use Rattle.poly.specs.Lent.{Lent}
+use Rattle.poly.proofs.Monics.{norm-skip, norm-lead, made_asks}
 use Rattle.input.proofs.Fields.{known-field}
 use Rattle.table_rules.specs.Demand.{step_count}
 use Rattle.table_rules.specs.Splitting.{trace_bit_at}
 use Rattle.table_rules.proofs.Counting.{count_left, left-none}
 use Rattle.find_solve.specs.Solving.{AtMostLinear, SolvedOut}
-use Rattle.find_solve.specs.declared.Counts.{Counts}
+use Rattle.find_solve.specs.declared.Solved.{Solved}
 
 -- ---- lists
 
@@ -75,13 +76,18 @@ module _ {m n : ℕ} {f : List ℕ} (g : AtMostLinear m f n) where
   low-none e = sym (roots_of-norm N f g.polynomial.small (led 0 e)) ∙ roots_of-none N
 
   -- what the quotient asks
-  pub low-inverts : n ≡ 2 → (known m ≡ true) × (0 < get_or f 1 0) × (get_or f 1 0 < 2 ^ m)
+  pub low-inverts : n ≡ 2 → (0 < get_or f 1 0) × (get_or f 1 0 < 2 ^ m)
   low-inverts e =
       let lead : get_or f 1 0 ≢ 0 = λ z. g.top.nonzero (omega arith) (ap (λ (i : ℕ). get_or f i 0) (let h : n - 1 ≡ 1 = omega arith in h) ∙ z) in
-      (g.polynomial.field, omega arith, below_at (2 ^ m) f g.polynomial.small 1 (omega (arith, g.top.within)))
+      (omega arith, below_at (2 ^ m) f g.polynomial.small 1 (omega (arith, g.top.within)))
 
-  pub low-multiplies : n ≡ 2 → (known m ≡ true) × (get_or f 0 0 < 2 ^ m)
-  low-multiplies e = (g.polynomial.field, below_at (2 ^ m) f g.polynomial.small 0 (omega (arith, g.top.within)))
+  pub low-multiplies : n ≡ 2 → {ls ts : List ℕ} → Lent m ls ts → {v : ℕ} → v ≡ inverse (field_at m) (get_or f 1 0)
+      → (0 < v) × (v < 2 ^ m) × (get_or f 0 0 < 2 ^ m)
+  low-multiplies e l {v} i =
+      let some : n ≢ 0 = omega arith in
+      let one : 1 ≡ n - 1 = omega arith in
+      let s = made_asks l g.polynomial.small g.top some (i ∙ ap (λ (k : ℕ). inverse (field_at m) (get_or f k 0)) one) in
+      (s.nonzero, s.element, below_at (2 ^ m) f g.polynomial.small 0 (omega (arith, g.top.within)))
 
   pub low-one : n ≡ 2 → {v x : ℕ} → v ≡ inverse (field_at m) (get_or f 1 0) → x ≡ mul (field_at m) v (get_or f 0 0) → roots_at m f ≡ x ∷ []
   low-one e {v} {x} a b =
@@ -94,9 +100,13 @@ module _ {m n : ℕ} {f : List ℕ} (g : AtMostLinear m f n) where
       sym (roots_of-norm N f small made) ∙ roots_of-one N w below
       ∙ ap (λ (y : ℕ). y ∷ []) (sym (b ∙ ap (λ (y : ℕ). mul (field_at m) y (get_or f 0 0)) a))
 
+-- over a degree that is the same
+pub low-over : {d m n : ℕ} {f : List ℕ} → d ≡ m → AtMostLinear m f n → AtMostLinear d f n
+low-over {n = n} {f} e g = subst (λ w. AtMostLinear w f n) (sym e) g
+
 -- ---- what the whole call answers
 
-module _ {m : ℕ} {f : List ℕ} (roots : List ℕ) {r : Counts} (zero-steps : r.steps ≡ 0) (c : ℕ) (least : 1 ≤ c) where
+module _ {m : ℕ} {f : List ℕ} (roots : List ℕ) {r : Solved} (zero-steps : r.steps ≡ 0) (c : ℕ) (least : 1 ≤ c) where
   -- no root: the list is as it was
   pub low-empty : roots_at m f ≡ [] → r.s ≡ 0 → SolvedOut m c f roots r roots
   unfolding copied

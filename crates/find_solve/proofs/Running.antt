@@ -23,17 +23,14 @@ use Rattle.table_rules.proofs.Layouts.{by_factor-lawful}
 use Rattle.table_rules.proofs.Soundness.{done-encode, stuck-encode, roots-encode}
 use Rattle.table_rules.proofs.Keeping.{sound-length}
 use Rattle.table_rules.proofs.Demand.{demand-3, steps-to-done}
-use Rattle.poly.specs.Lent.{Lent}
 use Rattle.table_rules.specs.Sizes.{slots, is_sound}
 use Rattle.find_solve.specs.Solving.{Stepping, RunOut, Solvable}
-use Rattle.field.specs.Field.{field_at, roots_at}
-use Rattle.field.specs.Tables.{Halves}
+use Rattle.field.specs.Field.{roots_at}
 use Rattle.table_finish.specs.Finishing.{Listable}
 use Rattle.table_slots.specs.Verdicts.{Chosen}
 use Rattle.table_slots.specs.Slots.{width_of, cutoff_of, taken_of}
 use Rattle.table_slots.specs.Walk.{sought_in}
-use Rattle.table_slots.specs.declared.Spot.{Spot}
-use Rattle.table_slots.specs.declared.Spot.TheVariants.{At, Nowhere}
+use Rattle.std.specs.Prelude.{Option, Some, None}
 use Rattle.table_slots.proofs.Finding.{seek-done, seek-at}
 
 -- one step more on slots
@@ -89,10 +86,6 @@ module _ {m c : ℕ} {f table : List ℕ} (s : Stepping m c f table) where
   unfolding n encode
   cutoff-now = ap cutoff_of s.slots-are
 
-  -- so that the tables lent are those of its field
-  lent-now : {ls ts : List ℕ} → Lent m ls ts → Lent (width_of table) ls ts
-  lent-now {ls} {ts} l = subst (λ (w : ℕ). Lent w ls ts) (sym width-now) l
-
   done-now : slots_done by_factor table ≡ is_done (groups_after m c (roots_at m f) n)
   unfolding n
   done-now = ap (slots_done by_factor) s.slots-are ∙ done-encode by_factor-lawful slots (groups_after m c (roots_at m f) n)
@@ -111,11 +104,11 @@ module _ {m c : ℕ} {f table : List ℕ} (s : Stepping m c f table) where
           rw d refl
 
   -- where nothing is found the table is done
-  pub found_none : {r : Spot} → r ≡ sought_in c table → r ≡ Nowhere → slots_done by_factor table ≡ true
+  pub found_none : {r : Option ℕ} → r ≡ sought_in c table → r ≡ None → slots_done by_factor table ≡ true
   found_none e f = seek-done table sound-now (e ∙ ap (λ (k : ℕ). sought_in k table) (sym cutoff-now)) f
 
   -- and what is found is the place of the next step
-  pub found_at : {r : Spot} {o : ℕ} → r ≡ sought_in c table → r ≡ At o → Chosen table o
+  pub found_at : {r : Option ℕ} {o : ℕ} → r ≡ sought_in c table → r ≡ Some o → Chosen table o
   found_at e f =
       let w = seek-at table sound-now (e ∙ ap (λ (k : ℕ). sought_in k table) (sym cutoff-now)) f in
       record { sound = sound-now; free = stuck-now; more = w.more; at = w.here }
@@ -190,8 +183,8 @@ pub out-taken : {m c : ℕ} {f table : List ℕ} → RunOut m c f table → take
 out-taken {m} {c} {f} r = ap taken_of r.slots-are ∙ taken_at m c f (step_count m c (roots_at m f))
 
 -- what finish asks of it
-pub out-asks : {m c : ℕ} {f ls ts hs table table' roots : List ℕ} → Solvable m c f ls ts hs roots → Stepping m c f table → RunOut m c f table'
-    → Listable ls ts hs table' roots
+pub out-asks : {m c : ℕ} {f hs table table' roots : List ℕ} → Solvable m c f hs roots → Stepping m c f table → RunOut m c f table'
+    → Listable m hs table' roots
 unfolding n
 out-asks {m} {c} {f} {hs = hs} {table' = table'} g s r =
     let t = out-stepping s r in
@@ -202,8 +195,8 @@ out-asks {m} {c} {f} {hs = hs} {table' = table'} g s r =
             ∙ (demand-3 m s.field c s.least f).end;
         room = g.room;
       };
-      tables = lent-now t g.tables;
-      halves = subst (λ (w : ℕ). Halves (field_at w) hs) (sym (width-now t)) g.halves;
+      width = sym (width-now t);
+      halves = g.halves;
     }
 
 -- what finish lists is the roots

@@ -1,20 +1,21 @@
 -- Trace sums modulo the polynomial, one a level: what the loop over levels keeps, and why a begun table may be stepped
 -- with them.
---   Levelling, levelling-from, levelling-asks, levelling-on, levelling-end   the sums of the levels below k are
+--   Levelling, Reaching, levelling-from, levelling-asks, levelling-on, levelling-end   the sums of the levels below k are
 --   written
 --   sums-long, sum-at, traced-at     where the sum of a level stands
 --   level-value                      at a root of the polynomial it is the value of Tr(a^i z)
 --   level-below, level-long          its coefficients are elements, and how many they are
 --   BEGUN-SAME                       so it parts each factor of a begun table as Tr(a^i z) does
 --   powers-few, powers-fit           the degree is at most the limit, and the sums of all levels have their room
---   advance-fits, advance-ready      what a step with the sum of its level asks
---   Going, going-from, going-asks, going_on   what the engine's loop keeps
+--   Advancing, Advanced              a step with the sum of its level;  advance-asks, advance-fits, advance-ready  what it asks
+--   Going, going-from, going-asks, going_on, GoingBy, turn-asks, turn-held, turn-ready, turn-on   what the engine's loop
+--                                    keeps
 -- Assumes nothing.
 use mathlib.Core.Path.{◌≡◌, refl, sym, ap, ap₂, ◌∙◌, subst}
 use mathlib.Core.Bool.{Bool, true}
 use mathlib.Core.Option.{some}
 use mathlib.Core.List.{List, [], ◌∷◌, ◌++◌, map, append_assoc}
-use Prim.Native.Nat.{ℕ, zero, suc, ◌+◌, ◌-◌, ◌*◌, ◌^◌, ◌≤◌, ◌<◌}
+use Prim.Native.Nat.{ℕ, zero, suc, ◌+◌, ◌-◌, ◌*◌, ◌^◌, ◌≤◌, ◌<◌, max}
 use native.Mathlib.Nat.{mul-le-mul, mul-le-mul_right, suc-mul, le_trans}
 use native.Mathlib.Decide.{dec_lt}
 use native.Mathlib.Omega.{arith}
@@ -35,7 +36,7 @@ use Rattle.algebra.proofs.NumberDivision.{eval-rem}
 use Rattle.algebra.proofs.NumberSteps.{eval-trace_of, split-same}
 use Rattle.algebra.proofs.RootList.{eval-one, roots_of-distinct, roots_of-norm}
 use Rattle.slices.proofs.Lists.{take-zeros, drop-zeros}
-use Rattle.input.proofs.Fields.{degree-within}
+use Rattle.input.proofs.Fields.{degree-within, known-field}
 use Rattle.input.specs.Limit.{limit, widest}
 use Rattle.input.specs.Polynomials.{PolynomialIn}
 use Rattle.table_rules.specs.Groups.{group}
@@ -49,18 +50,21 @@ use Rattle.table_rules.proofs.Soundness.{decode-encode}
 use Rattle.table_rules.proofs.Demand.{demand-3}
 use Rattle.field.specs.Field.{G, roots_at}
 use Rattle.poly.specs.Lent.{Lent, LogRow, held}
-use Rattle.poly_powers.specs.Powers.{Summable, trace_sum}
+use Rattle.poly_powers.specs.Powers.{trace_sum}
+use Rattle.poly_powers.specs.Asking.{Summable}
 use Rattle.poly.proofs.Logs.{field_of, numbers_of, held-long}
 use Rattle.poly_powers.proofs.TraceLoops.{rows_fit, next_place, part-front, part-long}
 use Rattle.poly_powers.proofs.TraceValues.{trace_sum-below, power_rows-long, power_rows-row, trace-value}
 use Rattle.table_rules.specs.Sizes.{slots}
 use Rattle.table_slots.specs.Verdicts.{Chosen}
 use Rattle.table_step.specs.Parting.{StepReady}
-use Rattle.table_slots.specs.Slots.{taken_of, level_at, factor_at}
+use Rattle.table_slots.specs.Slots.{width_of, taken_of, level_at, factor_at}
 use Rattle.table_begin.specs.SplitPart.{Powered}
 use Rattle.table_step.proofs.Commons.{level-fits, level-power}
 use Rattle.table_step.proofs.Replacing.{factor-is, level-below-width}
-use Rattle.find_solve.specs.Solving.{Stepping, Traced, Traceable, TracedTo, Advancing, Advanced, Running, Solvable, level_sum, level_sums}
+use Rattle.find_solve.specs.Solving.{Stepping, Traced, Traceable, TracedTo, Reached, Held, held_at, Running, Solvable, level_sum, level_sums}
+use Rattle.find_solve.specs.declared.Sums.{Sums}
+use Rattle.table_rules.specs.Splitting.{slots_stepped}
 use Rattle.find_solve.proofs.Running.{width-now, long-now, run_on}
 
 -- ---- the sum of a level
@@ -97,22 +101,19 @@ level-below {m} l n rows k =
     add-below N (replicate n 0) (trace_sum m n m (power (G m) 2 k) rows) (replicate-below (2 ^ m) n 0 N.zero-below)
     (trace_sum-below l n m (power (G m) 2 k) rows (power_below N 2 k (field_of l).two))
 
--- ---- `trace_to`
+-- ---- `reach`
 
--- the sums of the levels below k are written
-pub record Levelling (m : ℕ) (ls ts : List ℕ) (n : ℕ) (rows : List ℕ) (i : ℕ) (traces₀ traces : List ℕ) (k at : ℕ) : Type 0 where
-  pub given : Traceable m ls ts n rows traces k i
+-- the sums of the levels below k are written, of those from r to i
+pub record Levelling (m n : ℕ) (rows : List ℕ) (i r : ℕ) (traces₀ traces : List ℕ) (k at : ℕ) : Type 0 where
+  pub last : k ≤ max r (i + 1)
+  pub given : Traceable m n rows traces k i
   pub place : at ≡ k * n
   pub long : length traces ≡ length traces₀
 
--- the place of a level is within the list
-pub traceable-fits : {m : ℕ} {ls ts rows traces : List ℕ} {n k i : ℕ} → Traceable m ls ts n rows traces k i → k * n ≤ length traces
-traceable-fits {n = n} g = le_trans (mul-le-mul_right n g.within) g.room
+pub levelling-from : {m : ℕ} {rows traces : List ℕ} {n k i : ℕ} → Traceable m n rows traces k i → Levelling m n rows i k traces traces k (k * n)
+levelling-from g = record { last = omega arith; given = g; place = refl; long = refl }
 
-pub levelling-from : {m : ℕ} {ls ts rows traces : List ℕ} {n k i : ℕ} → Traceable m ls ts n rows traces k i → Levelling m ls ts n rows i traces traces k (k * n)
-levelling-from g = record { given = g; place = refl; long = refl }
-
-module _ {m : ℕ} {ls ts : List ℕ} {n : ℕ} {rows : List ℕ} {i : ℕ} {traces₀ traces : List ℕ} {k at : ℕ} (p : Levelling m ls ts n rows i traces₀ traces k at) where
+module _ {m : ℕ} {ls ts : List ℕ} {n : ℕ} {rows : List ℕ} {i r : ℕ} {traces₀ traces : List ℕ} {k at : ℕ} (lent : Lent m ls ts) (p : Levelling m n rows i r traces₀ traces k at) where
   -- there is room for one more
   pub levelling-room : k ≤ i → at + n ≤ length traces
   levelling-room h = rows_fit k m n (omega (arith, p.given.level)) p.given.room p.place
@@ -126,19 +127,18 @@ module _ {m : ℕ} {ls ts : List ℕ} {n : ℕ} {rows : List ℕ} {i : ℕ} {tra
 
   -- twice the level indexes the antilog table
   pub levelling-fits : k ≤ i → 2 * k < length ts
-  levelling-fits h = level-fits {p = []} (record { tables = p.given.tables; small = tt; few = omega arith; level = omega (arith, p.given.level) })
+  levelling-fits h = level-fits {p = []} lent (record { small = tt; few = omega arith; level = omega (arith, p.given.level) })
 
   -- a^k
   base : k ≤ i → get_or ts (2 * k) 0 ≡ power (G m) 2 k
-  base h = level-power {p = []} (record { tables = p.given.tables; small = tt; few = omega arith; level = omega (arith, p.given.level) })
+  base h = level-power {p = []} lent (record { small = tt; few = omega arith; level = omega (arith, p.given.level) })
 
   -- the sum can be added there
-  pub levelling-asks : k ≤ i → Summable m ls ts rows m (get_or ts (2 * k) 0) (take (at + n - at) (drop at traces))
+  pub levelling-asks : k ≤ i → Summable m rows m (get_or ts (2 * k) 0) (take (at + n - at) (drop at traces))
   levelling-asks h =
       let z = zeros-at h in
       record {
-        tables = p.given.tables;
-        element = subst (λ x. x < 2 ^ m) (sym (base h)) (power_below (numbers_of p.given.tables) 2 k (field_of p.given.tables).two);
+        element = subst (λ x. x < 2 ^ m) (sym (base h)) (power_below (numbers_of lent) 2 k (field_of lent).two);
         logs = p.given.logs;
         room-rows = subst (λ j. m * j ≤ length rows) (sym (ap length z ∙ length-replicate n 0)) p.given.rows_long;
       }
@@ -146,10 +146,10 @@ module _ {m : ℕ} {ls ts : List ℕ} {n : ℕ} {rows : List ℕ} {i : ℕ} {tra
   -- one level more
   pub levelling-on : {y : List ℕ} → k ≤ i
       → y ≡ add (G m) (take (at + n - at) (drop at traces)) (trace_sum m (length (take (at + n - at) (drop at traces))) m (get_or ts (2 * k) 0) rows)
-      → Levelling m ls ts n rows i traces₀ (take at traces ++ (y ++ drop (at + n - at) (drop at traces))) (k + 1) (at + n)
+      → Levelling m n rows i r traces₀ (take at traces ++ (y ++ drop (at + n - at) (drop at traces))) (k + 1) ((k + 1) * n)
   unfolding level_sum level_sums
   levelling-on {y} h e =
-      let r = levelling-room h in
+      let fit = levelling-room h in
       let z = zeros-at h in
       let d : at + n - at ≡ n = omega arith in
       let s : k + 1 ≡ suc k = omega arith in
@@ -157,17 +157,17 @@ module _ {m : ℕ} {ls ts : List ℕ} {n : ℕ} {rows : List ℕ} {i : ℕ} {tra
       e ∙ ap₂ (λ u b. add (G m) u (trace_sum m (length u) m b rows)) z (base h) ∙ ap (λ j. add (G m) (replicate n 0) (trace_sum m j m (power (G m) 2 k) rows)) (length-replicate n 0) in
       let ly : length y ≡ n = ap length to ∙ level-long m n rows k in
       let t₁ : List ℕ = take at traces ++ (y ++ drop (at + n - at) (drop at traces)) in
-      let l₁ : length t₁ ≡ length traces = ap (λ j. length (take at traces ++ (y ++ drop j (drop at traces)))) d ∙ part-long at n y traces r ly in
+      let l₁ : length t₁ ≡ length traces = ap (λ j. length (take at traces ++ (y ++ drop j (drop at traces)))) d ∙ part-long at n y traces fit ly in
       let q : at + n ≡ (k + 1) * n = next_place k n p.place in
-      let fr : take (at + n) t₁ ≡ take at traces ++ y = part-front at n (at + n - at) y traces r ly in
+      let fr : take (at + n) t₁ ≡ take at traces ++ y = part-front at n (at + n - at) y traces fit ly in
       let bk : drop (at + n) t₁ ≡ replicate (length traces - (at + n)) 0 =
       ap (drop (at + n)) (sym (append_assoc (take at traces) y (drop (at + n - at) (drop at traces))))
       ∙ drop_at (take at traces ++ y) (drop (at + n - at) (drop at traces)) (at + n) (length-append (take at traces) y ∙ ap₂ (λ a b. a + b) (length-take-le at traces (omega arith)) ly)
       ∙ ap₂ (λ j l. drop j l) d (ap (λ j. drop j traces) p.place ∙ p.given.traced.rest) ∙ drop-zeros n (length traces - k * n)
       ∙ ap (λ j. replicate j 0) (let w : length traces - k * n - n ≡ length traces - (at + n) = omega (arith, p.place) in w) in
       record {
+        last = omega arith;
         given = record {
-          tables = p.given.tables;
           logs = p.given.logs;
           rows_long = p.given.rows_long;
           room = subst (λ j. m * n ≤ j) (sym l₁) p.given.room;
@@ -179,12 +179,22 @@ module _ {m : ℕ} {ls ts : List ℕ} {n : ℕ} {rows : List ℕ} {i : ℕ} {tra
             rest = ap (λ j. drop j t₁) (sym q) ∙ bk ∙ ap (λ j. replicate j 0) (ap₂ (λ a b. a - b) (sym l₁) q);
           };
         };
-        place = q;
+        place = refl;
         long = l₁ ∙ p.long;
       }
 
-  pub levelling-end : i < k → TracedTo m n rows i k traces
-  levelling-end h = record { above = h; within = p.given.within; traced = p.given.traced }
+  -- at the end they all are
+  pub levelling-end : {j : ℕ} → r ≤ k → i < k → j ≡ max r (i + 1) → TracedTo m n rows i j traces
+  levelling-end {j} g h e =
+      let s : k ≡ j = omega (arith, p.last) in
+      subst (λ x. TracedTo m n rows i x traces) s (record { above = h; within = p.given.within; traced = p.given.traced })
+
+-- the same of the sums and their rows as one
+pub record Reaching (m : ℕ) (s₀ s : Sums) (i k : ℕ) : Type 0 where
+  pub places : s.n ≡ s₀.n
+  pub rows_are : s.rows.now ≡ s₀.rows.now
+  pub from : s.ready ≡ s₀.ready
+  pub levels : Levelling m s.n s.rows.now i s.ready s₀.traces s.traces k (k * s.n)
 
 -- ---- where the sum of a level stands
 
@@ -321,13 +331,28 @@ module _ {m n : ℕ} {f ls ts rows : List ℕ} (l : Lent m ls ts) (hf : Below (2
       subst Q (sym (factor-is table h ∙ ap (λ u. (first_factor u).1) is))
       (subst (λ fs. Q (entry_at fs (first_above c t.factors)).1) (sym D.3) (each-entry Q refl (group-same i) D.0 (first_above c t.factors)))
 
--- ---- `advance`
+-- ---- a step
 
-module _ {m : ℕ} {ls ts : List ℕ} {n : ℕ} {rows traces : List ℕ} {k : ℕ} {table : List ℕ} {o : ℕ} (g : Advancing m ls ts n rows traces k table o) where
+-- the factor at o is the one that a step splits, and the sum at its level parts it as Tr(a^i z) does
+pub record Advancing (m n : ℕ) (rows traces : List ℕ) (k : ℕ) (table : List ℕ) (o : ℕ) : Type 0 where
+  pub chosen : Chosen table o
+  pub width : width_of table ≡ m
+  pub few : n ≤ limit
+  pub traceable : Traceable m n rows traces k (level_at table o)
+  pub same : gcd (G m) (factor_at table o) (level_sum m n rows (level_at table o))
+      ≡ (halving_at m).low (level_at table o) (factor_at table o)
+
+-- it is taken
+pub record Advanced (m n : ℕ) (rows table : List ℕ) (k : ℕ) (traces table' : List ℕ) : Type 0 where
+  pub stepped : table' ≡ slots_stepped by_factor table
+  pub within : k ≤ m
+  pub traced : Traced m n rows k traces
+
+module _ {m : ℕ} {ls ts : List ℕ} {n : ℕ} {rows traces : List ℕ} {k : ℕ} {table : List ℕ} {o : ℕ} (lent : Lent m ls ts) (g : Advancing m n rows traces k table o) where
   module _ {i : ℕ} (at : i ≡ level_at table o) where
     -- the sums up to the level can be taken
-    pub advance-asks : Traceable m ls ts n rows traces k i
-    advance-asks = subst (Traceable m ls ts n rows traces k) (sym at) g.traceable
+    pub advance-asks : Traceable m n rows traces k i
+    advance-asks = subst (Traceable m n rows traces k) (sym at) g.traceable
 
     -- that of the level has its place
     pub advance-fits : i * n + n ≤ length traces
@@ -335,26 +360,24 @@ module _ {m : ℕ} {ls ts : List ℕ} {n : ℕ} {rows traces : List ℕ} {k : �
 
     -- and what stands there can be lent to the step
     pub advance-ready : {j : ℕ} {traces₁ : List ℕ} → TracedTo m n rows i j traces₁ → length traces₁ ≡ length traces
-        → StepReady table ls ts o (take (i * n + n - i * n) (drop (i * n) traces₁))
+        → StepReady m table o (take n (drop (i * n) traces₁))
     advance-ready {j} {traces₁} t e =
-        let d : i * n + n - i * n ≡ n = omega arith in
         let r : j * n ≤ length traces₁ = subst (λ x. j * n ≤ x) (sym e) (le_trans (mul-le-mul_right n t.within) g.traceable.room) in
-        let is : level_sum m n rows i ≡ take (i * n + n - i * n) (drop (i * n) traces₁) = sym (ap (λ x. take x (drop (i * n) traces₁)) d ∙ traced-at m n rows t.above r t.traced) in
+        let is : level_sum m n rows i ≡ take n (drop (i * n) traces₁) = sym (traced-at m n rows t.above r t.traced) in
         let few : length (level_sum m n rows i) ≤ limit = omega (arith, level-long m n rows i, g.few) in
-        subst (StepReady table ls ts o) is (record {
+        subst (StepReady m table o) is (record {
           chosen = g.chosen;
-          tables = subst (λ w. Lent w ls ts) (sym g.width) g.traceable.tables;
-          small = subst (λ w. Below (2 ^ w) (level_sum m n rows i)) (sym g.width) (level-below g.traceable.tables n rows i);
+          width = sym g.width;
+          small = level-below lent n rows i;
           few = few;
-          same = subst (λ w. gcd (G w) (factor_at table o) (level_sum m n rows i) ≡ (halving_at w).low (level_at table o) (factor_at table o)) (sym g.width)
-              (ap (λ x. gcd (G m) (factor_at table o) (level_sum m n rows x)) at ∙ g.same);
+          same = ap (λ x. gcd (G m) (factor_at table o) (level_sum m n rows x)) at ∙ g.same;
         })
 
--- ---- `run`
+-- ---- `run_table`
 
 -- the degree of the polynomial is at most the limit
-powers-few : {m : ℕ} {f ls ts low : List ℕ} → Lent m ls ts → PolynomialIn m f → norm (G m) (length f) f ≡ some low → length low ≤ limit
-powers-few {m} {f} l t e = omega (arith, (norm-made (numbers_of l) f t.small e).shorter, t.few)
+powers-few : {m : ℕ} {f low : List ℕ} → PolynomialIn m f → norm (G m) (length f) f ≡ some low → length low ≤ limit
+powers-few {m} {f} t e = omega (arith, (norm-made (known-field m t.field).numbers f t.small e).shorter, t.few)
 
 -- so that the sums of all levels have their room
 pub powers-fit : (m n : ℕ) → known m ≡ true → n ≤ limit → m * n ≤ widest * limit
@@ -368,12 +391,13 @@ pub record Going (m c : ℕ) (f : List ℕ) (n : ℕ) (rows traces₀ table₀ t
   pub within : k ≤ m
   pub traced : Traced m n rows k traces
 
-module _ {m c : ℕ} {f ls ts : List ℕ} {n : ℕ} {rows traces₀ table₀ : List ℕ} (g : Running m c f ls ts n rows traces₀ table₀) where
+module _ {m c : ℕ} {f ls ts : List ℕ} {n : ℕ} {rows traces₀ table₀ : List ℕ} (lent : Lent m ls ts) (zeros : traces₀ ≡ replicate (widest * limit) 0)
+    (g : Running m c f n rows table₀) where
   pub going-from : Going m c f n rows traces₀ table₀ traces₀ table₀ 0
   unfolding level_sums
   going-from =
       let z : 0 * n ≡ 0 = omega arith in
-      let e : length traces₀ - 0 * n ≡ (widest * limit) = omega (arith, ap length g.zeros, length-replicate {A = ℕ} (widest * limit) 0) in
+      let e : length traces₀ - 0 * n ≡ (widest * limit) = omega (arith, ap length zeros, length-replicate {A = ℕ} (widest * limit) 0) in
       record {
         stepping = g.stepping;
         long-table = refl;
@@ -381,37 +405,36 @@ module _ {m c : ℕ} {f ls ts : List ℕ} {n : ℕ} {rows traces₀ table₀ : L
         within = omega arith;
         traced = record {
           front = ap (λ j. take j traces₀) z;
-          rest = ap (λ j. drop j traces₀) z ∙ g.zeros ∙ ap (λ j. replicate j 0) (sym e);
+          rest = ap (λ j. drop j traces₀) z ∙ zeros ∙ ap (λ j. replicate j 0) (sym e);
         };
       }
 
   module _ {traces table : List ℕ} {k : ℕ} (w : Going m c f n rows traces₀ table₀ traces table k) {o : ℕ} (h : Chosen table o) where
     -- what the next step asks
-    pub going-asks : Advancing m ls ts n rows traces k table o
+    pub going-asks : Advancing m n rows traces k table o
     going-asks =
         let q = g.powers in
-        let few : n ≤ limit = subst (λ j. j ≤ limit) q.long (powers-few g.tables g.polynomial q.made) in
-        let small = small_low g.tables g.polynomial.small q in
+        let few : n ≤ limit = subst (λ j. j ≤ limit) q.long (powers-few g.polynomial q.made) in
+        let small = small_low lent g.polynomial.small q in
         let z1 : List ℕ = rem (G m) q.low (0 ∷ 1 ∷ []) in
         let lz : length z1 ≡ length q.low = length-rem (G m) q.low (0 ∷ 1 ∷ []) in
-        let hz : Below (2 ^ m) z1 = rem_below (numbers_of g.tables) q.low (0 ∷ 1 ∷ []) small (small-z g.tables g.polynomial.small q) in
-        let long : length rows ≡ m * n = ap length q.rows_are ∙ power_rows-long g.tables q.low small m z1 lz ∙ ap (λ j. m * j) q.long in
-        let fit : m * n ≤ widest * limit = powers-fit m n g.tables.degree few in
+        let hz : Below (2 ^ m) z1 = rem_below (numbers_of lent) q.low (0 ∷ 1 ∷ []) small (small-z lent g.polynomial.small q) in
+        let long : length rows ≡ m * n = ap length q.rows_are ∙ power_rows-long lent q.low small m z1 lz ∙ ap (λ j. m * j) q.long in
+        let fit : m * n ≤ widest * limit = powers-fit m n g.polynomial.field few in
         let width = width-now w.stepping in
         record {
           chosen = h;
           width = width;
           few = few;
           traceable = record {
-            tables = g.tables;
-            logs = subst (LogRow m) (sym q.rows_are) (power_rows-row g.tables q.low small m z1 hz);
+            logs = subst (LogRow m) (sym q.rows_are) (power_rows-row lent q.low small m z1 hz);
             rows_long = omega arith;
-            room = omega (arith, w.long-traces, ap length g.zeros, length-replicate {A = ℕ} (widest * limit) 0);
+            room = omega (arith, w.long-traces, ap length zeros, length-replicate {A = ℕ} (widest * limit) 0);
             within = w.within;
             level = omega (arith, level-below-width table h, width);
             traced = w.traced;
           };
-          same = begun-same g.tables g.polynomial.small q w.stepping h (level_at table o);
+          same = begun-same lent g.polynomial.small q w.stepping h (level_at table o);
         }
 
     -- and what it leaves
@@ -426,6 +449,43 @@ module _ {m c : ℕ} {f ls ts : List ℕ} {n : ℕ} {rows traces₀ table₀ : L
           traced = a.traced;
         }
 
+-- the same with the sums and their rows as one
+pub record GoingBy (m c : ℕ) (f : List ℕ) (n : ℕ) (rows table₀ table : List ℕ) (s : Sums) : Type 0 where
+  pub places : s.n ≡ n
+  pub rows_are : s.rows.now ≡ rows
+  pub going : Going m c f s.n s.rows.now (replicate (widest * limit) 0) table₀ s.traces table s.ready
+
+module _ {m c : ℕ} {f ls ts : List ℕ} {n : ℕ} {rows table₀ table : List ℕ} {s : Sums} (lent : Lent m ls ts)
+    (g : Running m c f n rows table₀) (w : GoingBy m c f n rows table₀ table s) where
+  -- over the rows of the sums
+  by-sums : Running m c f s.n s.rows.now table₀
+  by-sums = rw (w.places, w.rows_are) g
+
+  module _ {o : ℕ} (h : Chosen table o) {i : ℕ} (at : i ≡ level_at table o) where
+    adv : Advancing m s.n s.rows.now s.traces s.ready table o
+    adv = going-asks lent refl by-sums w.going h
+
+    -- the sums up to the level can be taken
+    pub turn-asks : Traceable m s.n s.rows.now s.traces s.ready i
+    turn-asks = advance-asks lent adv at
+
+    module _ {s' : Sums} (r : Reached m s i s') where
+      -- that of the level stands in its place
+      pub turn-held : Held s' i
+      turn-held = subst (λ j. i * j + j ≤ length s'.traces) (sym r.places) (omega (arith, advance-fits lent adv at, r.long))
+
+      -- and parts the factor
+      pub turn-ready : {t : List ℕ} → t ≡ held_at s' i → StepReady m table o t
+      turn-ready e = rw (e, r.places) (advance-ready lent adv at r.traced r.long)
+
+      -- a turn
+      pub turn-on : {table' : List ℕ} → table' ≡ slots_stepped by_factor table → GoingBy m c f n rows table₀ table' s'
+      turn-on e = record {
+        places = r.places ∙ w.places;
+        rows_are = r.rows_are ∙ w.rows_are;
+        going = rw (r.places, r.rows_are) (going_on lent refl by-sums w.going h (record { stepped = e; within = r.traced.within; traced = r.traced.traced }) r.long);
+      }
+
 -- and the rows of its powers have their room
-pub powered-fit : {m c : ℕ} {f ls ts hs roots rows : List ℕ} {n : ℕ} → Solvable m c f ls ts hs roots → Powered m f n rows → m * n ≤ widest * limit
-powered-fit {m} {n = n} g p = powers-fit m n g.tables.degree (subst (λ j. j ≤ limit) p.long (powers-few g.tables g.polynomial p.made))
+pub powered-fit : {m c : ℕ} {f hs roots rows : List ℕ} {n : ℕ} → Solvable m c f hs roots → Powered m f n rows → m * n ≤ widest * limit
+powered-fit {m} {n = n} g p = powers-fit m n g.polynomial.field (subst (λ j. j ≤ limit) p.long (powers-few g.polynomial p.made))

@@ -19,8 +19,8 @@ use Rattle.refusals.specs.Order.{Given, Passed}
 use Rattle.refusals.specs.Order.Given.{here, later}
 use Rattle.refusals.specs.Order.Passed.{none}
 use Rattle.refusals.specs.Admitting.{Admits}
-use Rattle.refusals.specs.declared.Admission.{Admission}
-use Rattle.refusals.specs.declared.Admission.TheVariants.{In, Out}
+use Rattle.std.specs.Prelude.{⊤, Result, Ok, Err}
+use Rattle.refusals.specs.declared.Refusal.{Refusal}
 use Rattle.refusals.proofs.Order.{holds, fails, passes, failed, others}
 use Rattle.field.specs.Rows.{known, IsRow}
 use Rattle.field.specs.declared.rows.Row.{Row}
@@ -74,17 +74,17 @@ given-cut vs here = here
 given-cut vs (later here) = later here
 given-cut vs (later (later here)) = later (later here)
 
-admits-cut : (s t : ℕ × Bool) (l : ℕ) (us vs : List (ℕ × Bool)) (d : Bool) → d ≡ true → (r : Admission)
+admits-cut : (s t : ℕ × Bool) (l : ℕ) (us vs : List (ℕ × Bool)) (d : Bool) → d ≡ true → (r : Result ⊤ Refusal)
     → Admits (s ∷ t ∷ (l, d) ∷ us) r → Admits (s ∷ t ∷ (l, d) ∷ vs) r
-admits-cut s t l us vs true e In p = absurd (true≢false (failed (others (others p))))
-admits-cut s t l us vs true e (Out k) g = given-cut vs g
+admits-cut s t l us vs true e (Ok u) p = absurd (true≢false (failed (others (others p))))
+admits-cut s t l us vs true e (Err k) g = given-cut vs g
 admits-cut s t l us vs false e r p = absurd (true≢false (sym e))
 
 -- the tests of a polynomial with the fourth and the fifth as they come
 abbrev shape : ℕ → List ℕ → Bool → Bool → List (ℕ × Bool) → List (ℕ × Bool)
 shape m cs b c more = (1, not (known m)) ∷ (2, eqb (length cs) 0) ∷ (3, ltb (suc limit) (length cs)) ∷ (4, not b) ∷ (5, c) ∷ more
 
-pub values-admit : (m : ℕ) (cs : List ℕ) {n top : ℕ} (us : List (ℕ × Bool)) (r : Admission) → Measured cs n top
+pub values-admit : (m : ℕ) (cs : List ℕ) {n top : ℕ} (us : List (ℕ × Bool)) (r : Result ⊤ Refusal) → Measured cs n top
     → Admits (value_tests m n top us) r → Admits (polynomial_tests m cs us) r
 values-admit m cs {n} {top} us r s h =
     go (ltb (suc limit) (length cs)) refl (subst (λ k. Admits (value_tests m k top us) r) s.count h)

@@ -9,8 +9,8 @@ ghost use Rattle.input.specs.Cutoff.{highest_cutoff, in_force};
 ghost use Rattle.input.specs.Polynomials.{polynomial_tests};
 ghost use Rattle.input.specs.Values.{Measured, value_tests};
 
-use field::rows::{FoundRow, row_of};
-use refusals::{Admission, Refusal, also};
+use field::rows::row_of;
+use refusals::{Refusal, also};
 
 // The highest cutoff, and what cutoff 0 stands for (specs/Cutoff.antt).
 pub const HIGHEST_CUTOFF: u16 = 3;
@@ -41,30 +41,27 @@ pub fn in_force(cutoff: u16) -> u16
 }
 
 // Refusals 1 to 5, of a field degree, the number of coefficients and the largest of them.
-fn admit_values(m: u16, n: usize, top: u16) -> Admission
+fn admit_values(m: u16, n: usize, top: u16) -> Result<(), Refusal>
     ensures { Admits (value_tests m n top []) result }
 {
-    let found = row_of(m);
-    let FoundRow::At(row) = found else {
-        return Admission::Out(Refusal::Field);
-    };
+    let row = row_of(m).ok_or(Refusal::Field)?;
     if n == 0 {
-        return Admission::Out(Refusal::Empty);
+        return Err(Refusal::Empty);
     }
     if COEFFICIENTS < n {
-        return Admission::Out(Refusal::Long);
+        return Err(Refusal::Long);
     }
     if row.size <= top {
-        return Admission::Out(Refusal::Element);
+        return Err(Refusal::Element);
     }
     if top == 0 {
-        return Admission::Out(Refusal::AllZero);
+        return Err(Refusal::AllZero);
     }
-    Admission::In
+    Ok(())
 }
 
 // Refusals 1 to 6, of these and a cutoff: what the whole call, begin and the reader of records ask.
-pub fn admit_call(m: u16, n: usize, top: u16, cutoff: u16) -> Admission
+pub fn admit_call(m: u16, n: usize, top: u16, cutoff: u16) -> Result<(), Refusal>
     ensures { Admits (value_tests m n top ((6, ltb highest_cutoff cutoff) ∷ [])) result }
 {
     let above = HIGHEST_CUTOFF < cutoff;
@@ -79,19 +76,16 @@ fn largest(coeffs: &[u16]) -> u16
         return 0;
     }
     let mut top = 0;
-    let mut k = 0;
-    while k < coeffs.len() {
-        let c = coeffs[k];
-        if top < c {
-            top = c;
+    for c in coeffs {
+        if top < *c {
+            top = *c;
         }
-        k += 1;
     }
     top
 }
 
 // Refusals 1 to 5 and 7, of a polynomial and of lent slots that are too few.
-pub fn admit_room(m: u16, coeffs: &[u16], short: bool) -> Admission
+pub fn admit_room(m: u16, coeffs: &[u16], short: bool) -> Result<(), Refusal>
     ensures { Admits (polynomial_tests m coeffs.now ((7, short) ∷ [])) result }
 {
     also(
@@ -102,7 +96,7 @@ pub fn admit_room(m: u16, coeffs: &[u16], short: bool) -> Admission
 }
 
 // Refusals 1 to 7, of a polynomial, a cutoff, and lent slots that are too few or not as many as they must be.
-pub fn admit(m: u16, coeffs: &[u16], cutoff: u16, short: bool) -> Admission
+pub fn admit(m: u16, coeffs: &[u16], cutoff: u16, short: bool) -> Result<(), Refusal>
     ensures { Admits (polynomial_tests m coeffs.now
         ((6, ltb highest_cutoff cutoff) ∷ (7, short) ∷ [])) result }
 {

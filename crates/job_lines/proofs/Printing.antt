@@ -6,6 +6,7 @@
 use mathlib.Core.Path.{◌≡◌, refl, sym, ap, ap₂, ◌∙◌, subst}
 use mathlib.Core.List.{List, [], ◌∷◌, ◌++◌, append-nil}
 use Prim.Native.Nat.{ℕ, ◌+◌}
+use Rattle.std.specs.Prelude.{Some, None}
 use Rattle.job_records.specs.Reading.{Outcome, read_at}
 use Rattle.job_records.specs.Files.{Reads}
 use Rattle.job_records.specs.Files.Reads.{over, stop, on}
@@ -28,13 +29,13 @@ lined : {file : List ℕ} {at k : ℕ} {text : List ℕ} → Prints file at k te
 unfolding lines_from Lined
 lined {file} (last {at = at} {k = k} e) = go (read_at file at) refl e
   where
-    go : (o : Outcome) → read_at file at ≡ o → on_from o ≡ [] → Lined file at k (line_for file k (read_at file at))
+    go : (o : Outcome) → read_at file at ≡ o → on_from o ≡ None → Lined file at k (line_for file k (read_at file at))
     go Outcome.ends f g = ([], over f, ap (line_for file k) f)
     go (Outcome.gives n []) f g = (Outcome.gives n [] ∷ [], stop f, ap (line_for file k) f ∙ sym (append-nil _))
     go (Outcome.gives n (next ∷ vs)) f g = never (cc)
 lined {file} (more {at = at} {k = k} {next = next} {text = text} e p) = go (read_at file at) refl e (lined p)
   where
-    go : (o : Outcome) → read_at file at ≡ o → on_from o ≡ next ∷ [] → Lined file next (k + 1) text
+    go : (o : Outcome) → read_at file at ≡ o → on_from o ≡ Some next → Lined file next (k + 1) text
         → Lined file at k (line_for file k (read_at file at) ++ text)
     go Outcome.ends f g r = never (cc)
     go (Outcome.gives n []) f g r = never (cc)

@@ -4,14 +4,13 @@
 --   line_by      the line of a number with the values that reading gave;  line_for  of what reading gave
 --   lines_from   the lines of what reading gave, one after the other; the first has the number k
 --   LinesOf     a text is the lines of a file
---   on_from      the place to go on, or nothing, of what reading gave;  told_next  of the code's answer
---   Turned      what a turn leaves: the line at the front of the lent text, and all else there as it was
+--   on_from      the place to go on, or nothing, of what reading gave
+--   Turned      what a turn gives: the line, and the place to go on
 --   TurnedBy    the same of what was read, wherever it stands: at every place of a file that gives it with these bytes
 --   Ahead       a number lies behind what was read, wherever that stands in a file of at most 65,536 bytes
 --   Prints      from a place on these lines are printed, turn by turn
 -- Assumes nothing.
-use Rattle.std.specs.Prelude.{◌≡◌, List, [], ◌∷◌, ◌++◌, ℕ, ◌+◌, ◌≤◌, length}
-use Rattle.slices.specs.Lists.{pasted}
+use Rattle.std.specs.Prelude.{◌≡◌, List, [], ◌∷◌, ◌++◌, ℕ, ◌+◌, ◌≤◌, length, Option, Some, None}
 use Rattle.field.specs.Field.{roots_at}
 use Rattle.table_rules.specs.Demand.{steps_at}
 use Rattle.job_records.specs.Layout.{head_length, words, part}
@@ -20,8 +19,6 @@ use Rattle.job_records.specs.Reading.{Outcome, told_read, read_at, bytes_of}
 use Rattle.job_records.specs.Files.{Reads}
 use Rattle.job_records.specs.declared.Read.{Read}
 use Rattle.job_text.specs.Lines.{line_of}
-use Rattle.job_lines.specs.declared.Next.{Next}
-use Rattle.job_lines.specs.declared.Next.TheVariants.{Over, On}
 use Rattle.job_lines.specs.declared.Turn.{Turn}
 
 abbrev pub turned_line : ℕ → ℕ → List ℕ
@@ -55,30 +52,25 @@ pub record LinesOf (file text : List ℕ) : Type 0 where
 
 -- ---- turn by turn
 
-abbrev pub on_from : Outcome → List ℕ
-on_from Outcome.ends = []
-on_from (Outcome.gives number []) = []
-on_from (Outcome.gives number (next ∷ values)) = next ∷ []
+abbrev pub on_from : Outcome → Option ℕ
+on_from Outcome.ends = None
+on_from (Outcome.gives number []) = None
+on_from (Outcome.gives number (next ∷ values)) = Some next
 
-abbrev pub told_next : Next → List ℕ
-told_next Over = []
-told_next (On next) = next ∷ []
+pub record Turned (file : List ℕ) (at k : ℕ) (r : Turn) : Type 0 where
+  pub bytes : r.text ≡ line_for file k (read_at file at)
+  pub goes : r.next ≡ on_from (read_at file at)
 
-pub record Turned (file : List ℕ) (at k : ℕ) (old : List ℕ) (r : Turn) (new : List ℕ) : Type 0 where
-  pub ended : r.len ≡ length (line_for file k (read_at file at))
-  pub bytes : new ≡ pasted 0 (line_for file k (read_at file at)) old
-  pub goes : told_next r.next ≡ on_from (read_at file at)
-
-abbrev pub TurnedBy : Read → List ℕ → ℕ → List ℕ → Turn → List ℕ → Type 0
-TurnedBy read bytes k old r new = (file : List ℕ) (at : ℕ) → told_read read ≡ read_at file at → bytes ≡ bytes_of file read
-    → Turned file at k old r new
+abbrev pub TurnedBy : Read → List ℕ → ℕ → Turn → Type 0
+TurnedBy read bytes k r = (file : List ℕ) (at : ℕ) → told_read read ≡ read_at file at → bytes ≡ bytes_of file read
+    → Turned file at k r
 
 abbrev pub Ahead : Read → List ℕ → ℕ → Type 0
 Ahead read bytes n = (file : List ℕ) (at : ℕ) → told_read read ≡ read_at file at → bytes ≡ bytes_of file read
     → length file ≤ 65536 → at ≤ length file → at + head_length ≤ n
 
 pub data Prints (file : List ℕ) : ℕ → ℕ → List ℕ → Type 0 where
-  last : {at k : ℕ} → on_from (read_at file at) ≡ [] → Prints file at k (line_for file k (read_at file at))
-  more : {at k next : ℕ} {text : List ℕ} → on_from (read_at file at) ≡ next ∷ []
+  last : {at k : ℕ} → on_from (read_at file at) ≡ None → Prints file at k (line_for file k (read_at file at))
+  more : {at k next : ℕ} {text : List ℕ} → on_from (read_at file at) ≡ Some next
       → Prints file next (k + 1) text
       → Prints file at k (line_for file k (read_at file at) ++ text)

@@ -2,75 +2,74 @@
 // where reading goes on.
 #![tactic(auto)]
 
-ghost use Rattle.std.specs.Prelude.{◌≤◌, length};
+ghost use Rattle.std.specs.Prelude.{◌≡◌};
 ghost use Rattle.refusals.specs.Numbers.{number_of};
 ghost use Rattle.job_records.specs.Layout.{words};
 ghost use Rattle.job_records.specs.Reading.{Stands};
-ghost use Rattle.job_text.specs.Lines.{Wrote, longest_line};
 ghost use Rattle.job_solve.specs.Solving.{cutoff_of, Accepted};
 ghost use Rattle.job_lines.specs.Printing.{turned_line, solved_line, TurnedBy};
 
+use arrayvec::ArrayString;
 use input::LIMIT;
 use job_records::{Job, Read};
 use job_solve::solve_job;
-use job_text::line;
+use job_text::{LINE, line};
 use refusals::Refusal;
+use std::marker::Model;
 
-// Reading is over, or it goes on at a place.
-#[derive(Drop)]
-pub enum Next {
-    Over,
-    On(usize),
-}
-
-// The length of a record's line, 0 where there is none, and what follows.
+// A record's line, empty where there is none, and the place where reading goes on; none where it is over.
 #[derive(Drop)]
 pub struct Turn {
-    pub len: usize,
-    pub next: Next,
+    pub line: ArrayString<LINE>,
+    pub next: Option<usize>,
 }
 
-// The line of a refused record, to the front of out; its length.
-fn turned_line(k: u32, refusal: Refusal, out: &mut [u8]) -> usize
-    requires { longest_line ≤ length out.old }
-    ensures { Wrote (turned_line k (number_of refusal)) 0 out.old result out.new }
+impl Model for Turn {
+    ghost use Rattle.job_lines.specs.Turn.{Turn as Seen};
+
+    ghost Value = { Seen };
+
+    ghost view = { λ t. record { text = t.line.bytes; next = t.next } };
+}
+
+// The line of a refused record.
+fn turned_line(k: u32, refusal: Refusal) -> ArrayString<LINE>
+    ensures { result.bytes ≡ turned_line k (number_of refusal) }
 {
-    let none = [0u16; 1];
-    line(k, refusals::number(refusal), 0, 0, &none, out)
+    line(k, u16::from(refusal), 0, &[])
 }
 
-// The line of an accepted record, to the front of out; its length.
-fn solved_line(k: u32, job: Job, bytes: &[u8], out: &mut [u8]) -> usize
-    requires { Accepted job (words bytes.now) × (longest_line ≤ length out.old) }
-    ensures { Wrote (solved_line k job.m (cutoff_of job) (words bytes.now))
-        0 out.old result out.new }
+// The line of an accepted record.
+fn solved_line(k: u32, job: Job, bytes: &[u8]) -> ArrayString<LINE>
+    requires { Accepted job (words bytes.now) }
+    ensures { result.bytes ≡ solved_line k job.m (cutoff_of job) (words bytes.now) }
 {
     let mut roots = [0u16; LIMIT];
-    let done = solve_job(job, bytes, &mut roots);
-    line(k, 0, done.s, done.steps, &roots, out)
+    let solved = solve_job(job, bytes, &mut roots);
+    line(k, 0, solved.steps, &roots[..solved.s as usize])
 }
 
-// The line of what was read, with its coefficient bytes, to the front of out, and where reading goes on.
-pub fn take_turn(read: Read, bytes: &[u8], k: u32, out: &mut [u8]) -> Turn
-    requires { (longest_line ≤ length out.old) × Stands read bytes.now }
-    ensures { TurnedBy read bytes.now k out.old result out.new }
+// The line of what was read, with its coefficient bytes, and where reading goes on.
+pub fn take_turn(read: Read, bytes: &[u8], k: u32) -> Turn
+    requires { Stands read bytes.now }
+    ensures { TurnedBy read bytes.now k result }
 {
     match read {
         Read::End => Turn {
-            len: 0,
-            next: Next::Over,
+            line: ArrayString::new(),
+            next: None,
         },
         Read::Stopped(refusal) => Turn {
-            len: turned_line(k, refusal, out),
-            next: Next::Over, // after 11 and 12
+            line: turned_line(k, refusal),
+            next: None, // after 11 and 12
         },
         Read::Refused { refusal, next } => Turn {
-            len: turned_line(k, refusal, out),
-            next: Next::On(next), // after 1 to 6
+            line: turned_line(k, refusal),
+            next: Some(next), // after 1 to 6
         },
         Read::Record(job) => Turn {
-            len: solved_line(k, job, bytes, out),
-            next: Next::On(job.next),
+            line: solved_line(k, job, bytes),
+            next: Some(job.next),
         },
     }
 }

@@ -10,7 +10,7 @@
 use mathlib.Core.Path.{◌≡◌, refl, sym, ap, ap₂, ◌∙◌}
 use mathlib.Core.Bool.{Bool, true, false, cond, ◌&&◌, true≢false}
 use mathlib.Core.List.{List, [], ◌∷◌, ◌++◌, map, append_assoc}
-use mathlib.Core.Option.{Option, none, some}
+use Rattle.std.specs.Prelude.{Option, Some, None}
 use Prim.Native.Nat.{ℕ, suc, ◌+◌, ◌-◌, ◌*◌, ◌/◌, ◌%◌, ◌≤◌, ◌<◌}
 use native.Mathlib.Nat.{div-add-mod'}
 use native.Mathlib.Omega.{arith}
@@ -24,7 +24,8 @@ use Rattle.job_text.proofs.Digits.{DigitBytes, by-tenths, decimal-digits}
 use Rattle.job_text.proofs.Digits.DigitBytes.{one}
 use Rattle.input.specs.Limit.{limit}
 use Rattle.job_writer.specs.Calls.{Writes}
-use Rattle.job_writer.specs.declared.Written.{Written}
+use Rattle.std.specs.Prelude.{Result}
+use Rattle.refusals.specs.declared.Refusal.{Refusal}
 use Rattle.job_lists.specs.Calls.{Lists}
 use Rattle.job_lists.specs.Calls.Lists.{asks}
 use Rattle.job_lists.specs.declared.Listed.TheVariants.{Answer}
@@ -38,25 +39,25 @@ digit-is d h =
 
 -- a digit makes the word longer
 digit-on : (w : Option ℕ) (d n : ℕ) (rest : List ℕ) → d < 10 → so_far w * 10 + d ≡ n
-    → numbers_from w (digit_byte d ∷ rest) ≡ numbers_from (some n) rest
+    → numbers_from w (digit_byte d ∷ rest) ≡ numbers_from (Some n) rest
 unfolding numbers_from
 digit-on w d n rest h e =
     let z : so_far w * 10 + (digit_byte d - digit_byte 0) ≡ n = omega arith in
-    rw (digit-is d h) (ap (λ k. numbers_from (some k) rest) z)
+    rw (digit-is d h) (ap (λ k. numbers_from (Some k) rest) z)
 
-word_back : (x : ℕ) (rest : List ℕ) → numbers_from none (decimal x ++ rest) ≡ numbers_from (some x) rest
-word_back = by-tenths (λ x l. (rest : List ℕ) → numbers_from none (l ++ rest) ≡ numbers_from (some x) rest)
-    (λ x h rest. digit-on none x x rest h (omega arith))
-    (λ x h p rest. ap (numbers_from none) (append_assoc (decimal (x / 10)) (digit_byte (x % 10) ∷ []) rest)
-    ∙ p (digit_byte (x % 10) ∷ rest) ∙ digit-on (some (x / 10)) (x % 10) x rest (omega arith) (div-add-mod' x 10))
+word_back : (x : ℕ) (rest : List ℕ) → numbers_from None (decimal x ++ rest) ≡ numbers_from (Some x) rest
+word_back = by-tenths (λ x l. (rest : List ℕ) → numbers_from None (l ++ rest) ≡ numbers_from (Some x) rest)
+    (λ x h rest. digit-on None x x rest h (omega arith))
+    (λ x h p rest. ap (numbers_from None) (append_assoc (decimal (x / 10)) (digit_byte (x % 10) ∷ []) rest)
+    ∙ p (digit_byte (x % 10) ∷ rest) ∙ digit-on (Some (x / 10)) (x % 10) x rest (omega arith) (div-add-mod' x 10))
 
 -- behind a number that stands open
-spaced-back : (x : ℕ) (xs : List ℕ) → numbers_from (some x) (spaced xs) ≡ map capped (x ∷ xs)
+spaced-back : (x : ℕ) (xs : List ℕ) → numbers_from (Some x) (spaced xs) ≡ map capped (x ∷ xs)
 unfolding is_digit numbers_from spaced
 spaced-back x [] = refl
 spaced-back x (y ∷ ys) = ap (λ l. capped x ∷ l) (word_back y (spaced ys) ∙ spaced-back y ys)
 
-pub words_back : (x : ℕ) (xs : List ℕ) → numbers_from none (decimal x ++ spaced xs) ≡ map capped (x ∷ xs)
+pub words_back : (x : ℕ) (xs : List ℕ) → numbers_from None (decimal x ++ spaced xs) ≡ map capped (x ∷ xs)
 words_back x xs = word_back x (spaced xs) ∙ spaced-back x xs
 
 -- ---- legible
@@ -93,7 +94,7 @@ numbers-back : (x : ℕ) (xs : List ℕ) → Below (suc highest_number) (x ∷ x
 numbers-back x xs b h =
     ap (take most_numbers) (words_back x xs ∙ capped-back (x ∷ xs) b) ∙ take_all most_numbers (x ∷ xs) h
 
-pub job-back : (m c : ℕ) (roots : List ℕ) {room : List ℕ} {r : Written} {after : List ℕ} → Below (suc highest_number) (m ∷ c ∷ roots)
+pub job-back : (m c : ℕ) (roots : List ℕ) {room : List ℕ} {r : Result ℕ Refusal} {after : List ℕ} → Below (suc highest_number) (m ∷ c ∷ roots)
     → length roots ≤ suc limit → Writes m c roots room r after → Lists (decimal m ++ spaced (c ∷ roots)) room (Answer r) after
 job-back m c roots b h w = asks (legible-back m (c ∷ roots)) (numbers-back m (c ∷ roots) b (omega arith)) w
 

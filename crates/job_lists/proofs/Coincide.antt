@@ -8,7 +8,8 @@ use mathlib.Core.List.{List, ◌∷◌}
 use Prim.Native.Nat.{ℕ}
 use Rattle.job_records.proofs.Forward.{never}
 use Rattle.job_writer.specs.Calls.{Writes}
-use Rattle.job_writer.specs.declared.Written.{Written}
+use Rattle.std.specs.Prelude.{Result}
+use Rattle.refusals.specs.declared.Refusal.{Refusal}
 use Rattle.job_writer.proofs.Coincide.{write-coincide}
 use Rattle.job_lists.specs.Lines.{legible}
 use Rattle.job_lists.specs.Calls.{Lists, ListsAt}
@@ -22,7 +23,7 @@ torn : {A : Type 0} (line : List ℕ) → legible line ≡ true → legible line
 torn line t f = absurd (true≢false (sym t ∙ f))
 
 -- two answers of the writer to the same numbers
-same_numbers : {m c m' c' : ℕ} {roots roots' : List ℕ} (room : List ℕ) {x y : List ℕ} {r s : Written}
+same_numbers : {m c m' c' : ℕ} {roots roots' : List ℕ} (room : List ℕ) {x y : List ℕ} {r s : Result ℕ Refusal}
     → m ∷ c ∷ roots ≡ m' ∷ c' ∷ roots'
     → Writes m c roots room r x → Writes m' c' roots' room s y → (Answer r ≡ Answer s) × (x ≡ y)
 same_numbers {m} {c} {m'} {c'} {roots} {roots'} room {x} {y} {r} {s} e p q =

@@ -6,7 +6,8 @@
 -- Assumes nothing.
 use Rattle.std.specs.Prelude.{◌≡◌, Bool, true, false, List, [], ◌∷◌, ℕ}
 use Rattle.job_writer.specs.Calls.{Writes}
-use Rattle.job_writer.specs.declared.Written.{Written}
+use Rattle.std.specs.Prelude.{Result}
+use Rattle.refusals.specs.declared.Refusal.{Refusal}
 use Rattle.job_lists.specs.Lines.{line_end, line_at, ends_whole, legible, numbers_of}
 use Rattle.job_lists.specs.declared.Listed.{Listed}
 use Rattle.job_lists.specs.declared.Listed.TheVariants.{Blank, Illegible, CutOff, Answer}
@@ -15,7 +16,7 @@ pub data Lists (line room : List ℕ) : Listed → List ℕ → Type 0 where
   illegible : legible line ≡ false → Lists line room Illegible room
   blank : legible line ≡ true → numbers_of line ≡ [] → Lists line room Blank room
   alone : {m : ℕ} → legible line ≡ true → numbers_of line ≡ m ∷ [] → Lists line room Illegible room
-  asks : {m c : ℕ} {roots : List ℕ} {r : Written} {after : List ℕ} → legible line ≡ true
+  asks : {m c : ℕ} {roots : List ℕ} {r : Result ℕ Refusal} {after : List ℕ} → legible line ≡ true
       → numbers_of line ≡ m ∷ c ∷ roots → Writes m c roots room r after → Lists line room (Answer r) after
 
 pub data ListsAt (text : List ℕ) (at : ℕ) (ended : Bool) (room : List ℕ) : Listed → List ℕ → Type 0 where

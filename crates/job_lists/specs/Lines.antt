@@ -15,7 +15,7 @@
 --   numbers_of      THE NUMBERS OF A LINE
 -- Assumes nothing.
 use Rattle.std.specs.Prelude.{Bool, true, cond, ◌&&◌, ◌||◌, List, [], ◌∷◌, ◌++◌, ℕ, suc, ◌+◌, ◌-◌, ◌*◌, eqb, ltb, leb, length, take, drop}
-use Rattle.std.proofs.Math.Option.{Option, none, some}
+use Rattle.std.specs.Prelude.{Option, Some, None}
 use Rattle.job_text.specs.Lines.{digit_byte, space, line_feed}
 use Rattle.input.specs.Limit.{limit}
 
@@ -60,24 +60,24 @@ unfoldable pub capped : ℕ → ℕ
 capped n = cond (ltb n highest_number) n highest_number
 
 abbrev pub so_far : Option ℕ → ℕ
-so_far none = 0
-so_far (some n) = n
+so_far None = 0
+so_far (Some n) = n
 
 abbrev pub longer : Option ℕ → ℕ → Option ℕ
-longer w b = some (so_far w * 10 + (b - digit_byte 0))
+longer w b = Some (so_far w * 10 + (b - digit_byte 0))
 
 abbrev pub word_numbers : Option ℕ → List ℕ
-word_numbers none = []
-word_numbers (some n) = capped n ∷ []
+word_numbers None = []
+word_numbers (Some n) = capped n ∷ []
 
 -- a digit makes the word longer; a byte that is none ends it
 unfoldable pub numbers_from : Option ℕ → List ℕ → List ℕ
 numbers_from w [] = word_numbers w
-numbers_from w (b ∷ bs) = cond (is_digit b) (numbers_from (longer w b) bs) (word_numbers w ++ numbers_from none bs)
+numbers_from w (b ∷ bs) = cond (is_digit b) (numbers_from (longer w b) bs) (word_numbers w ++ numbers_from None bs)
 
 abbrev pub most_numbers : ℕ
 most_numbers = 3 + limit
 
 -- what stands behind the last of them does not count
 abbrev pub numbers_of : List ℕ → List ℕ
-numbers_of line = take most_numbers (numbers_from none line)
+numbers_of line = take most_numbers (numbers_from None line)

@@ -5,23 +5,22 @@ ghost use Rattle.std.specs.Prelude.{◌≡◌, ◌≤◌, length};
 ghost use Rattle.job_lists.specs.Lines.{line_end, ends_whole};
 ghost use Rattle.job_lists.specs.Calls.{Lists, ListsAt};
 
-use job_writer::Written;
-use words::MOST_NUMBERS;
+use refusals::Refusal;
 
 pub mod words; // the numbers of a line
 
 // What a line asks for: nothing, nothing that can be read, or a record, with what the writer answers. A line that is
 // cut off asks for nothing.
-#[derive(Drop)]
+#[derive(Clone, Copy)]
 pub enum Listed {
     Blank,
     Illegible,
     CutOff,
-    Answer(Written),
+    Answer(Result<u16, Refusal>),
 }
 
 // The line at a place: what it asks for, and where it ends.
-#[derive(Drop)]
+#[derive(Clone, Copy)]
 pub struct TakenLine {
     pub listed: Listed,
     pub end: usize,
@@ -31,24 +30,14 @@ pub struct TakenLine {
 fn line_end(text: &[u8], at: usize) -> usize
     ensures { result ≡ line_end text.now at }
 {
-    let mut end = at;
-    while end < text.len() {
-        if text[end] == b'\n' {
-            return end;
-        }
-        end += 1;
-    }
-    end
+    at + text.iter().skip(at).take_while(|b| **b != b'\n').count()
 }
 
 // Is a line whole that ends at a place: does a line feed end it, or the end of the input?
 fn is_whole(text: &[u8], end: usize, ended: bool) -> bool
     ensures { result ≡ ends_whole text.now end ended }
 {
-    if ended {
-        return true;
-    }
-    end < text.len()
+    ended || end < text.len()
 }
 
 // Writes the record that a line asks for to the front of the room.
@@ -58,15 +47,12 @@ fn line_record(line: &[u8], room: &mut [u8]) -> Listed
     if !words::legible(line) {
         return Listed::Illegible;
     }
-    let mut list = [0u16; MOST_NUMBERS];
-    let n = words::numbers(line, &mut list);
-    if n == 0 {
-        return Listed::Blank;
+    let list = words::numbers(line);
+    match list.as_slice() {
+        [] => Listed::Blank,
+        [_] => Listed::Illegible,
+        [m, cutoff, roots @ ..] => { Listed::Answer(job_writer::write(*m, *cutoff, roots, room)) }
     }
-    if n == 1 {
-        return Listed::Illegible;
-    }
-    Listed::Answer(job_writer::write(list[0], list[1], &list[2..n], room))
 }
 
 // Writes the record that the line at a place asks for to the front of the room; none where the line is cut off. Where

@@ -14,8 +14,7 @@ use Rattle.job_records.specs.Reading.{Outcome, told_read, ReadsAt, Spelled}
 use Rattle.job_records.specs.Files.{Halts}
 use Rattle.job_records.specs.Files.Halts.{over, stop, on}
 use Rattle.job_records.specs.declared.Stop.{Stop}
-use Rattle.job_records.specs.declared.Ending.{Ending}
-use Rattle.job_records.specs.declared.Ending.TheVariants.{Halted}
+use Rattle.std.specs.Prelude.{⊤, Result, Err}
 use Rattle.refusals.specs.declared.Refusal.{Refusal}
 use Rattle.job_records.proofs.Forward.{never}
 use Rattle.job_records.proofs.Cutoffs.{cutoff_from, cutoff-back}
@@ -57,7 +56,7 @@ unfolding stop_of
 same_stop s t a b c =
     let e : stop_of s.record_number s.at s.refusal ≡ stop_of t.record_number t.at t.refusal = cc in e
 
-pub halts-once : {file : List ℕ} {at k : ℕ} {r s : Ending} → Halts file at k r → Halts file at k s → r ≡ s
+pub halts-once : {file : List ℕ} {at k : ℕ} {r s : Result ⊤ Stop} → Halts file at k r → Halts file at k s → r ≡ s
 halts-once (over e) (over f) = refl
 halts-once (over e) (stop f a n) = never (cc)
 halts-once (over e) (on f h) = never (cc)
@@ -67,7 +66,7 @@ halts-once (on e h) (over f) = never (cc)
 halts-once (on e h) (stop f a n) = never (cc)
 halts-once (stop {s = s} e a n) (stop {s = t} f b m) =
     let r : Stopped s.refusal ≡ Stopped t.refusal = read_told _ _ (sym e ∙ f) in
-    ap Halted (same_stop s t (n ∙ sym m) (a ∙ sym b) (cc))
+    ap Err (same_stop s t (n ∙ sym m) (a ∙ sym b) (cc))
 halts-once {file} {k = k} {s = s} (on {next = i} e h) (on {next = j} f g) =
     let same : j ≡ i = cc in
     halts-once h (subst (λ (p : ℕ). Halts file p (k + 1) s) same g)

@@ -9,24 +9,23 @@ use Prim.Native.Nat.{ℕ}
 use borrow.Author.Tests.{eqb-true, eqb-false}
 use lib.Dec.{eqb}
 use Rattle.job_records.specs.Cutoffs.{stated_cutoff, stated_by, asked}
-use Rattle.job_records.specs.declared.Cutoff.{Cutoff}
-use Rattle.job_records.specs.declared.Cutoff.TheVariants.{House, Stated}
+use Rattle.std.specs.Prelude.{Option, Some, None}
 use Rattle.job_records.proofs.Forward.{never}
 
 -- by whether the byte is 0
-told : (c : ℕ) (cutoff : Cutoff) (b : Bool) → eqb c 0 ≡ b → stated_by cutoff ≡ cond b [] (c ∷ [])
-    → cutoff ≡ Stated 0 → ⊥
-told c House true e f s = never (cc)
-told c House false e f s = never (cc)
-told c (Stated n) true e f s = never (cc)
-told c (Stated n) false e f s =
+told : (c : ℕ) (cutoff : Option ℕ) (b : Bool) → eqb c 0 ≡ b → stated_by cutoff ≡ cond b [] (c ∷ [])
+    → cutoff ≡ Some 0 → ⊥
+told c None true e f s = never (cc)
+told c None false e f s = never (cc)
+told c (Some n) true e f s = never (cc)
+told c (Some n) false e f s =
     let same : n ≡ c = cc in
     eqb-false c 0 e (sym same ∙ zero s)
   where
-    zero : Stated n ≡ Stated 0 → n ≡ 0
+    zero : Some n ≡ Some 0 → n ≡ 0
     zero s = cc
 
-pub never-zero : (c : ℕ) (cutoff : Cutoff) → stated_by cutoff ≡ stated_cutoff c → cutoff ≡ Stated 0 → ⊥
+pub never-zero : (c : ℕ) (cutoff : Option ℕ) → stated_by cutoff ≡ stated_cutoff c → cutoff ≡ Some 0 → ⊥
 never-zero c cutoff e = told c cutoff (eqb c 0) refl e
 
 pub asked-stated : (c : ℕ) → asked (stated_cutoff c) ≡ c
@@ -37,11 +36,11 @@ asked-stated c = go (eqb c 0) refl
     go false e = refl
 
 -- the cutoff that is stated by nothing, or by a number
-unfoldable pub cutoff_from : List ℕ → Cutoff
-cutoff_from [] = House
-cutoff_from (c ∷ l) = Stated c
+unfoldable pub cutoff_from : List ℕ → Option ℕ
+cutoff_from [] = None
+cutoff_from (c ∷ l) = Some c
 
-pub cutoff-back : (c : Cutoff) → cutoff_from (stated_by c) ≡ c
+pub cutoff-back : (c : Option ℕ) → cutoff_from (stated_by c) ≡ c
 unfolding cutoff_from
-cutoff-back House = refl
-cutoff-back (Stated c) = refl
+cutoff-back None = refl
+cutoff-back (Some c) = refl

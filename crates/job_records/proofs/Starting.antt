@@ -1,38 +1,50 @@
 -- The tests of the bytes from a place on: which refusal the code's tests show, and that none holds where all fail.
---   start-one, start-low, start-high, start-short   one byte, a wrong byte of the mark, any later shortage
+--   start-one, start-mark, start-short   one byte, no mark, any later shortage
 --   start-whole      a complete record
 --   stops, goes_on   the outcome of each
 -- Assumes nothing.
-use mathlib.Core.Path.{◌≡◌, ap, ap₂}
-use mathlib.Core.Bool.{false, not, ◌&&◌}
+use mathlib.Core.Path.{◌≡◌, refl, sym, ap, ap₂, ◌∙◌}
+use mathlib.Core.Bool.{Bool, true, false, not, ◌&&◌, and-true}
 use mathlib.Core.List.{List, [], ◌∷◌}
 use Prim.Native.Nat.{ℕ, ◌≤◌, ◌<◌}
 use native.Mathlib.Omega.{arith}
-use borrow.Author.Tests.{le-ltb, lt-ltb, eq-eqb, ne_eqb}
-use lib.ListN.{length, get_or}
+use borrow.Author.Tests.{le-ltb, lt-ltb, eq-eqb, ne_eqb, eqb-true, eqb-false}
+use lib.ListN.{length}
 use lib.Dec.{eqb}
+use lib.Pointwise.{pointwise}
+use Rattle.std.specs.List.{starts_with}
 use Rattle.refusals.specs.Order.{Given, Passed}
 use Rattle.refusals.specs.Order.Passed.{none}
 use Rattle.refusals.proofs.Order.{holds, fails, passes, given-decides, passed-decides}
 use Rattle.job_records.specs.Layout.{mark_low, mark_high, marked, record_length}
 use Rattle.job_records.specs.Reading.{Outcome, start_tests, judged, read_here}
 
+-- which of two numbers stands first does not matter
+swapped : (a b : ℕ) → eqb a b ≡ eqb b a
+swapped a b = go (eqb b a) refl
+  where
+    go : (t : Bool) → eqb b a ≡ t → eqb a b ≡ t
+    go true e = eq-eqb a b (sym (eqb-true b a e))
+    go false e = ne_eqb a b (λ f. eqb-false b a e (sym f))
+
+-- a text of two bytes or more begins with the mark where its first two are those of the mark
+mark-read : (r : List ℕ) → 2 ≤ length r → starts_with eqb r (mark_low ∷ mark_high ∷ []) ≡ marked r
+unfolding pointwise
+mark-read [] h = absurd (omega arith)
+mark-read (a ∷ []) h = absurd (omega arith)
+mark-read (a ∷ b ∷ r) h = ap₂ (λ s t. s && t) (swapped mark_low a) (ap (λ t. t && true) (swapped mark_high b) ∙ and-true _)
+
 module _ (r : List ℕ) where
   pub start-one : length r < 2 → Given 12 (start_tests r)
   start-one h = holds (lt-ltb (length r) 2 h)
 
-  pub start-low : 2 ≤ length r → (get_or r 0 0 ≡ mark_low → ⊥) → Given 11 (start_tests r)
-  start-low h n = fails (le-ltb (length r) 2 h) (holds (ap (λ b. not (b && eqb (get_or r 1 0) mark_high)) (ne_eqb (get_or r 0 0) mark_low n)))
+  pub start-mark : 2 ≤ length r → starts_with eqb r (mark_low ∷ mark_high ∷ []) ≡ false → Given 11 (start_tests r)
+  start-mark h e = fails (le-ltb (length r) 2 h) (holds (ap not (sym (mark-read r h) ∙ e)))
 
-  pub start-high : 2 ≤ length r → get_or r 0 0 ≡ mark_low → (get_or r 1 0 ≡ mark_high → ⊥) → Given 11 (start_tests r)
-  start-high h e n =
-      fails (le-ltb (length r) 2 h)
-      (holds (ap₂ (λ b c. not (b && c)) (eq-eqb (get_or r 0 0) mark_low e) (ne_eqb (get_or r 1 0) mark_high n)))
-
-  module _ (h : 2 ≤ length r) (e : get_or r 0 0 ≡ mark_low) (f : get_or r 1 0 ≡ mark_high) where
+  module _ (h : 2 ≤ length r) (e : starts_with eqb r (mark_low ∷ mark_high ∷ []) ≡ true) where
     -- the mark is there
     its-mark : not (marked r) ≡ false
-    its-mark = ap₂ (λ b c. not (b && c)) (eq-eqb (get_or r 0 0) mark_low e) (eq-eqb (get_or r 1 0) mark_high f)
+    its-mark = ap not (sym (mark-read r h) ∙ e)
 
     pub start-short : length r < record_length r → Given 12 (start_tests r)
     start-short s = fails (le-ltb (length r) 2 h) (fails its-mark (holds (lt-ltb (length r) (record_length r) s)))

@@ -25,7 +25,8 @@ use Rattle.job_records.specs.Reading.{Outcome, start_tests, record_tests, judged
 use Rattle.job_records.specs.Files.{Reads, Halts, Complete, joined_file, outcomes_of, AllComplete}
 use Rattle.job_records.specs.Files.Reads.{over, stop, on}
 use Rattle.job_records.specs.Files.Halts.{on as on-halts}
-use Rattle.job_records.specs.declared.Ending.{Ending}
+use Rattle.std.specs.Prelude.{⊤, Result}
+use Rattle.job_records.specs.declared.Stop.{Stop}
 use Rattle.job_records.specs.Files.AllComplete.{none, one}
 use Rattle.job_records.proofs.Starting.{goes_on}
 use Rattle.job_records.proofs.Forward.{never, onward}
@@ -73,7 +74,7 @@ reads-once {file} (on {next = n} {os = os} e q) (on {next = m} {os = ps} f r) =
 
 -- the record of number k stands at the place, and there are no more records than bytes
 pub record HaltsFrom (file : List ℕ) (at k : ℕ) : Type 0 where
-  pub all : {r : Ending} → Halts file at k r → Halts file 0 1 r
+  pub all : {r : Result ⊤ Stop} → Halts file at k r → Halts file 0 1 r
   pub within : at ≤ length file
   pub few : k ≤ at + 1
 

@@ -6,11 +6,9 @@
 --   joined_file   the file that records make
 --   outcomes_of   what complete records give, one after the other, where the first stands at a place
 -- Assumes nothing.
-use Rattle.std.specs.Prelude.{◌≡◌, true, List, [], ◌∷◌, ◌++◌, ℕ, ◌+◌, length}
+use Rattle.std.specs.Prelude.{◌≡◌, true, List, [], ◌∷◌, ◌++◌, ℕ, ◌+◌, length, ⊤, Result, Ok, Err}
 use Rattle.refusals.specs.Numbers.{number_of}
 use Rattle.job_records.specs.declared.Stop.{Stop}
-use Rattle.job_records.specs.declared.Ending.{Ending}
-use Rattle.job_records.specs.declared.Ending.TheVariants.{Whole, Halted}
 use Rattle.job_records.specs.Layout.{marked, record_length}
 use Rattle.job_records.specs.Reading.{Outcome, judged, read_at}
 
@@ -21,11 +19,11 @@ pub data Reads (file : List ℕ) : ℕ → List Outcome → Type 0 where
       → Reads file next os
       → Reads file at (Outcome.gives k (next ∷ values) ∷ os)
 
-pub data Halts (file : List ℕ) : ℕ → ℕ → Ending → Type 0 where
-  over : {at k : ℕ} → read_at file at ≡ Outcome.ends → Halts file at k Whole
+pub data Halts (file : List ℕ) : ℕ → ℕ → Result ⊤ Stop → Type 0 where
+  over : {at k : ℕ} → read_at file at ≡ Outcome.ends → Halts file at k (Ok tt)
   stop : {at k : ℕ} {s : Stop} → read_at file at ≡ Outcome.gives (number_of s.refusal) [] → s.at ≡ at
-      → s.record_number ≡ k → Halts file at k (Halted s)
-  on : {at k number next : ℕ} {values : List ℕ} {r : Ending} → read_at file at ≡ Outcome.gives number (next ∷ values)
+      → s.record_number ≡ k → Halts file at k (Err s)
+  on : {at k number next : ℕ} {values : List ℕ} {r : Result ⊤ Stop} → read_at file at ≡ Outcome.gives number (next ∷ values)
       → Halts file next (k + 1) r → Halts file at k r
 
 pub record Complete (r : List ℕ) : Type 0 where

@@ -18,7 +18,7 @@
 --   answered     the code's answer for a complete record, by what the tests found
 --   Spelled      the words of bytes stand at the front of a room; what is behind them is as it was
 -- Assumes nothing.
-use Rattle.std.specs.Prelude.{Bool, not, List, [], ◌∷◌, ◌≡◌, ℕ, ◌+◌, ◌≤◌, length, drop, ltb}
+use Rattle.std.specs.Prelude.{Bool, not, List, [], ◌∷◌, ◌≡◌, ℕ, ◌+◌, ◌≤◌, length, drop, ltb, ⊤, Option, Result, Ok, Err}
 use Rattle.refusals.specs.Order.{decide}
 use Rattle.refusals.specs.Numbers.{number_of}
 use Rattle.slices.specs.Lists.{copied}
@@ -27,11 +27,9 @@ use Rattle.input.specs.Polynomials.{polynomial_tests}
 use Rattle.job_records.specs.Layout.{head_length, marked, degree_byte, cutoff_byte}
 use Rattle.job_records.specs.Layout.{body_length, record_length, words, part, coefficients}
 use Rattle.job_records.specs.Cutoffs.{stated_cutoff, stated_by}
-use Rattle.job_records.specs.declared.Cutoff.{Cutoff}
 use Rattle.job_records.specs.declared.Read.{Read}
 use Rattle.job_records.specs.declared.Read.TheVariants.{End, Record, Refused, Stopped}
-use Rattle.refusals.specs.declared.Admission.{Admission}
-use Rattle.refusals.specs.declared.Admission.TheVariants.{In, Out}
+use Rattle.refusals.specs.declared.Refusal.{Refusal}
 
 pub data Outcome : Type 0 where
   ends : Outcome
@@ -97,10 +95,10 @@ pub record Stands (r : Read) (bytes : List ℕ) : Type 0 where
   pub read : told_read r ≡ read_at file at
   pub lent : bytes ≡ bytes_of file r
 
-abbrev pub answered : ℕ → ℕ → Cutoff → ℕ → Admission → Read
-answered at m cutoff len In =
+abbrev pub answered : ℕ → ℕ → Option ℕ → ℕ → Result ⊤ Refusal → Read
+answered at m cutoff len (Ok u) =
     Record (record { m = m; cutoff = cutoff; start = at + head_length; len = len; next = at + head_length + len })
-answered at m cutoff len (Out k) = Refused k (at + head_length + len)
+answered at m cutoff len (Err k) = Refused k (at + head_length + len)
 
 pub record Spelled (bytes room : List ℕ) (n : ℕ) (after : List ℕ) : Type 0 where
   pub count : n ≡ length (words bytes)

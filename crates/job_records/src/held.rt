@@ -1,5 +1,4 @@
-// The file's slice and a place in it in one struct, with thin functions over it. Each takes the struct apart and calls
-// what reads a slice. The program `roots` walks with it.
+// The file's slice and a place in it in one struct. The program `roots` walks with it.
 ghost use Rattle.std.specs.Prelude.{◌≡◌};
 ghost use Rattle.job_records.specs.Reading.{told_read, read_at, bytes_of};
 
@@ -12,30 +11,32 @@ pub struct Reader<'a> {
     pub at: usize,
 }
 
-// A reader at a place of a file.
-pub fn new<'a>(file: &'a [u8], at: usize) -> Reader<'a>
-    ensures { (result.file ≡ file.entry) × (result.at ≡ at) }
-{
-    Reader { file, at }
-}
+impl<'a> Reader<'a> {
+    // A reader at a place of a file.
+    pub fn new(file: &'a [u8], at: usize) -> Reader<'a>
+        ensures { (result.file ≡ file.entry) × (result.at ≡ at) }
+    {
+        Reader { file, at }
+    }
 
-// What stands at the reader's place.
-pub fn next<'a>(r: Reader<'a>) -> Read
-    ensures { told_read result ≡ read_at r.entry.file.now r.entry.at }
-{
-    read_record(r.file, r.at)
-}
+    // What stands at the reader's place.
+    pub fn next(self) -> Read
+        ensures { told_read result ≡ read_at self.entry.file.now self.entry.at }
+    {
+        read_record(self.file, self.at)
+    }
 
-// The coefficient bytes of what was read, as that part of the reader's file.
-pub fn bytes<'a>(r: Reader<'a>, read: Read) -> &'a [u8]
-    ensures { result.now ≡ bytes_of r.entry.file.now read }
-{
-    body_of(r.file, read)
-}
+    // The coefficient bytes of what was read, as that part of the reader's file.
+    pub fn bytes(self, read: Read) -> &'a [u8]
+        ensures { result.now ≡ bytes_of self.entry.file.now read }
+    {
+        body_of(self.file, read)
+    }
 
-// The reader at another place of the same file.
-pub fn moved<'a>(r: Reader<'a>, at: usize) -> Reader<'a>
-    ensures { (result.file ≡ r.entry.file) × (result.at ≡ at) }
-{
-    Reader { file: r.file, at }
+    // The reader at another place of the same file.
+    pub fn moved(self, at: usize) -> Reader<'a>
+        ensures { (result.file ≡ self.entry.file) × (result.at ≡ at) }
+    {
+        Reader { at, ..self }
+    }
 }

@@ -11,7 +11,7 @@ ghost use Rattle.job_records.specs.Files.{Halts};
 ghost use Rattle.job_records.specs.Reading.{told_read, answered, bytes_of, read_here, ReadsAt, call_tests, Spelled};
 
 use input::{COEFFICIENTS, admit_call};
-use refusals::{Admission, Refusal};
+use refusals::Refusal;
 
 pub mod held; // a reader that holds the file
 
@@ -21,19 +21,12 @@ pub const MARK: [u8; 2] = [0x4C, 0x52];
 // How many bytes stand before the coefficients: the mark, m, cutoff and n.
 pub const HEAD: usize = 5;
 
-// The cutoff as a record states it.
-#[derive(Clone, Copy)]
-pub enum Cutoff {
-    House,
-    Stated(u8),
-}
-
-// A record that the whole call accepts: its coefficient bytes are `len` bytes of the file from `start` on, and `next`
-// is the place behind it.
+// A record that the whole call accepts: the cutoff that it states, if it states one, its coefficient bytes, which are
+// `len` bytes of the file from `start` on, and the place behind it, `next`.
 #[derive(Clone, Copy)]
 pub struct Job {
     pub m: u8,
-    pub cutoff: Cutoff,
+    pub cutoff: Option<u8>,
     pub start: usize,
     pub len: usize,
     pub next: usize,
@@ -57,39 +50,25 @@ pub struct Stop {
     pub refusal: Refusal,
 }
 
-// How the reading of a file ends: at its end, or it stops.
-#[derive(Drop)]
-pub enum Ending {
-    Whole,
-    Halted(Stop),
-}
-
 // The number that two bytes spell.
 fn word(low: u8, high: u8) -> u16
     ensures { result ≡ word low high }
 {
-    (low as u16) + 256 * (high as u16)
+    u16::from_le_bytes([low, high])
 }
 
-// House default or stated number.
-fn cutoff_of(c: u8) -> Cutoff
+// The cutoff that a record states: 0 states none, and asks for the house default.
+fn cutoff_of(c: u8) -> Option<u8>
     ensures { stated_by result ≡ stated_cutoff c }
 {
-    if c == 0 {
-        Cutoff::House
-    } else {
-        Cutoff::Stated(c)
-    }
+    (c != 0).then_some(c)
 }
 
 // The number of the cutoff that a record asks for: 0 for the house default.
-pub fn asked(cutoff: Cutoff) -> u16
+pub fn asked(cutoff: Option<u8>) -> u16
     ensures { result ≡ asked (stated_by cutoff) }
 {
-    match cutoff {
-        Cutoff::House => 0,
-        Cutoff::Stated(c) => c as u16,
-    }
+    cutoff.unwrap_or(0) as u16
 }
 
 // The largest of the coefficients that the bytes spell; 0 where there are none or too many.
@@ -112,7 +91,7 @@ fn largest(bytes: &[u8]) -> u16
 }
 
 // The whole call's tests 1 to 6 on the fields of a complete record.
-fn admit_record(m: u8, c: u8, n: u8, bytes: &[u8]) -> Admission
+fn admit_record(m: u8, c: u8, n: u8, bytes: &[u8]) -> Result<(), Refusal>
     requires { length bytes.now ≡ 2 * n }
     ensures { Admits (call_tests m c (words bytes.now)) result }
 {
@@ -120,15 +99,15 @@ fn admit_record(m: u8, c: u8, n: u8, bytes: &[u8]) -> Admission
 }
 
 // The answer for a complete record at a place: where it is refused, the place to go on.
-fn answer(at: usize, m: u8, cutoff: Cutoff, len: usize, found: Admission) -> Read
+fn answer(at: usize, m: u8, cutoff: Option<u8>, len: usize, found: Result<(), Refusal>) -> Read
     requires { at + head_length + len < 2 ^ 64 }
     ensures { result ≡ answered at m cutoff len found }
 {
     let start = at + HEAD;
     let next = start + len;
     match found {
-        Admission::Out(refusal) => Read::Refused { refusal, next },
-        Admission::In => Read::Record(Job {
+        Err(refusal) => Read::Refused { refusal, next },
+        Ok(()) => Read::Record(Job {
             m,
             cutoff,
             start,
@@ -146,10 +125,7 @@ fn read_here(at: usize, rest: &[u8]) -> Read
     if rest.len() < 2 {
         return Read::Stopped(Refusal::Short); // one byte remains
     }
-    if rest[0] != MARK[0] {
-        return Read::Stopped(Refusal::Mark);
-    }
-    if rest[1] != MARK[1] {
+    if !rest.starts_with(&MARK) {
         return Read::Stopped(Refusal::Mark);
     }
     if rest.len() < HEAD {
@@ -182,18 +158,18 @@ pub fn read_record(file: &[u8], at: usize) -> Read
     read_here(at, &file[at..])
 }
 
-// How the reading of a file ends.
-pub fn read_through(file: &[u8]) -> Ending
+// How the reading of a file ends: at its end, or it stops.
+pub fn read_through(file: &[u8]) -> Result<(), Stop>
     ensures { Halts file.now 0 1 result }
 {
     let mut at = 0;
     let mut k: u64 = 1;
+    // kept: (d) the next place comes from what was read, so no range or chain counts here
     loop {
-        let read = read_record(file, at);
-        match read {
-            Read::End => return Ending::Whole,
+        match read_record(file, at) {
+            Read::End => return Ok(()),
             Read::Stopped(refusal) => {
-                return Ending::Halted(Stop {
+                return Err(Stop {
                     record_number: k,
                     at,
                     refusal,
@@ -218,13 +194,8 @@ pub fn degree_byte(file: &[u8], at: usize) -> u8
 pub fn body(file: &[u8], start: usize, len: usize) -> &[u8]
     ensures { result.now ≡ part file.now start len }
 {
-    if file.len() <= start {
-        return &file[..0];
-    }
-    if len <= file.len() - start {
-        return &file[start..start + len];
-    }
-    &file[start..]
+    let rest = &file[start.min(file.len())..];
+    &rest[..len.min(rest.len())]
 }
 
 // The coefficient bytes of what was read, as that part of the file; none where no record was accepted.
@@ -233,9 +204,7 @@ pub fn body_of(file: &[u8], read: Read) -> &[u8]
 {
     match read {
         Read::Record(job) => body(file, job.start, job.len),
-        Read::End => &file[..0],
-        Read::Refused { .. } => &file[..0],
-        Read::Stopped(_) => &file[..0],
+        _ => &[],
     }
 }
 

@@ -13,33 +13,33 @@ use borrow.Author.Tests.{ltb-true, ltb-false}
 use lib.Dec.{ltb}
 use lib.ListN.{length, drop}
 use Rattle.refusals.specs.Order.{outcome, memory}
-use Rattle.refusals.proofs.Numbers.{by_number, refused-back}
-use Rattle.refusals.proofs.Told.{way_back, coincide}
+use Rattle.std.specs.Prelude.{Result}
+use Rattle.refusals.specs.Admitting.{told}
+use Rattle.refusals.specs.declared.Refusal.{Refusal}
+use Rattle.refusals.proofs.Told.{told-one, coincide}
 use Rattle.slices.specs.Lists.{copied}
 use Rattle.job_records.specs.Layout.{record_length}
 use Rattle.job_salvage.specs.Pieces.{kept_records, kept_file}
-use Rattle.job_salvage.specs.Calls.{keeps_at, NoneKept, NextIs, salvage_tests, told_salvaged, Salvages}
+use Rattle.job_salvage.specs.Calls.{keeps_at, NoneKept, NextIs, salvage_tests, told_kept, Salvages}
 use Rattle.job_salvage.specs.Calls.NextIs.{found, nothing}
-use Rattle.job_salvage.specs.declared.Salvaged.{Salvaged}
-use Rattle.job_salvage.specs.declared.Salvaged.TheVariants.{Kept, NotSalvaged}
+use Rattle.job_salvage.specs.declared.Kept.{Kept}
 
--- the answer that a number and its values stand for
-salvaged_of : ℕ × List ℕ → Salvaged
-salvaged_of (k, []) = by_number NotSalvaged (Kept 0 0) k
-salvaged_of (k, bytes ∷ []) = Kept 0 0
-salvaged_of (k, bytes ∷ records ∷ more) = Kept records bytes
+-- what the values stand for
+kept_of : List ℕ → Kept
+kept_of [] = record { records = 0; bytes = 0 }
+kept_of (bytes ∷ []) = record { records = 0; bytes = 0 }
+kept_of (bytes ∷ records ∷ more) = record { records = records; bytes = bytes }
 
-salvaged-back : (r : Salvaged) → salvaged_of (told_salvaged r) ≡ r
-unfolding salvaged_of
-salvaged-back (Kept records bytes) = refl
-salvaged-back (NotSalvaged k) = refused-back NotSalvaged (Kept 0 0) k
+kept_back : (k : Kept) → kept_of (told_kept k) ≡ k
+unfolding kept_of
+kept_back k = refl
 
-pub salvaged-told : (r s : Salvaged) → told_salvaged r ≡ told_salvaged s → r ≡ s
-salvaged-told = way_back told_salvaged salvaged_of salvaged-back
+pub salvaged-told : (r s : Result Kept Refusal) → told told_kept r ≡ told told_kept s → r ≡ s
+salvaged-told = told-one told_kept kept_of kept_back
 
-pub salvage-coincide : (file room : List ℕ) (r s : Salvaged) (x y : List ℕ) → Salvages file room r x → Salvages file room s y → (r ≡ s) × (x ≡ y)
+pub salvage-coincide : (file room : List ℕ) (r s : Result Kept Refusal) (x y : List ℕ) → Salvages file room r x → Salvages file room s y → (r ≡ s) × (x ≡ y)
 salvage-coincide file room =
-    coincide told_salvaged salvaged-told (outcome (salvage_tests file room) (length (kept_file file) ∷ length (kept_records file) ∷ []))
+    coincide (told told_kept) salvaged-told (outcome (salvage_tests file room) (length (kept_file file) ∷ length (kept_records file) ∷ []))
     (memory (salvage_tests file room) (copied (kept_file file) room) room)
 
 -- one is kept at a place where none is

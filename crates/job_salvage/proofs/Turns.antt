@@ -1,6 +1,6 @@
 -- The loops of salvage: what holds at each turn.
 --   Seeking    `next_kept`: none is kept from `at` on before the place;  seek-from, seek-on, seek_found, seek-end
---   Keeping    `salvage`: the records before the place are in the room;  keep-from, keep-on, keep-end
+--   Keeping    `salvage`: the records before the place are in the room;  keep-from, keep_one, keep-none, keep-end
 --   told-room, told-kept   the two answers of `salvage`
 -- Assumes nothing.
 use mathlib.Core.Path.{◌≡◌, refl, sym, ap, ap₂, subst, ◌∙◌}
@@ -10,7 +10,8 @@ use mathlib.Core.Logic.{◌⊎◌, inl, inr}
 use Prim.Native.Nat.{ℕ, ◌+◌, ◌-◌, ◌≤◌, ◌<◌}
 use native.Mathlib.Nat.{eq-or-lt_of_le}
 use native.Mathlib.Omega.{arith}
-use borrow.Author.Tests.{lt-ltb, le-ltb}
+use borrow.Author.Tests.{lt-ltb, le-ltb, eqb-true, eqb-false}
+use lib.Dec.{eqb}
 use lib.ListN.{length, drop, length-append, length-drop}
 use lib.Seq.{length-take-le}
 use Rattle.refusals.proofs.Order.{refused, accepted, unwritten, written, holds, passes}
@@ -29,7 +30,7 @@ use Rattle.job_text.proofs.Writing.{wrote_nothing, wrote_then, wrote-long}
 use Rattle.job_salvage.specs.Pieces.{accepts, records_of, kept_records, kept_file}
 use Rattle.job_salvage.specs.Calls.{keeps_at, NoneKept, NextIs, Salvages}
 use Rattle.job_salvage.specs.Calls.NextIs.{found, nothing}
-use Rattle.job_salvage.specs.declared.Salvaged.TheVariants.{Kept, NotSalvaged}
+use Rattle.std.specs.Prelude.{Ok, Err}
 use Rattle.refusals.specs.declared.Refusal.TheVariants.{Room}
 use Rattle.job_salvage.proofs.Keeping.{keeps-anywhere, keeps-told}
 use Rattle.job_salvage.proofs.Pieces.{pieces-over, Gap}
@@ -145,21 +146,23 @@ module _ {file old new : List ℕ} {at records bytes start end : ℕ} (k : Keepi
     all = k.all ∙ ap (λ l. k.front ++ l) (next-records g) ∙ sym (append_assoc k.front (listed these) (kept_records (drop end file)));
   }
 
-  pub keep_one : {bytes' : ℕ} {new' : List ℕ} → start < end → Wrote these bytes new bytes' new' → Keeping file old new' end (records + 1) bytes'
-  keep_one h w = keep-next (omega (arith, listed-some these (omega (arith, these-long)))) (omega (arith, k.few, g.onward)) w
+  pub keep_one : {bytes' : ℕ} {new' : List ℕ} → eqb (length these) 0 ≡ false → Wrote these bytes new bytes' new' → Keeping file old new' end (records + 1) bytes'
+  keep_one h w =
+      let some : 0 < length these = omega (arith, eqb-false (length these) 0 h) in
+      keep-next (omega (arith, listed-some these some)) (omega (arith, k.few, g.onward, g.ahead, these-long)) w
 
-  pub keep-none : {bytes' : ℕ} {new' : List ℕ} → end ≤ start → Wrote these bytes new bytes' new' → Keeping file old new' end records bytes'
-  keep-none h w = keep-next (omega (arith, listed-none these (omega (arith, these-long)))) (omega (arith, k.few, g.onward)) w
+  pub keep-none : {bytes' : ℕ} {new' : List ℕ} → eqb (length these) 0 ≡ true → Wrote these bytes new bytes' new' → Keeping file old new' end records bytes'
+  keep-none h w = keep-next (omega (arith, listed-none these (eqb-true (length these) 0 h))) (omega (arith, k.few, g.onward)) w
 
 -- what is told where the room is long enough
 told-kept : (file old : List ℕ) {new : List ℕ} {records bytes : ℕ} → length file ≤ length old → records ≡ length (kept_records file) → bytes ≡ length (kept_file file)
-    → new ≡ copied (kept_file file) old → Salvages file old (Kept records bytes) new
+    → new ≡ copied (kept_file file) old → Salvages file old (Ok (record { records = records; bytes = bytes })) new
 told-kept file old h n b m =
     let p = passes (le-ltb (length old) (length file) h) none in
     (ap₂ (λ x y. (0, x ∷ y ∷ [])) b n ∙ sym (accepted _ p), m ∙ sym (written _ _ p))
 
 pub keep-end : {file old new : List ℕ} {at records bytes : ℕ} → Keeping file old new at records bytes → length file ≤ at
-    → Salvages file old (Kept records bytes) new
+    → Salvages file old (Ok (record { records = records; bytes = bytes })) new
 unfolding records_of
 keep-end {file} {old} {new} {at} {records} {bytes} k h =
     let all : kept_records file ≡ k.front = k.all ∙ ap (λ ps. k.front ++ records_of ps) (pieces-over file h) ∙ append-nil k.front in
@@ -167,7 +170,7 @@ keep-end {file} {old} {new} {at} {records} {bytes} k h =
     (k.written.bytes ∙ pasted-copied (joined_file k.front) old ∙ ap (λ rs. copied (joined_file rs) old) (sym all))
 
 -- and where it is not
-pub told-room : (file old : List ℕ) → length old < length file → Salvages file old (NotSalvaged Room) old
+pub told-room : (file old : List ℕ) → length old < length file → Salvages file old (Err Room) old
 told-room file old h =
     let g = holds (lt-ltb (length old) (length file) h) in
     (sym (refused _ g), sym (unwritten _ _ g))

@@ -2,68 +2,65 @@
 // there, and else one byte is dropped; behind a kept record it goes on.
 #![tactic(auto)]
 
+ghost use Rattle.std.specs.Prelude.{◌≡◌, length};
 ghost use Rattle.job_salvage.specs.Calls.{NextIs, Salvages};
 
 use job_records::{Read, read_record};
-use job_text::put_bytes;
 use refusals::Refusal;
+use std::ops::Range;
 
 pub mod report; // the lines that the program prints
 
-// What salvage answers: how many records are kept, and how many bytes they are.
-#[derive(Drop)]
-pub enum Salvaged {
-    Kept { records: usize, bytes: usize },
-    NotSalvaged(Refusal),
+// What salvage keeps: how many records, and how many bytes they are.
+#[derive(Clone, Copy)]
+pub struct Kept {
+    pub records: usize,
+    pub bytes: usize,
 }
 
-// Where the next record that is kept starts and ends; both are the end of the file where there is none.
-#[derive(Drop)]
-pub struct NextKept {
-    pub start: usize,
-    pub end: usize,
-}
-
-// The first record that is kept from a place of the file on. What stands between is dropped.
-pub fn next_kept(file: &[u8], at: usize) -> NextKept
+// Where the first record that is kept from a place of the file on stands: at the end of the file, and empty, where
+// there is none. What stands between is dropped.
+pub fn next_kept(file: &[u8], at: usize) -> Range<usize>
     ensures { NextIs file.now at result.start result.end }
 {
-    let mut start = at;
-    while start < file.len() {
-        let read = read_record(file, start);
-        if let Read::Record(job) = read {
-            return NextKept {
-                start,
-                end: job.next,
-            };
+    for start in at..file.len() {
+        if let Read::Record(job) = read_record(file, start) {
+            return start..job.next;
         }
-        start += 1;
     }
-    NextKept {
-        start: file.len(),
-        end: file.len(),
+    file.len()..file.len()
+}
+
+// Writes bytes to the room, which is as long.
+fn store(room: &mut [u8], bytes: &[u8])
+    requires { length bytes.now ≡ length room.old }
+    ensures { room.new ≡ bytes.now }
+{
+    // kept: (a) the loop of slices `store`, which is of u16: `copy_from_slice` asks C for memmove here
+    for i in 0..bytes.len() {
+        room[i] = bytes[i];
     }
 }
 
 // The records of the file that are kept, unaltered and in order, to the front of the room.
-pub fn salvage(file: &[u8], room: &mut [u8]) -> Salvaged
+pub fn salvage(file: &[u8], room: &mut [u8]) -> Result<Kept, Refusal>
     ensures { Salvages file.now room.old result room.new }
 {
     if room.len() < file.len() {
-        return Salvaged::NotSalvaged(Refusal::Room);
+        return Err(Refusal::Room);
     }
     let mut at = 0;
     let mut records = 0;
     let mut bytes = 0;
     while at < file.len() {
         let next = next_kept(file, at);
-        let start = next.start;
-        let end = next.end;
-        bytes = put_bytes(&file[start..end], bytes, room);
-        if start < end {
+        let record = &file[next.start..next.end];
+        store(&mut room[bytes..bytes + record.len()], record);
+        bytes += record.len();
+        if !record.is_empty() {
             records += 1;
         }
-        at = end;
+        at = next.end;
     }
-    Salvaged::Kept { records, bytes }
+    Ok(Kept { records, bytes })
 }

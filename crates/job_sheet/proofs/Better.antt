@@ -1,17 +1,17 @@
 -- The higher of two records against their limits, and the highest of many, one list of entries behind the other.
---   Fair             a peak without a limit has no steps;  highest-fair  so is the highest of every list
+--   Limited          a record has a limit;  highest-limited  so has the highest of every list
 --   product-fits     a product of steps and a limit fits
 --   lower-trans      s/l < t/k and t/k < u/j give s/l < u/j, by products;  least-trans  so with ≤
---   better-left, better-right   a record and none: the record;  better-fair  the better of two fair ones is fair
---   better-first, better-second   the first where it does not stand lower, and the second where it does
+--   higher-first, higher-second   the first where it does not stand lower, and the second where it does
+--   better-none      with none behind it, the highest stays
 --   better-assoc     OF THREE IT DOES NOT MATTER WHICH TWO ARE COMPARED FIRST
 --   competes-limit   who competes has a limit
---   highest-none     a highest without a limit is none
 --   highest-append   THE HIGHEST OF TWO LISTS is the better of the highest of each
 -- Assumes nothing.
-use Rattle.std.proofs.Common.{◌≡◌, ℕ, zero, suc, ◌+◌, ◌*◌, ◌^◌, ◌<◌, ◌≤◌, Bool, true, false, cond, not, ◌&&◌, eqb, List, [], ◌∷◌, ◌++◌, length, sym, refl, ap, ◌∙◌, true≢false, add-zero, mul-le-mul_right, mul-le-mul, lt_of_mul-lt-mul_right, mul-lt-mul_of_pos_right, zero-mul, mul_right_comm, le_of_mul-le-mul_right, arith, ltb-false, ltb-true, le-ltb, lt-ltb, eq-eqb, ne_eqb}
+use Rattle.std.proofs.Common.{◌≡◌, ℕ, zero, suc, ◌+◌, ◌*◌, ◌^◌, ◌<◌, ◌≤◌, Bool, true, false, cond, not, ◌&&◌, eqb, List, [], ◌∷◌, ◌++◌, length, sym, refl, ap, ◌∙◌, true≢false, add-zero, mul-le-mul_right, mul-le-mul, lt_of_mul-lt-mul_right, mul-lt-mul_of_pos_right, mul_right_comm, le_of_mul-le-mul_right, arith, ltb-false, ltb-true, le-ltb, lt-ltb}
+use Rattle.std.specs.Prelude.{⊤, Option, Some, None}
 use Rattle.job_sheet.specs.Entries.{Entry}
-use Rattle.job_sheet.specs.Figures.{Peak, no_peak, peak_of, competes, stands_lower, better, highest_from}
+use Rattle.job_sheet.specs.Figures.{Peak, peak_of, competes, stands_lower, higher, better, highest_from}
 
 -- ---- fractions by products
 
@@ -40,67 +40,53 @@ least-trans s l t k u j h a b =
 
 -- ---- the higher of two
 
--- limit 0 is that of no record
-unfoldable pub Fair : Peak → Type 0
-Fair p = p.limit ≡ 0 → p.steps ≡ 0
+pub higher-second : (p q : Peak) → stands_lower p q ≡ true → higher p q ≡ q
+higher-second p q e = rw e
 
-pub better-left : (p q : Peak) → p.limit ≡ 0 → better p q ≡ q
-unfolding better
-better-left p q e = rw (eq-eqb p.limit 0 e)
+pub higher-first : (p q : Peak) → stands_lower p q ≡ false → higher p q ≡ p
+higher-first p q e = rw e
 
-pub better-second : (p q : Peak) → stands_lower p q ≡ true → better p q ≡ q
+-- one that competes has a limit
+unfoldable pub Limited : Option Peak → Type 0
+Limited None = ⊤
+Limited (Some p) = 0 < p.limit
+
+-- with none behind it, the highest stays
+pub better-none : (p : Option Peak) → better p None ≡ p
 unfolding better
-better-second p q e = go (eqb p.limit 0)
+better-none None = refl
+better-none (Some p) = refl
+
+better-limited : (p : Peak) (q : Option Peak) → 0 < p.limit → Limited q → Limited (better (Some p) q)
+unfolding better Limited
+better-limited p None h l = h
+better-limited p (Some q) h l = go (stands_lower p q)
   where
-    go : (b : Bool) → cond b q (cond (stands_lower p q) q p) ≡ q
-    go true = refl
-    go false = rw e
+    go : (b : Bool) → 0 < (cond b q p).limit
+    go true = l
+    go false = h
 
-pub better-first : (p q : Peak) → 0 < p.limit → stands_lower p q ≡ false → better p q ≡ p
-unfolding better
-better-first p q h e = rw (ne_eqb p.limit 0 (λ z. omega arith), e)
-
--- with none behind it, a record stays
-pub better-right : (p q : Peak) → Fair q → 0 < p.limit → q.limit ≡ 0 → better p q ≡ p
-unfolding Fair
-better-right p q f h e =
-    let z : q.steps ≡ 0 = f e in
-    let a : q.steps * p.limit ≡ 0 = rw z (zero-mul p.limit) in
-    better-first p q h (le-ltb (p.steps * q.limit) (q.steps * p.limit) (omega (arith, a)))
-
-better-fair : (p q : Peak) → Fair p → Fair q → Fair (better p q)
-unfolding better Fair
-better-fair p q f g = go (eqb p.limit 0) (stands_lower p q)
-  where
-    go : (a b : Bool) → Fair (cond a q (cond b q p))
-    go true b = g
-    go false true = g
-    go false false = f
-
-module _ (p h q : Peak) (fh : Fair h) (fq : Fair q) where
-  -- all three have a limit
-  three : 0 < p.limit → 0 < h.limit → (a b : Bool) → stands_lower p h ≡ a → stands_lower h q ≡ b
-      → better p (better h q) ≡ better (better p h) q
-  three lp lh true true e f =
+module _ (p h q : Peak) (lp : 0 < p.limit) (lh : 0 < h.limit) where
+  three : (a b : Bool) → stands_lower p h ≡ a → stands_lower h q ≡ b → higher p (higher h q) ≡ higher (higher p h) q
+  three true true e f =
       let below : stands_lower p q ≡ true =
       lt-ltb _ _
       (lower-trans p.steps p.limit h.steps h.limit q.steps q.limit lp (ltb-true _ _ e) (ltb-true _ _ f)) in
-      rw (better-second h q f, better-second p h e, better-second h q f, better-second p q below)
-  three lp lh true false e f = rw (better-first h q lh f, better-second p h e, better-first h q lh f)
-  three lp lh false true e f = rw (better-second h q f, better-first p h lp e)
-  three lp lh false false e f =
+      rw (higher-second h q f, higher-second p h e, higher-second h q f, higher-second p q below)
+  three true false e f = rw (higher-first h q f, higher-second p h e, higher-first h q f)
+  three false true e f = rw (higher-second h q f, higher-first p h e)
+  three false false e f =
       let above : stands_lower p q ≡ false =
       le-ltb _ _
       (least-trans p.steps p.limit h.steps h.limit q.steps q.limit lh (ltb-false _ _ e) (ltb-false _ _ f)) in
-      rw (better-first h q lh f, better-first p h lp e, better-first p q lp above)
+      rw (higher-first h q f, higher-first p h e, higher-first p q above)
 
-  pub better-assoc : better p (better h q) ≡ better (better p h) q
-  better-assoc = go p.limit h.limit refl refl
-    where
-      go : (l k : ℕ) → p.limit ≡ l → h.limit ≡ k → better p (better h q) ≡ better (better p h) q
-      go zero k e f = rw (better-left p (better h q) e, better-left p h e)
-      go (suc l) zero e f = rw (better-left h q f, better-right p h fh (omega arith) f)
-      go (suc l) (suc k) e f = three (omega arith) (omega arith) (stands_lower p h) (stands_lower h q) refl refl
+pub better-assoc : (p h q : Option Peak) → Limited p → Limited h → better p (better h q) ≡ better (better p h) q
+unfolding better Limited
+better-assoc None h q lp lh = refl
+better-assoc (Some p) None q lp lh = refl
+better-assoc (Some p) (Some h) None lp lh = refl
+better-assoc (Some p) (Some h) (Some q) lp lh = ap Some (three p h q lp lh (stands_lower p h) (stands_lower h q) refl refl)
 
 -- ---- the highest of many
 
@@ -113,66 +99,34 @@ competes-limit m e c = go (eqb e.field m) (eqb e.number 0) e.limit refl c
     go true false l z t = absurd (true≢false (sym t))
     go false b l z t = absurd (true≢false (sym t))
 
-highest-fair : (m k : ℕ) (es : List Entry) → Fair (highest_from m k es)
-unfolding highest_from Fair
-highest-fair m k [] = λ e. refl
-highest-fair m k (e ∷ es) = go (competes m e) refl (highest-fair m (suc k) es)
+highest-limited : (m k : ℕ) (es : List Entry) → Limited (highest_from m k es)
+unfolding highest_from Limited
+highest-limited m k [] = tt
+highest-limited m k (e ∷ es) = go (competes m e) refl (highest-limited m (suc k) es)
   where
-    go : (b : Bool) → competes m e ≡ b → Fair (highest_from m (suc k) es)
-        → Fair (cond b (better (peak_of k e) (highest_from m (suc k) es)) (highest_from m (suc k) es))
-    go true c f =
-        better-fair (peak_of k e) (highest_from m (suc k) es)
-        (λ z. absurd (let x : ⊥ = omega (arith, competes-limit m e c) in x)) f
+    go : (b : Bool) → competes m e ≡ b → Limited (highest_from m (suc k) es)
+        → Limited (cond b (better (Some (peak_of k e)) (highest_from m (suc k) es)) (highest_from m (suc k) es))
+    go true c f = better-limited (peak_of k e) (highest_from m (suc k) es) (competes-limit m e c) f
     go false c f = f
-
--- the higher of two has a limit where the first has one
-better-limited : (p q : Peak) → Fair q → 0 < p.limit → 0 < (better p q).limit
-unfolding Fair
-better-limited p q f h = go (stands_lower p q) refl
-  where
-    go : (b : Bool) → stands_lower p q ≡ b → 0 < (better p q).limit
-    go true e = rw (better-second p q e) (some q.limit refl (ltb-true _ _ e))
-      where
-        some : (l : ℕ) → q.limit ≡ l → p.steps * q.limit < q.steps * p.limit → 0 < q.limit
-        some zero a c =
-            let z : q.steps ≡ 0 = f a in
-            let n : q.steps * p.limit ≡ 0 = rw z (zero-mul p.limit) in
-            absurd (let x : ⊥ = omega (arith, n) in x)
-        some (suc l) a c = omega arith
-    go false e = rw (better-first p q h e) h
-
-pub highest-none : (m k : ℕ) (es : List Entry) → (highest_from m k es).limit ≡ 0 → highest_from m k es ≡ no_peak
-unfolding highest_from
-highest-none m k [] z = refl
-highest-none m k (e ∷ es) z = go (competes m e) refl (highest-none m (suc k) es) z
-  where
-    go : (b : Bool) → competes m e ≡ b → ((highest_from m (suc k) es).limit ≡ 0 → highest_from m (suc k) es ≡ no_peak)
-        → (cond b (better (peak_of k e) (highest_from m (suc k) es)) (highest_from m (suc k) es)).limit ≡ 0
-        → cond b (better (peak_of k e) (highest_from m (suc k) es)) (highest_from m (suc k) es) ≡ no_peak
-    go true c f z =
-        let l =
-        better-limited (peak_of k e) (highest_from m (suc k) es) (highest-fair m (suc k) es) (competes-limit m e c) in
-        absurd (let x : ⊥ = omega arith in x)
-    go false c f z = f z
 
 pub highest-append : (m k : ℕ) (es ds : List Entry)
     → highest_from m k (es ++ ds) ≡ better (highest_from m k es) (highest_from m (k + length es) ds)
-unfolding highest_from
-highest-append m k [] ds = ap (λ n. highest_from m n ds) (sym (add-zero k)) ∙ sym (better-left no_peak _ refl)
+unfolding highest_from better Limited
+highest-append m k [] ds = ap (λ n. highest_from m n ds) (sym (add-zero k))
 highest-append m k (e ∷ es) ds =
-    go (competes m e)
+    go (competes m e) refl
     (highest-append m (suc k) es ds ∙ ap (λ i. better (highest_from m (suc k) es) (highest_from m i ds)) n)
   where
     n : suc k + length es ≡ k + suc (length es)
     n = omega arith
 
-    go : (b : Bool)
+    go : (b : Bool) → competes m e ≡ b
         → highest_from m (suc k) (es ++ ds) ≡ better (highest_from m (suc k) es) (highest_from m (k + suc (length es)) ds)
-        → cond b (better (peak_of k e) (highest_from m (suc k) (es ++ ds))) (highest_from m (suc k) (es ++ ds))
-        ≡ better (cond b (better (peak_of k e) (highest_from m (suc k) es)) (highest_from m (suc k) es))
+        → cond b (better (Some (peak_of k e)) (highest_from m (suc k) (es ++ ds))) (highest_from m (suc k) (es ++ ds))
+        ≡ better (cond b (better (Some (peak_of k e)) (highest_from m (suc k) es)) (highest_from m (suc k) es))
         (highest_from m (k + suc (length es)) ds)
-    go true more =
-        ap (better (peak_of k e)) more
-        ∙ better-assoc (peak_of k e) (highest_from m (suc k) es) (highest_from m (k + suc (length es)) ds)
-        (highest-fair m (suc k) es) (highest-fair m (k + suc (length es)) ds)
-    go false more = more
+    go true c more =
+        ap (better (Some (peak_of k e))) more
+        ∙ better-assoc (Some (peak_of k e)) (highest_from m (suc k) es) (highest_from m (k + suc (length es)) ds)
+        (competes-limit m e c) (highest-limited m (suc k) es)
+    go false c more = more

@@ -2,7 +2,6 @@
 --   accepted-passes   an entry under 0 is of a record that no test refuses
 --   most_steps         the most steps of a record;  steps-few  an accepted one's are at most so many
 --   total-few         so those of a file are at most so many for each of its bytes
---   one-word-total    a total below 2^64 has no higher word
 --   small-printable   THE LINES of the sheet of a file of at most 65,536 bytes can be printed;  printable-at
 --                     each of them, by its place
 -- Assumes nothing.
@@ -23,9 +22,8 @@ use Rattle.job_records.specs.Layout.{degree_byte, cutoff_byte, record_length, co
 use Rattle.job_records.specs.Reading.{start_tests, record_tests}
 use Rattle.job_sheet.specs.Entries.{Entry, goes_on, entry_here, entries_behind, entries}
 use Rattle.job_sheet.specs.Figures.{sum_of, accepted_in, FieldFigures, Figures, figures_at}
-use Rattle.job_sheet.specs.Calls.{total_of, told_field, Sheets}
+use Rattle.job_sheet.specs.Calls.{told_field, Sheets}
 use Rattle.job_sheet.specs.Text.{FitsLine}
-use Rattle.job_sheet.specs.declared.Total.{Total}
 use Rattle.job_sheet.specs.declared.FieldLine.{FieldLine}
 use Rattle.job_sheet.specs.declared.Sheet.{Sheet}
 use Rattle.job_sheet.proofs.Outcomes.{where-on}
@@ -95,14 +93,11 @@ total-few m zero (b ∷ bs) =
       added-few m b bs,
     )
 
-one-word-total : (t : Total) → total_of t < 2 ^ 64 → t.high ≡ 0
-one-word-total t h = omega arith
-
 -- a line that tells of figures with five refusals and a total of one word
 line-printable : (l : FieldLine) (es : List Entry) (m : ℕ) → told_field l ≡ figures_at es m → steps_in m es < 2 ^ 64
     → FitsLine l
 line-printable l es m e h = record {
-  word = one-word-total l.steps (subst (λ n. n < 2 ^ 64) (sym (ap (λ (f : FieldFigures). f.steps) e)) h);
+  word = subst (λ n. n < 2 ^ 64) (sym (ap (λ (f : FieldFigures). f.steps) e)) h;
   five = ap (λ (f : FieldFigures). length f.refused) e;
 }
 
@@ -120,7 +115,7 @@ lines-printable (l ∷ ls) es (r ∷ rs) e h =
 
 pub small-printable : (file : List ℕ) (s : Sheet) → length file ≤ 65536 → Sheets file s → All FitsLine s.lines
 small-printable file s h e =
-    lines-printable s.lines (entries file) rows (ap (λ (f : Figures). f.fields) e.0)
+    lines-printable s.lines (entries file) rows (ap (λ (f : Figures). f.fields) e)
     (λ m. omega (arith, total-few m 0 file))
 
 -- each of them, by its place

@@ -21,7 +21,7 @@ use Rattle.job_sheet.proofs.Joined.{file-joined}
 
 pub told-add-up : (file : List ℕ) (os : List Outcome) (s : Sheet) → Reads file 0 os → Sheets file s
     → outcomes_in (told_sheet s) ≡ length os
-told-add-up file os s h t = ap outcomes_in t.0 ∙ outcomes-add-up file os h
+told-add-up file os s h t = ap outcomes_in t ∙ outcomes-add-up file os h
 
 -- the figures of each field have its highest
 each-highest : (es : List Entry) (rs : List (ℕ × ℕ)) → HighestEach es rs (map (λ r. figures_at es r.0) rs)
@@ -30,13 +30,13 @@ each-highest es (r ∷ rs) = more (is-highest r.0 es) (each-highest es rs)
 
 pub told-highest : (file : List ℕ) (s : Sheet) → Sheets file s
     → HighestEach (entries file) rows (told_sheet s).fields
-told-highest file s t = subst (λ f. HighestEach (entries file) rows f.fields) (sym t.0) (each-highest (entries file) rows)
+told-highest file s t = subst (λ f. HighestEach (entries file) rows f.fields) (sym t) (each-highest (entries file) rows)
 
 pub told-joined : (f g : List ℕ) (s t u : Sheet) → Sheets f s → Sheets g t → Sheets (f ++ g) u → (told_sheet s).mark ≡ 0
     → (told_sheet s).short ≡ 0
     → told_sheet u ≡ joined_figures (told_sheet s) (told_sheet t)
 told-joined f g s t u p q r a b =
-    let mark = sym (ap (λ x. x.mark) p.0) ∙ a in
-    let short = sym (ap (λ x. x.short) p.0) ∙ b in
+    let mark = sym (ap (λ x. x.mark) p) ∙ a in
+    let short = sym (ap (λ x. x.short) p) ∙ b in
     let clean : Clean (entries f) = record { no-mark = mark; no_short = short } in
-    r.0 ∙ file-joined f g clean ∙ ap₂ joined_figures (sym p.0) (sym q.0)
+    r ∙ file-joined f g clean ∙ ap₂ joined_figures (sym p) (sym q)

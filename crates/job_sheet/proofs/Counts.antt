@@ -11,9 +11,9 @@
 -- Assumes nothing.
 use Rattle.std.proofs.Common.{◌≡◌, ℕ, zero, suc, ◌+◌, ◌≤◌, Bool, true, false, cond, not, ◌&&◌, eqb, List, [], ◌∷◌, ◌++◌, length, sym, refl, ap, ◌∙◌, true≢false, add-zero, arith, eq-eqb, ne_eqb, eqb-true}
 use Rattle.job_sheet.specs.Entries.{Entry}
-use Rattle.job_sheet.specs.Figures.{count_of, sum_of, accepted_in, competes, no_peak, peak_of, better, highest_from}
+use Rattle.job_sheet.specs.Figures.{count_of, sum_of, accepted_in, competes, peak_of, better, highest_from}
 use Rattle.job_sheet.specs.Adding.{risen}
-use Rattle.job_sheet.proofs.Better.{Fair, better-left, better-right, highest-none, highest-append}
+use Rattle.job_sheet.proofs.Better.{better-none, highest-append}
 
 abbrev pub bit : Bool → ℕ
 bit b = cond b 1 0
@@ -94,15 +94,6 @@ accepted-zero m e y = go (eqb e.field m) (eqb e.number 0) refl y
     go true false t y = absurd (true≢false (sym y))
     go false b t y = absurd (true≢false (sym y))
 
--- with none behind it, the highest stays
-highest-still : (m k : ℕ) (es : List Entry) → better (highest_from m k es) no_peak ≡ highest_from m k es
-unfolding Fair
-highest-still m k es = go (highest_from m k es).limit refl
-  where
-    go : (l : ℕ) → (highest_from m k es).limit ≡ l → better (highest_from m k es) no_peak ≡ highest_from m k es
-    go zero z = better-left (highest_from m k es) no_peak z ∙ sym (highest-none m k es z)
-    go (suc l) z = better-right (highest_from m k es) no_peak (λ e. refl) (omega arith) refl
-
 module _ (m : ℕ) (es : List Entry) (e : Entry) where
   -- the last entry alone
   highest-last : highest_from m 1 (es ++ e ∷ []) ≡ better (highest_from m 1 es) (highest_from m (suc (length es)) (e ∷ []))
@@ -112,14 +103,14 @@ module _ (m : ℕ) (es : List Entry) (e : Entry) where
 
   none-added : competes m e ≡ false → highest_from m 1 (es ++ e ∷ []) ≡ highest_from m 1 es
   unfolding highest_from
-  none-added c = highest-last ∙ rw c (highest-still m 1 es)
+  none-added c = highest-last ∙ rw c (better-none (highest_from m 1 es))
 
   pub highest-same : accepted_in m e ≡ false → highest_from m 1 (es ++ e ∷ []) ≡ highest_from m 1 es
   highest-same n = none-added (ap (λ b. b && not (eqb e.limit 0)) n)
 
   pub highest-more : accepted_in m e ≡ true
       → highest_from m 1 (es ++ e ∷ []) ≡ risen (highest_from m 1 es) (peak_of (suc (length es)) e)
-  unfolding risen highest_from Fair
+  unfolding risen highest_from better
   highest-more y = go e.limit refl
     where
       go : (l : ℕ) → e.limit ≡ l
@@ -131,6 +122,4 @@ module _ (m : ℕ) (es : List Entry) (e : Entry) where
       go (suc l) z =
           let b : eqb e.limit 0 ≡ false = ne_eqb e.limit 0 (λ x. omega arith) in
           let c : competes m e ≡ true = rw (y, b) in
-          let p : better (peak_of (suc (length es)) e) no_peak ≡ peak_of (suc (length es)) e =
-          better-right (peak_of (suc (length es)) e) no_peak (λ x. refl) (omega arith) refl in
-          highest-last ∙ rw (c, p, b)
+          highest-last ∙ rw (c, b)

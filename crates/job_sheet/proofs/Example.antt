@@ -3,6 +3,7 @@
 --   sample-figures   two records of field 4 accepted, with 6 roots and 4 steps; the highest is the first
 -- Assumes nothing.
 use Rattle.std.proofs.Common.{◌≡◌, [], ◌∷◌, refl}
+use Rattle.std.specs.Prelude.{Some}
 use Rattle.refusals.specs.Order.{decide}
 use Rattle.algebra.specs.Trial.{up_from}
 use Rattle.algebra.specs.Field.{power, trace}
@@ -26,7 +27,7 @@ pub sample-figures : figures_of (entries sample)
         refused = 0 ∷ 0 ∷ 0 ∷ 0 ∷ 0 ∷ [];
         roots = 6;
         steps = 4;
-        highest = record { place = 1; steps = 4; limit = 4 };
+        highest = Some (record { place = 1; steps = 4; limit = 4 });
       } ∷ no_figures ∷ no_figures ∷ [];
       unknown = 1;
       mark = 0;

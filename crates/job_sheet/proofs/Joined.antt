@@ -5,13 +5,14 @@
 --   figures-joined             THE FIGURES of entries one behind the other, where the first add up
 --   file-joined                so of files, where the first ends cleanly
 -- Assumes nothing.
-use Rattle.std.proofs.Common.{◌≡◌, ℕ, suc, ◌+◌, ◌*◌, Bool, true, false, cond, eqb, ltb, List, [], ◌∷◌, ◌++◌, map, length, sym, refl, ap, ◌∙◌, ap₂, add_comm, arith, ne_eqb}
+use Rattle.std.proofs.Common.{◌≡◌, ℕ, suc, ◌+◌, Bool, true, false, cond, List, [], ◌∷◌, ◌++◌, map, length, sym, refl, ap, ◌∙◌, ap₂, add_comm, arith}
+use Rattle.std.specs.Prelude.{Option, Some, None}
 use Rattle.field.specs.Rows.{rows}
 use Rattle.job_sheet.specs.Entries.{Entry, entries}
-use Rattle.job_sheet.specs.Figures.{count_of, numbered, under, accepted_in, competes, Peak, peak_of, better}
+use Rattle.job_sheet.specs.Figures.{count_of, numbered, under, accepted_in, competes, Peak, peak_of, stands_lower, better}
 use Rattle.job_sheet.specs.Figures.{highest_from, refused_numbers, FieldFigures, figures_at, figures_of}
-use Rattle.job_sheet.specs.Joined.{outcomes_in, counted_on, plus_each, joined_field, joined_fields, joined_figures}
-use Rattle.job_sheet.proofs.Better.{competes-limit, highest-append}
+use Rattle.job_sheet.specs.Joined.{outcomes_in, peak_on, counted_on, plus_each, joined_field, joined_fields, joined_figures}
+use Rattle.job_sheet.proofs.Better.{highest-append}
 use Rattle.job_sheet.proofs.Counts.{count-append, sum-append}
 use Rattle.job_sheet.proofs.AddUp.{file-adds-up}
 use Rattle.job_sheet.proofs.Front.{Clean, entries-joined}
@@ -25,56 +26,31 @@ each-joined t a b (k ∷ ks) = ap₂ (λ n l. n ∷ l) (count-append (t k) a b) 
 
 -- ---- a peak counted on
 
-counted-limit : (n : ℕ) (p : Peak) → (counted_on n p).limit ≡ p.limit
-counted-limit n p = go (eqb p.limit 0)
-  where
-    go : (b : Bool) → (cond b p (record { place = n + p.place; steps = p.steps; limit = p.limit })).limit ≡ p.limit
-    go true = refl
-    go false = refl
-
-counted-steps : (n : ℕ) (p : Peak) → (counted_on n p).steps ≡ p.steps
-counted-steps n p = go (eqb p.limit 0)
-  where
-    go : (b : Bool) → (cond b p (record { place = n + p.place; steps = p.steps; limit = p.limit })).steps ≡ p.steps
-    go true = refl
-    go false = refl
-
--- the better of p and q, compared by these figures
-abbrev by : ℕ → ℕ → ℕ → ℕ → Peak → Peak → Peak
-by l s k t p q = cond (eqb l 0) q (cond (ltb (s * k) (t * l)) q p)
-
-counted-better : (n : ℕ) (p q : Peak) → counted_on n (better p q) ≡ better (counted_on n p) (counted_on n q)
+counted-better : (n : ℕ) (p q : Option Peak) → counted_on n (better p q) ≡ better (counted_on n p) (counted_on n q)
 unfolding better
-counted-better n p q =
-    go (eqb p.limit 0) (ltb (p.steps * q.limit) (q.steps * p.limit))
-    ∙ sym (ap₂ (λ l s. by l s (counted_on n q).limit (counted_on n q).steps (counted_on n p) (counted_on n q))
-    (counted-limit n p) (counted-steps n p)
-    ∙ ap₂ (λ k t. by p.limit p.steps k t (counted_on n p) (counted_on n q)) (counted-limit n q) (counted-steps n q))
+counted-better n None q = refl
+counted-better n (Some p) None = refl
+counted-better n (Some p) (Some q) = go (stands_lower p q)
   where
-    go : (b c : Bool)
-        → counted_on n (cond b q (cond c q p)) ≡ cond b (counted_on n q) (cond c (counted_on n q) (counted_on n p))
-    go true c = refl
-    go false true = refl
-    go false false = refl
-
--- one that competes
-counted-one : (n m k : ℕ) (e : Entry) → competes m e ≡ true → counted_on n (peak_of k e) ≡ peak_of (n + k) e
-counted-one n m k e c = rw (ne_eqb e.limit 0 (λ z. omega (arith, competes-limit m e c)))
+    go : (b : Bool)
+        → counted_on n (Some (cond b q p)) ≡ Some (cond b (peak_on n q) (peak_on n p))
+    go true = refl
+    go false = refl
 
 highest-counted : (n m k : ℕ) (es : List Entry) → highest_from m (n + k) es ≡ counted_on n (highest_from m k es)
 unfolding highest_from
 highest-counted n m k [] = refl
 highest-counted n m k (e ∷ es) =
     let next : suc (n + k) ≡ n + suc k = omega arith in
-    go (competes m e) refl (ap (λ i. highest_from m i es) next ∙ highest-counted n m (suc k) es)
+    go (competes m e) (ap (λ i. highest_from m i es) next ∙ highest-counted n m (suc k) es)
   where
-    go : (b : Bool) → competes m e ≡ b → highest_from m (suc (n + k)) es ≡ counted_on n (highest_from m (suc k) es)
-        → cond b (better (peak_of (n + k) e) (highest_from m (suc (n + k)) es)) (highest_from m (suc (n + k)) es)
-        ≡ counted_on n (cond b (better (peak_of k e) (highest_from m (suc k) es)) (highest_from m (suc k) es))
-    go false c h = h
-    go true c h =
-        ap₂ better (sym (counted-one n m k e c)) h
-        ∙ sym (counted-better n (peak_of k e) (highest_from m (suc k) es))
+    go : (b : Bool) → highest_from m (suc (n + k)) es ≡ counted_on n (highest_from m (suc k) es)
+        → cond b (better (Some (peak_of (n + k) e)) (highest_from m (suc (n + k)) es)) (highest_from m (suc (n + k)) es)
+        ≡ counted_on n (cond b (better (Some (peak_of k e)) (highest_from m (suc k) es)) (highest_from m (suc k) es))
+    go false h = h
+    go true h =
+        ap (better (Some (peak_of (n + k) e))) h
+        ∙ sym (counted-better n (Some (peak_of k e)) (highest_from m (suc k) es))
 
 highest-joined : (m : ℕ) (a b : List Entry)
     → highest_from m 1 (a ++ b) ≡ better (highest_from m 1 a) (counted_on (length a) (highest_from m 1 b))

@@ -3,20 +3,21 @@
 --   line-accepted     an accepted record of the field
 --   line_refused      one that is refused
 --   line_other        an entry of another field changes nothing;  line-apart  nor one under another number
---   Told              lines tell the figures of entries, the low word of each total a word
+--   Told              lines tell the figures of entries
 --   told-set          with one entry more its field's line is set;  told_same  where no line changes
 --   no_line            what is read behind the end of an array of lines
 --   told_none         the lines of no entries
 --   told_line         the line of a known field
 --   room-for-record, room-for-refusal   one more can be counted, where there are few entries
 -- Assumes nothing.
-use Rattle.std.proofs.Common.{◌≡◌, ℕ, zero, suc, ◌+◌, ◌-◌, ◌*◌, ◌^◌, ◌<◌, ◌≤◌, Bool, true, false, ◌&&◌, eqb, List, [], ◌∷◌, ◌++◌, map, length, get_or, set, replicate, sym, refl, ap, ◌∙◌, ap₂, lt_of_mul-lt-mul_right, arith, eq-eqb, ne_eqb}
+use Rattle.std.proofs.Common.{◌≡◌, ℕ, zero, suc, ◌+◌, ◌-◌, ◌^◌, ◌<◌, ◌≤◌, Bool, true, false, ◌&&◌, eqb, List, [], ◌∷◌, ◌++◌, map, length, get_or, set, replicate, sym, refl, ap, ◌∙◌, ap₂, arith, eq-eqb, ne_eqb}
+use Rattle.std.specs.Prelude.{Option, None}
 use lib.ListN.{get_or-map}
 use Rattle.field.specs.Rows.{known}
 use Rattle.job_sheet.specs.Entries.{Entry}
 use Rattle.job_sheet.specs.Figures.{count_of, sum_of, under, accepted_in, Peak, highest_from, refused_numbers}
 use Rattle.job_sheet.specs.Figures.{FieldFigures, figures_at}
-use Rattle.job_sheet.specs.Calls.{told_field, Word, Words}
+use Rattle.job_sheet.specs.Calls.{told_field}
 use Rattle.job_sheet.specs.Adding.{place_in, degrees, place_of, no_figures, with_accepted, with_refused}
 use Rattle.job_sheet.specs.Adding.{RoomForRecord, RoomForRefusal}
 use Rattle.job_sheet.specs.declared.FieldLine.{FieldLine}
@@ -43,7 +44,7 @@ and_no true b e = e
 and_no false b e = refl
 
 -- figures that agree in each part
-same-figures : {a b s t u v : ℕ} {r q : List ℕ} {p h : Peak} → a ≡ b → r ≡ q → s ≡ t → u ≡ v → p ≡ h
+same-figures : {a b s t u v : ℕ} {r q : List ℕ} {p h : Option Peak} → a ≡ b → r ≡ q → s ≡ t → u ≡ v → p ≡ h
     → ◌≡◌ {A = FieldFigures} (record { accepted = a; refused = r; roots = s; steps = u; highest = p })
     (record { accepted = b; refused = q; roots = t; steps = v; highest = h })
 same-figures e f g h i = cc
@@ -113,7 +114,6 @@ module _ (m : ℕ) (es : List Entry) (e : Entry) where
 
 pub record Told (es : List Entry) (lines : List FieldLine) : Type 0 where
   pub are : map told_field lines ≡ map (figures_at es) degrees
-  pub words : Words lines
 
 pub record LineOf (m : ℕ) (es : List Entry) (l : FieldLine) : Type 0 where
   pub is : told_field l ≡ figures_at es m
@@ -124,23 +124,14 @@ no_line = record {
   accepted = 0;
   refused = [];
   roots = 0;
-  steps = record { high = 0; low = 0 };
-  highest = record { record_number = 0; steps = 0; limit = 0 };
+  steps = 0;
+  highest = None;
 }
 
 map-set : {A B : Type 0} (f : A → B) (l : List A) (i : ℕ) (y : A) → map f (set l i y) ≡ set (map f l) i (f y)
 map-set f [] i y = refl
 map-set f (x ∷ l) zero y = refl
 map-set f (x ∷ l) (suc i) y = ap (λ r. f x ∷ r) (map-set f l i y)
-
-words-set : (ls : List FieldLine) (i : ℕ) (l : FieldLine) → Words ls → Word l → Words (set ls i l)
-words-set [] i l w h = tt
-words-set (k ∷ ls) zero l w h = (h, w.1)
-words-set (k ∷ ls) (suc i) l w h = (w.0, words-set ls i l w.1 h)
-
-words-each : (n : ℕ) (l : FieldLine) → Word l → Words (replicate n l)
-words-each zero l h = tt
-words-each (suc n) l h = (h, words-each n l h)
 
 -- the same line for each key
 none_each : (l : FieldLine) → told_field l ≡ no_figures → (ks : List ℕ)
@@ -152,7 +143,6 @@ none_each l e (k ∷ ks) = ap₂ (λ x xs. x ∷ xs) e (none_each l e ks)
 pub told_none : (l : FieldLine) → told_field l ≡ no_figures → Told [] (replicate (length degrees) l)
 told_none l e = record {
   are = none_each l e degrees;
-  words = words-each (length degrees) l (omega (arith, ap (λ f. f.steps) e));
 }
 
 pub told_same : {es : List Entry} {lines : List FieldLine} (ds : List Entry) → Told es lines
@@ -160,20 +150,18 @@ pub told_same : {es : List Entry} {lines : List FieldLine} (ds : List Entry) →
 unfolding is_in
 told_same {es} ds t h = record {
   are = t.are ∙ sym (unchanged (figures_at es) (figures_at ds) 0 (λ k d. h k) degrees refl);
-  words = t.words;
 }
 
 module _ {es : List Entry} {lines : List FieldLine} (t : Told es lines) {m i : ℕ} (k : known m ≡ true)
     (p : i ≡ place_of m) where
-  pub told-set : (e : Entry) {l : FieldLine} → e.field ≡ m → LineOf m (es ++ e ∷ []) l → Word l
+  pub told-set : (e : Entry) {l : FieldLine} → e.field ≡ m → LineOf m (es ++ e ∷ []) l
       → Told (es ++ e ∷ []) (set lines i l)
   unfolding is_in apart
-  told-set e {l} f h w = record {
+  told-set e {l} f h = record {
     are = map-set told_field lines i l ∙ ap₂ (λ a b. set a i b) t.are h.is
         ∙ ap (λ j. set (map (figures_at es) degrees) j (figures_at (es ++ e ∷ []) m)) p
         ∙ sym (changed (figures_at es) (figures_at (es ++ e ∷ [])) m (λ j d. line_other j es e (λ x. d (sym x ∙ f)))
         degrees refl (known-in m k));
-    words = words-set lines i l t.words w;
   }
 
   pub told_line : (d : FieldLine) → LineOf m es (get_or lines i d)
@@ -184,23 +172,14 @@ module _ {es : List Entry} {lines : List FieldLine} (t : Told es lines) {m i : �
 
 -- ---- room
 
--- the high word of a small total is small
-high_small : (q n h w : ℕ) {s : ℕ} → h * q + w ≡ s → s < n * q → h < n
-high_small q n h w e l = lt_of_mul-lt-mul_right q (let x : h * q < n * q = omega arith in x)
-
 module _ {es : List Entry} {m : ℕ} {l : FieldLine} (t : LineOf m es l) where
   pub room-for-record : {c : Counted} → length es + 1 < 2 ^ 64
       → sum_of (λ e. e.roots) (accepted_in m) es + c.roots < 2 ^ 64
-      → sum_of (λ e. e.steps) (accepted_in m) es < 2 ^ 16 * 2 ^ 64 → RoomForRecord l c
+      → sum_of (λ e. e.steps) (accepted_in m) es + c.steps < 2 ^ 128 → RoomForRecord l c
   room-for-record a r s = record {
     accepted = omega (arith, ap (λ f. f.accepted) t.is, count-few (accepted_in m) es);
     roots = omega (arith, ap (λ f. f.roots) t.is);
-    high =
-        let h : l.steps.high < 2 ^ 16 =
-        high_small (2 ^ 64) (2 ^ 16) l.steps.high l.steps.low (ap (λ f. f.steps) t.is) s in omega (
-          arith,
-          h,
-        );
+    steps = omega (arith, ap (λ f. f.steps) t.is);
   }
 
   pub room-for-refusal : (n : ℕ) → 2 ≤ n → n ≤ 6 → length es + 1 < 2 ^ 64 → RoomForRefusal l n

@@ -6,14 +6,15 @@
 --   is-highest       THE HIGHEST: at least every other as a fraction, and the first such
 -- Assumes nothing.
 use Rattle.std.proofs.Common.{◌≡◌, ℕ, suc, ◌+◌, ◌<◌, Bool, true, false, List, [], ◌∷◌, sym, refl, ap, ◌∙◌, true≢false, zero-add, arith}
+use Rattle.std.specs.Prelude.{Option, Some, None}
 use Rattle.job_sheet.specs.Entries.{Entry}
-use Rattle.job_sheet.specs.Figures.{Peak, no_peak, peak_of, competes, better, highest_from}
+use Rattle.job_sheet.specs.Figures.{Peak, peak_of, competes, higher, better, highest_from}
 use Rattle.job_sheet.specs.Highest.{EntryAt, IsHighest}
 use Rattle.job_sheet.specs.Highest.EntryAt.{here, later}
 use Rattle.job_sheet.specs.Highest.IsHighest.{some, nothing}
-use Rattle.job_sheet.proofs.Better.{Fair, better-right, competes-limit}
+use Rattle.job_sheet.proofs.Better.{competes-limit}
 use Rattle.job_sheet.proofs.Compared.{AtMost, LowerThan, most-trans, Compared, compared}
-use Rattle.job_sheet.proofs.Compared.Compared.{none, second, first}
+use Rattle.job_sheet.proofs.Compared.Compared.{second, first}
 
 entry_place : {es : List Entry} {k : ℕ} {e : Entry} → EntryAt es k e → 0 < k
 entry_place here = omega arith
@@ -31,9 +32,9 @@ pub record Top (j m : ℕ) (es : List Entry) (p : Peak) : Type 0 where
   pub most : (k : ℕ) (e : Entry) → EntryAt es k e → competes m e ≡ true → AtMost (peak_of k e) p
   pub earlier : (k : ℕ) (e : Entry) → EntryAt es k e → competes m e ≡ true → k < i → LowerThan (peak_of k e) p
 
-pub data Tops (j m : ℕ) (es : List Entry) (p : Peak) : Type 0 where
-  top : Top j m es p → Tops j m es p
-  no_one : p ≡ no_peak → ((k : ℕ) (e : Entry) → EntryAt es k e → competes m e ≡ true → ⊥) → Tops j m es p
+pub data Tops (j m : ℕ) (es : List Entry) (p : Option Peak) : Type 0 where
+  top : (q : Peak) → p ≡ Some q → Top j m es q → Tops j m es p
+  no_one : p ≡ None → ((k : ℕ) (e : Entry) → EntryAt es k e → competes m e ≡ true → ⊥) → Tops j m es p
 
 module _ (j m : ℕ) (d : Entry) (es : List Entry) where
   -- one behind the first is the top, where the first stands below it or does not compete
@@ -57,13 +58,13 @@ module _ (j m : ℕ) (d : Entry) (es : List Entry) where
       earlier k e (later a) h l = t.earlier _ e a h (omega arith)
 
   -- the first does not compete
-  pass : {p : Peak} → competes m d ≡ false → Tops (suc j) m es p → Tops j m (d ∷ es) p
+  pass : {p : Option Peak} → competes m d ≡ false → Tops (suc j) m es p → Tops j m (d ∷ es) p
   pass c (no_one n out) = no_one n (λ k e a. go k e a)
     where
       go : (k : ℕ) (e : Entry) → EntryAt (d ∷ es) k e → competes m e ≡ true → ⊥
       go k e here h = true≢false (sym h ∙ c)
       go k e (later a) h = out _ e a h
-  pass c (top t) = top (onward (λ h. absurd (true≢false (sym h ∙ c))) t)
+  pass c (top q e t) = top q e (onward (λ h. absurd (true≢false (sym h ∙ c))) t)
 
   module _ (c : competes m d ≡ true) where
     abbrev mine : Peak
@@ -90,17 +91,15 @@ module _ (j m : ℕ) (d : Entry) (es : List Entry) where
     top-limit : {p : Peak} → Top (suc j) m es p → 0 < p.limit
     top-limit t = rw t.is (competes-limit m t.entry t.one)
 
-    joins : {p : Peak} → Tops (suc j) m es p → Tops j m (d ∷ es) (better mine p)
-    unfolding Fair
+    joins : {p : Option Peak} → Tops (suc j) m es p → Tops j m (d ∷ es) (better (Some mine) p)
+    unfolding better
     joins {p} (no_one n out) =
-        let alone = better-right mine p (λ z. ap (λ q. q.steps) n) (competes-limit m d c) (ap (λ q. q.limit) n) in
-        top (stays alone (λ k e a h. absurd (out k e a h)))
-    joins {p} (top t) = top (go (compared mine p))
+        top mine (ap (better (Some mine)) n) (stays refl (λ k e a h. absurd (out k e a h)))
+    joins {p} (top q n t) = top (higher mine q) (ap (better (Some mine)) n) (go (compared mine q))
       where
-        go : Compared mine p → Top j m (d ∷ es) (better mine p)
-        go (none l e) = absurd (let f : ⊥ = omega (arith, competes-limit m d c) in f)
-        go (second l b e) = rw e (onward (λ h. b) t)
-        go (first l b e) = stays e (λ k f a h. most-trans (peak_of k f) p mine (top-limit t) (t.most k f a h) b)
+        go : Compared mine q → Top j m (d ∷ es) (higher mine q)
+        go (second b e) = rw e (onward (λ h. b) t)
+        go (first b e) = stays e (λ k f a h. most-trans (peak_of k f) q mine (top-limit t) (t.most k f a h) b)
 
 empty-has : {k : ℕ} {e : Entry} → EntryAt [] k e → ⊥
 empty-has = elim [ ]
@@ -118,11 +117,11 @@ tops j m (d ∷ es) = go (competes m d) refl (tops (suc j) m es)
 pub is-highest : (m : ℕ) (es : List Entry) → IsHighest m es (highest_from m 1 es)
 is-highest m es = go (tops 0 m es)
   where
-    go : {p : Peak} → Tops 0 m es p → IsHighest m es p
+    go : {p : Option Peak} → Tops 0 m es p → IsHighest m es p
     go (no_one n out) = nothing n out
-    go {p} (top t) =
+    go (top p f t) =
         let e : p.place ≡ t.i = ap (λ q. q.place) t.is ∙ zero-add t.i in
-        some (record {
+        some p f (record {
           entry = t.entry;
           stands = rw e t.stands;
           is = t.is ∙ ap (λ n. peak_of n t.entry) (zero-add t.i ∙ sym e);

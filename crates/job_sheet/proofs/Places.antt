@@ -5,12 +5,15 @@
 --   unchanged       where values differ only at a key that is not there, the lists are the same
 --   changed         WHERE THEY DIFFER ONLY AT ONE KEY, ITS PLACE IS SET
 --   at_place        the value at the place of a key
---   Placing, place-from, place-on, place_end   the search for a field's place
+--   place-first, place-found   the search for a field's place
 -- Assumes nothing.
-use Rattle.std.proofs.Common.{◌≡◌, ℕ, zero, suc, ◌+◌, ◌<◌, Bool, true, false, cond, not, ◌&&◌, eqb, List, [], ◌∷◌, map, length, get_or, drop, set, sym, refl, ap, ◌∙◌, ap₂, true≢false, add-one, arith, eq-eqb, ne_eqb, eqb-true}
-use borrow.Author.Tests.{eqb-false}
+use Rattle.std.proofs.Common.{◌≡◌, ℕ, suc, ◌+◌, ◌<◌, Bool, true, false, cond, not, ◌&&◌, eqb, List, [], ◌∷◌, map, length, get_or, set, sym, refl, ap, ◌∙◌, ap₂, true≢false, arith, eqb-true}
+use borrow.Author.Tests.{eqb-false, lt-ltb}
+use lib.Dec.{ltb}
 use Rattle.field.specs.Rows.{rows, known_in, known}
-use Rattle.field.proofs.Known.{row_here}
+use Rattle.field.proofs.Known.{table}
+use Rattle.std.specs.Prelude.{Option, Some, None}
+use Rattle.std.specs.List.{position_or_len}
 use Rattle.job_sheet.specs.Adding.{place_in, degrees, place_of}
 
 unfoldable pub is_in : List ℕ → ℕ → Bool
@@ -85,34 +88,17 @@ at_place f d m (k ∷ ks) e = go (eqb k m) refl (at_place f d m ks) e
 
 -- ---- the search among the rows
 
--- the place is not before i
-pub record Placing (m i : ℕ) : Type 0 where
-  pub listed : place_of m < length degrees
-  pub ahead : place_of m ≡ i + place_in (drop i degrees) m
-
-pub place_inside : {m i : ℕ} → Placing m i → i < length degrees
-place_inside p = omega (arith, p.listed, p.ahead)
-
-pub place-from : {m : ℕ} → known m ≡ true → Placing m 0
-place-from {m} e = record { listed = place-within degrees m (known-in m e); ahead = omega arith }
-
--- the degree at i is the first of those from i on
-here : (m i : ℕ) → i < length degrees
-    → place_in (drop i degrees) m ≡ cond (eqb (row_here i).degree m) 0 (suc (place_in (drop (suc i) degrees) m))
+-- the place of the first row of that degree
+pub place-first : (m : ℕ) → position_or_len (λ row. eqb row.degree m) table ≡ place_of m
 unfolding place_in
-here m zero h = refl
-here m (suc zero) h = refl
-here m (suc (suc zero)) h = refl
-here m (suc (suc (suc i))) h = absurd (let b : ⊥ = omega arith in b)
+place-first m = go (eqb 4 m) (eqb 8 m) (eqb 11 m)
+  where
+    go : (a b c : Bool) → cond (not a) (1 + cond (not b) (1 + cond (not c) 1 0) 0) 0 ≡ cond a 0 (suc (cond b 0 (suc (cond c 0 1))))
+    go true b c = refl
+    go false true c = refl
+    go false false true = refl
+    go false false false = refl
 
-pub place-on : {m i : ℕ} → Placing m i → ((row_here i).degree ≡ m → ⊥) → Placing m (i + 1)
-place-on {m} {i} p n =
-    let e : place_in (drop i degrees) m ≡ suc (place_in (drop (suc i) degrees) m) =
-    here m i (place_inside p) ∙ rw (ne_eqb _ _ n) refl in
-    let f : place_in (drop (suc i) degrees) m ≡ place_in (drop (i + 1) degrees) m = rw add-one refl in
-    record { listed = p.listed; ahead = omega (arith, p.ahead, e, f) }
-
-pub place_end : {m i : ℕ} → Placing m i → (row_here i).degree ≡ m → i ≡ place_of m
-place_end {m} {i} p t =
-    let e : place_in (drop i degrees) m ≡ 0 = here m i (place_inside p) ∙ rw (eq-eqb _ _ t) refl in
-    omega (arith, p.ahead, e)
+-- a known field has one
+pub place-found : (m : ℕ) {o : Option ℕ} → known m ≡ true → o ≡ cond (ltb (place_of m) 3) (Some (place_of m)) None → o ≡ Some (place_of m)
+place-found m k e = e ∙ rw (lt-ltb (place_of m) 3 (place-below m k refl)) refl

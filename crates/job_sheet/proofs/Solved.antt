@@ -11,7 +11,7 @@ use Rattle.input.specs.Limit.{limit, widest}
 use Rattle.input.specs.Polynomials.{PolynomialIn}
 use Rattle.input.proofs.Polynomials.{roots_few}
 use Rattle.find_solve.specs.Solving.{SolvedOut}
-use Rattle.find_solve.specs.declared.Counts.{Counts}
+use Rattle.find_solve.specs.declared.Solved.{Solved}
 use Rattle.find_solve.proofs.Tracing.{powers-fit}
 use Rattle.job_records.specs.Layout.{words, part}
 use Rattle.job_records.specs.declared.Job.{Job}
@@ -29,7 +29,7 @@ module _ {file : List ℕ} {j : Job} (s : JobStands file j) where
   pub job-polynomial : PolynomialIn j.m (coefficients_of file j)
   job-polynomial = accepted-in (job-passes refl)
 
-  module _ {bytes list list' : List ℕ} {r : Counts} (b : bytes ≡ part file j.start j.len)
+  module _ {bytes list list' : List ℕ} {r : Solved} (b : bytes ≡ part file j.start j.len)
       (o : SolvedOut j.m (in_force (cutoff_of j)) (words bytes) list r list') where
     -- of the bytes in the file
     solved : SolvedOut j.m (in_force (cutoff_of j)) (coefficients_of file j) list r list'

@@ -1,42 +1,16 @@
 -- The lines of the sheet, from their parts.
---   field-wrote   the line of a field;  apart-wrote  the last line
---   one_word      the number that a total of one word is
---   none-text, highest-text   the highest record, where there is none and where there is one
+--   field-made    the line of a field;  apart-made  the last line
+--   none-put      what is put where there is no highest record
 -- Assumes nothing.
-use Rattle.std.proofs.Common.{◌≡◌, ℕ, ◌+◌, ◌*◌, ◌≤◌, List, [], ◌∷◌, ◌++◌, subst, append_assoc, arith, eq-eqb, ne_eqb}
-use Rattle.job_text.specs.Lines.{line_feed, decimal, spaced, Wrote}
-use Rattle.job_text.proofs.Writing.{wrote_then, spaced-append}
-use Rattle.job_sheet.specs.Figures.{Peak, FieldFigures}
-use Rattle.job_sheet.specs.Calls.{total_of}
-use Rattle.job_sheet.specs.declared.Total.{Total}
+use Rattle.std.proofs.Common.{◌≡◌, ℕ, ◌+◌, ◌*◌, ◌≤◌, length, List, [], ◌∷◌, ◌++◌, refl, ◌∙◌, append_assoc, arith}
+use Rattle.job_text.specs.Lines.{line_feed, decimal, spaced}
+use Rattle.job_text.proofs.Writing.{spaced-append, begun, longer}
+use Rattle.job_sheet.specs.Figures.{FieldFigures}
 use Rattle.job_sheet.specs.Text.{none_text, highest_text, field_text, unknown_word, mark_word, short_word, apart_text}
 
-none-text : (p : Peak) → p.limit ≡ 0 → highest_text p ≡ none_text
-unfolding highest_text
-none-text p e = rw (eq-eqb p.limit 0 e)
-
-highest-text : (p : Peak) → (p.limit ≡ 0 → ⊥) → highest_text p ≡ spaced (p.place ∷ p.steps ∷ p.limit ∷ [])
-unfolding highest_text
-highest-text p n = rw (ne_eqb p.limit 0 n)
-
 -- three dashes have six bytes
-pub none-wrote : (p : Peak) {at end : ℕ} {s s' : List ℕ} → p.limit ≡ 0 → Wrote none_text at s end s'
-    → Wrote (highest_text p) at s end s' × (end ≤ at + 21 * 3)
-none-wrote p h w = (rw (none-text p h) w, omega (arith, w.ended))
-
--- three numbers, each behind its space
-pub highest-wrote : (p : Peak) {at end : ℕ} {s s' : List ℕ} → (p.limit ≡ 0 → ⊥)
-    → Wrote (spaced (p.place ∷ p.steps ∷ p.limit ∷ [])) at s end s' × (end ≤ at + 21 * 3)
-    → Wrote (highest_text p) at s end s' × (end ≤ at + 21 * 3)
-highest-wrote p h w = (rw (highest-text p h) w.0, w.1)
-
--- a total of one word
-pub one_word : (t : Total) → t.high ≡ 0 → t.low ≡ total_of t
-one_word t e = rw e (omega arith)
-
--- one part behind the other, from the front on
-behind : {v w : List ℕ} {a b : ℕ} {s s' s'' : List ℕ} → Wrote v 0 s a s' → Wrote w a s' b s'' → Wrote (v ++ w) 0 s b s''
-behind p q = wrote_then (omega arith) p q
+pub none-put : (s : List ℕ) {t : List ℕ} → t ≡ s ++ none_text → (t ≡ s ++ none_text) × (length t ≤ length s + 21 * 3)
+none-put s w = (w, omega (arith, longer s _ none_text w))
 
 field-parts : (m : ℕ) (f : FieldFigures)
     → (((((decimal m ++ spaced (f.accepted ∷ [])) ++ spaced f.refused) ++ spaced (f.roots ∷ [])) ++ spaced (f.steps ∷ [])) ++ highest_text f.highest) ++ (line_feed ∷ [])
@@ -49,27 +23,23 @@ field-parts m f =
     )
     (simp append_assoc)
 
-pub field-wrote : (m : ℕ) (f : FieldFigures) {a b c d e g end : ℕ} {s s₁ s₂ s₃ s₄ s₅ s₆ s₇ : List ℕ}
-    → Wrote (decimal m) 0 s a s₁
-    → Wrote (spaced (f.accepted ∷ [])) a s₁ b s₂ → Wrote (spaced f.refused) b s₂ c s₃
-    → Wrote (spaced (f.roots ∷ [])) c s₃ d s₄
-    → Wrote (spaced (f.steps ∷ [])) d s₄ e s₅ → Wrote (highest_text f.highest) e s₅ g s₆
-    → Wrote (line_feed ∷ []) g s₆ end s₇
-    → Wrote (field_text m f) 0 s end s₇
-field-wrote m f {end = end} {s = s} {s₇ = s₇} p q r t u v w =
-    subst (λ l. Wrote l 0 s end s₇) (field-parts m f)
-    (behind (behind (behind (behind (behind (behind p q) r) t) u) v) w)
+pub field-made : (m : ℕ) (f : FieldFigures) {s a b c d e g t : List ℕ} → s ≡ [] → a ≡ s ++ decimal m
+    → b ≡ a ++ spaced (f.accepted ∷ []) → c ≡ b ++ spaced f.refused → d ≡ c ++ spaced (f.roots ∷ []) → e ≡ d ++ spaced (f.steps ∷ [])
+    → g ≡ e ++ highest_text f.highest → t ≡ g ++ (line_feed ∷ []) → t ≡ field_text m f
+field-made m f {t = t} n p q r u v w x = parts ∙ field-parts m f
+  where
+    parts : t ≡ (((((decimal m ++ spaced (f.accepted ∷ [])) ++ spaced f.refused) ++ spaced (f.roots ∷ [])) ++ spaced (f.steps ∷ [])) ++ highest_text f.highest) ++ (line_feed ∷ [])
+    parts = rw (x, w, v, u, r, q, begun n p) refl
 
 -- three words with their numbers, and what ends the line
 three : (a b c d e f g : List ℕ) → (((a ++ b) ++ (c ++ d)) ++ (e ++ f)) ++ g ≡ a ++ (b ++ (c ++ (d ++ (e ++ (f ++ g)))))
 three a b c d e f g = simp append_assoc
 
-pub apart-wrote : (unknown mark short : ℕ) {a b c end : ℕ} {s s₁ s₂ s₃ s₄ : List ℕ}
-    → Wrote (unknown_word ++ spaced (unknown ∷ [])) 0 s a s₁
-    → Wrote (mark_word ++ spaced (mark ∷ [])) a s₁ b s₂ → Wrote (short_word ++ spaced (short ∷ [])) b s₂ c s₃
-    → Wrote (line_feed ∷ []) c s₃ end s₄
-    → Wrote (apart_text unknown mark short) 0 s end s₄
-apart-wrote unknown mark short {end = end} {s = s} {s₄ = s₄} p q r w =
-    subst (λ l. Wrote l 0 s end s₄)
-    (three unknown_word (spaced (unknown ∷ [])) mark_word (spaced (mark ∷ [])) short_word (spaced (short ∷ [])) (line_feed ∷ []))
-    (behind (behind (behind p q) r) w)
+pub apart-made : (unknown mark short : ℕ) {s a b c t : List ℕ} → s ≡ [] → a ≡ s ++ (unknown_word ++ spaced (unknown ∷ []))
+    → b ≡ a ++ (mark_word ++ spaced (mark ∷ [])) → c ≡ b ++ (short_word ++ spaced (short ∷ [])) → t ≡ c ++ (line_feed ∷ [])
+    → t ≡ apart_text unknown mark short
+apart-made unknown mark short {t = t} n p q r w =
+    parts ∙ three unknown_word (spaced (unknown ∷ [])) mark_word (spaced (mark ∷ [])) short_word (spaced (short ∷ [])) (line_feed ∷ [])
+  where
+    parts : t ≡ (((unknown_word ++ spaced (unknown ∷ [])) ++ (mark_word ++ spaced (mark ∷ []))) ++ (short_word ++ spaced (short ∷ []))) ++ (line_feed ∷ [])
+    parts = rw (w, r, q, begun n p) refl

@@ -16,7 +16,7 @@ use Rattle.job_records.specs.declared.Read.TheVariants.{Record}
 use Rattle.job_records.proofs.Forward.{stops-only, goes-only}
 use Rattle.job_sheet.specs.Entries.{Entry, entry_here, entries}
 use Rattle.job_sheet.specs.Figures.{count_of, sum_of, numbered, accepted_in, FieldFigures, figures_at, figures_of}
-use Rattle.job_sheet.specs.Calls.{told_field, told_sheet, Word, Sheets}
+use Rattle.job_sheet.specs.Calls.{told_field, told_sheet, Sheets}
 use Rattle.job_sheet.specs.Adding.{degrees, place_of, no_figures, with_accepted, with_refused, ended_sheet, CountedIs}
 use Rattle.job_sheet.specs.Adding.{RoomForRecord, RoomForRefusal}
 use Rattle.job_sheet.specs.declared.FieldLine.{FieldLine}
@@ -160,15 +160,15 @@ module _ {file : List ℕ} {lines : List FieldLine} {unknown at k : ℕ} (s : Sh
           (omega (arith, s.few, o.ahead, o.within)))
 
       pub sheet-refused : (d : FieldLine) {z : ℕ} (l : FieldLine) → z ≡ x
-          → (told_field l ≡ with_refused (told_field (get_or lines i d)) z) × Word l
+          → told_field l ≡ with_refused (told_field (get_or lines i d)) z
           → Sheeting file (set lines i l) unknown next (k + 1)
       sheet-refused d {z} l e h =
           let field : entry.field ≡ m = entry-field (drop at file) ∙ sym f in
           its-turn
           (told-set s.told refused-known p entry field (record {
-            is = h.0 ∙ ap₂ with_refused (told_line s.told refused-known p d).is e
+            is = h ∙ ap₂ with_refused (told_line s.told refused-known p d).is e
                 ∙ sym (line_refused m s.front entry x field its-number low (goes-only file at g));
-          }) h.1)
+          }))
           (strange-kept (λ y. n (sym its-number ∙ y)))
 
   -- ---- an accepted record
@@ -179,8 +179,8 @@ module _ {file : List ℕ} {lines : List FieldLine} {unknown at k : ℕ} (s : Sh
     counts : AcceptedEntry entry j.m c
     counts = read-accepted file at j g i
 
-    pub record-room : length file < 2 ^ 64 → RoomForRecord (get_or lines p d) c
-    record-room l =
+    pub record-room : length file < 2 ^ 64 → c.steps < 2 ^ 16 → RoomForRecord (get_or lines p d) c
+    record-room l w =
         let o = read-on file at (sym g) in
         let few = steps-before j.m in
         room-for-record (told_line s.told (accepted-known file at j g) q d)
@@ -188,7 +188,7 @@ module _ {file : List ℕ} {lines : List FieldLine} {unknown at k : ℕ} (s : Sh
         (omega (arith, s.roots j.m, accepted-roots file at j g i, o.within)) (omega arith)
 
     pub sheet-accepted : (l : FieldLine)
-        → (told_field l ≡ with_accepted (told_field (get_or lines p d)) (k + 1) c.roots c.steps c.limit) × Word l
+        → told_field l ≡ with_accepted (told_field (get_or lines p d)) (k + 1) c.roots c.steps c.limit
         → Sheeting file (set lines p l) unknown j.next (k + 1)
     sheet-accepted l h =
         let e = counts in
@@ -197,11 +197,11 @@ module _ {file : List ℕ} {lines : List FieldLine} {unknown at k : ℕ} (s : Sh
         (λ z. omega (arith, e.roots, accepted-roots file at j g i))
         (told-set s.told (accepted-known file at j g) q entry e.field (record {
           is =
-              h.0
+              h
               ∙ alike (told_line s.told (accepted-known file at j g) q d).is number (sym e.roots)
               (sym e.steps) (sym e.limit)
               ∙ sym (line-accepted j.m s.front entry e.field e.number);
-        }) h.1)
+        }))
         (strange-kept (λ y. omega (arith, e.number)))
 
   -- ---- the end
@@ -210,7 +210,7 @@ module _ {file : List ℕ} {lines : List FieldLine} {unknown at k : ℕ} (s : Sh
   told-all : {es : List Entry} {a b : ℕ} → entries file ≡ es → Told es lines → unknown ≡ count_of (numbered 1) es
       → a ≡ count_of (numbered 11) es → b ≡ count_of (numbered 12) es
       → Sheets file (record { lines = lines; unknown = unknown; mark = a; short = b })
-  told-all {es} {a} {b} e t u m h = (whole ∙ ap figures_of (sym e), t.words)
+  told-all {es} {a} {b} e t u m h = whole ∙ ap figures_of (sym e)
     where
       whole : told_sheet (record { lines = lines; unknown = unknown; mark = a; short = b }) ≡ figures_of es
       whole = let fields = t.are in cc

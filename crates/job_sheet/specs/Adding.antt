@@ -6,12 +6,14 @@
 --   with_accepted    the figures of a field with one accepted record more, by its number in the file, its roots, steps
 --                   and limit
 --   with_refused     with one more that is refused under a number
---   ended_sheet      the sheet where reading ends, or stops under 11 or 12
+--   stop_number      the number under which reading stopped;  ended_sheet  the sheet where it ends, or stops under 11 or 12
 --   JobStands       an accepted record stands somewhere in a file
 --   CountedIs       what an accepted record counts
 --   RoomForRecord, RoomForRefusal   one more can be counted
 -- Assumes nothing.
-use Rattle.std.specs.Prelude.{◌≡◌, ℕ, suc, ◌+◌, ◌-◌, ◌^◌, ◌<◌, ◌≤◌, cond, List, [], ◌∷◌, map, length, ◌==◌, slice_index, slice_index_or, slice_set}
+use Rattle.std.specs.Prelude.{◌≡◌, ℕ, suc, ◌+◌, ◌-◌, ◌^◌, ◌<◌, ◌≤◌, cond, List, [], ◌∷◌, map, length, ◌==◌, slice_index, slice_index_or, slice_set, Option, Some, None}
+use Rattle.refusals.specs.Numbers.{number_of}
+use Rattle.refusals.specs.declared.Refusal.{Refusal}
 use Rattle.field.specs.Rows.{rows}
 use Rattle.field.specs.Field.{roots_at}
 use Rattle.input.specs.Cutoff.{in_force}
@@ -22,7 +24,7 @@ use Rattle.job_records.specs.Reading.{told_read, read_at}
 use Rattle.job_records.specs.declared.Job.{Job}
 use Rattle.job_records.specs.declared.Read.TheVariants.{Record}
 use Rattle.job_solve.specs.Solving.{cutoff_of}
-use Rattle.job_sheet.specs.Figures.{Peak, no_peak, better, FieldFigures}
+use Rattle.job_sheet.specs.Figures.{Peak, better, FieldFigures}
 use Rattle.job_sheet.specs.declared.Counted.{Counted}
 use Rattle.job_sheet.specs.declared.FieldLine.{FieldLine}
 use Rattle.job_sheet.specs.declared.Sheet.{Sheet}
@@ -38,11 +40,11 @@ degrees = map (λ r. r.0) rows
 abbrev pub place_of : ℕ → ℕ
 place_of m = place_in degrees m
 
-unfoldable pub risen : Peak → Peak → Peak
-risen p q = cond (q.limit == 0) p (better p q)
+unfoldable pub risen : Option Peak → Peak → Option Peak
+risen p q = cond (q.limit == 0) p (better p (Some q))
 
 abbrev pub no_figures : FieldFigures
-no_figures = record { accepted = 0; refused = 0 ∷ 0 ∷ 0 ∷ 0 ∷ 0 ∷ []; roots = 0; steps = 0; highest = no_peak }
+no_figures = record { accepted = 0; refused = 0 ∷ 0 ∷ 0 ∷ 0 ∷ 0 ∷ []; roots = 0; steps = 0; highest = None }
 
 abbrev pub with_accepted : FieldFigures → ℕ → ℕ → ℕ → ℕ → FieldFigures
 with_accepted f k s steps limit = record {
@@ -62,6 +64,11 @@ with_refused f n = record {
   steps = f.steps;
   highest = f.highest;
 }
+
+-- 0 where reading did not stop
+abbrev pub stop_number : Option Refusal → ℕ
+stop_number None = 0
+stop_number (Some k) = number_of k
 
 -- 11 or 12 is counted once, and nothing else
 abbrev pub ended_sheet : List FieldLine → ℕ → ℕ → Sheet
@@ -89,7 +96,7 @@ CountedIs file j r = CountedAt j.m (cutoff_of j) (words (part file j.start j.len
 pub record RoomForRecord (l : FieldLine) (c : Counted) : Type 0 where
   pub accepted : l.accepted + 1 < 2 ^ 64
   pub roots : l.roots + c.roots < 2 ^ 64
-  pub high : l.steps.high + 1 < 2 ^ 64
+  pub steps : l.steps + c.steps < 2 ^ 128
 
 pub record RoomForRefusal (l : FieldLine) (n : ℕ) : Type 0 where
   pub least : 2 ≤ n

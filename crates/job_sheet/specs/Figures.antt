@@ -2,18 +2,18 @@
 --   count_of       how many entries pass a test;  sum_of  the sum of a figure over the entries that pass it
 --   under         is an entry one of a field, under a number?  accepted_in  under 0
 --   competes      is it an accepted one of the field whose limit is not 0?
---   Peak          a record by its number in the file, its steps and their limit; number 0 is none
---   no_peak        no record
+--   Peak          a record by its number in the file, its steps and their limit
 --   peak_of        an entry as a peak, by its number
 --   stands_lower   does the first stand lower against its limit than the second? s/l < t/k is s k < t l
---   better        the higher of two, the first where they stand equally high; where one is none, the other
+--   higher        the higher of two, the first where they stand equally high
+--   better        so of what may be none: where one is none, the other
 --   highest_from   the record of a field whose steps stand highest against their limit, the first of them where several
 --                 do; the first entry has the number k
 --   refused_numbers   the numbers that a record of a known field is refused under
 --   FieldFigures  what the sheet has of a field;  figures_at  of the entries
 --   Figures       what the sheet has of a file;  figures_of  of the entries, one line for each known field
 -- Assumes nothing.
-use Rattle.std.specs.Prelude.{ℕ, suc, ◌+◌, ◌*◌, Bool, cond, not, ◌&&◌, List, [], ◌∷◌, map, ◌==◌, nat_lt}
+use Rattle.std.specs.Prelude.{ℕ, suc, ◌+◌, ◌*◌, Bool, cond, not, ◌&&◌, List, [], ◌∷◌, map, ◌==◌, nat_lt, Option, Some, None}
 use Rattle.field.specs.Rows.{rows}
 use Rattle.job_sheet.specs.Entries.{Entry}
 
@@ -42,9 +42,6 @@ pub record Peak : Type 0 where
   pub steps : ℕ
   pub limit : ℕ
 
-abbrev pub no_peak : Peak
-no_peak = record { place = 0; steps = 0; limit = 0 }
-
 abbrev pub peak_of : ℕ → Entry → Peak
 peak_of k e = record { place = k; steps = e.steps; limit = e.limit }
 
@@ -53,14 +50,19 @@ abbrev pub stands_lower : Peak → Peak → Bool
 stands_lower p q = nat_lt (p.steps * q.limit) (q.steps * p.limit)
 
 -- ties go to the first
-unfoldable pub better : Peak → Peak → Peak
-better p q = cond (p.limit == 0) q (cond (stands_lower p q) q p)
+abbrev pub higher : Peak → Peak → Peak
+higher p q = cond (stands_lower p q) q p
+
+unfoldable pub better : Option Peak → Option Peak → Option Peak
+better None q = q
+better (Some p) None = Some p
+better (Some p) (Some q) = Some (higher p q)
 
 -- limit 0 does not compete
-unfoldable pub highest_from : ℕ → ℕ → List Entry → Peak
-highest_from m k [] = no_peak
+unfoldable pub highest_from : ℕ → ℕ → List Entry → Option Peak
+highest_from m k [] = None
 highest_from m k (e ∷ es) =
-    cond (competes m e) (better (peak_of k e) (highest_from m (suc k) es)) (highest_from m (suc k) es)
+    cond (competes m e) (better (Some (peak_of k e)) (highest_from m (suc k) es)) (highest_from m (suc k) es)
 
 -- the record's number is counted from 1 over all records of the file
 pub record FieldFigures : Type 0 where
@@ -68,7 +70,7 @@ pub record FieldFigures : Type 0 where
   pub refused : List ℕ
   pub roots : ℕ
   pub steps : ℕ
-  pub highest : Peak
+  pub highest : Option Peak
 
 abbrev pub refused_numbers : List ℕ
 refused_numbers = 2 ∷ 3 ∷ 4 ∷ 5 ∷ 6 ∷ []

@@ -5,9 +5,9 @@
 --   IsHighest   it is so, or it is none where no entry competes
 --   HighestEach so of the figures of each field, in the order of the fields
 -- Assumes nothing.
-use Rattle.std.specs.Prelude.{◌≡◌, ℕ, suc, ◌*◌, ◌<◌, ◌≤◌, true, List, [], ◌∷◌, ◌≢◌}
+use Rattle.std.specs.Prelude.{◌≡◌, ℕ, suc, ◌*◌, ◌<◌, ◌≤◌, true, List, [], ◌∷◌, ◌≢◌, Option, Some, None}
 use Rattle.job_sheet.specs.Entries.{Entry}
-use Rattle.job_sheet.specs.Figures.{Peak, no_peak, peak_of, competes, FieldFigures}
+use Rattle.job_sheet.specs.Figures.{Peak, peak_of, competes, FieldFigures}
 
 -- the first has the number 1
 pub data EntryAt : List Entry → ℕ → Entry → Type 0 where
@@ -24,9 +24,9 @@ pub record HighestAt (m : ℕ) (es : List Entry) (p : Peak) : Type 0 where
   pub first : (k : ℕ) (e : Entry) → EntryAt es k e → competes m e ≡ true → k < p.place
       → e.steps * p.limit < p.steps * e.limit
 
-pub data IsHighest (m : ℕ) (es : List Entry) (p : Peak) : Type 0 where
-  some : HighestAt m es p → IsHighest m es p
-  nothing : p ≡ no_peak → ((k : ℕ) (e : Entry) → EntryAt es k e → competes m e ≢ true) → IsHighest m es p
+pub data IsHighest (m : ℕ) (es : List Entry) (p : Option Peak) : Type 0 where
+  some : (q : Peak) → p ≡ Some q → HighestAt m es q → IsHighest m es p
+  nothing : p ≡ None → ((k : ℕ) (e : Entry) → EntryAt es k e → competes m e ≢ true) → IsHighest m es p
 
 -- a field is a row, by its degree
 pub data HighestEach (es : List Entry) : List (ℕ × ℕ) → List FieldFigures → Type 0 where

@@ -1,10 +1,10 @@
 -- Figures added up, and the figures of two files one behind the other (docs/RULES.md section 13.3).
 --   plus            the sum of numbers;  plus_each  sums by place
 --   outcomes_in      how many outcomes figures tell of: accepted and refused in each field, unknown fields, 11 and 12
---   counted_on       a peak of a file that n outcomes stand before
+--   peak_on          a peak of a file that n outcomes stand before;  counted_on  so of what may be none
 --   joined_field, joined_fields, joined_figures   the figures of two files: sums, and the better of the highest
 -- Assumes nothing.
-use Rattle.std.specs.Prelude.{ℕ, ◌+◌, cond, List, [], ◌∷◌, map, ◌==◌}
+use Rattle.std.specs.Prelude.{ℕ, ◌+◌, List, [], ◌∷◌, map, Option, Some, None}
 use Rattle.job_sheet.specs.Figures.{Peak, better, FieldFigures, Figures}
 
 unfoldable pub plus : List ℕ → ℕ
@@ -14,8 +14,12 @@ plus (n ∷ l) = n + plus l
 abbrev pub outcomes_in : Figures → ℕ
 outcomes_in f = plus (map (λ l. l.accepted + plus l.refused) f.fields) + f.unknown + f.mark + f.short
 
-abbrev pub counted_on : ℕ → Peak → Peak
-counted_on n p = cond (p.limit == 0) p (record { place = n + p.place; steps = p.steps; limit = p.limit })
+abbrev pub peak_on : ℕ → Peak → Peak
+peak_on n p = record { place = n + p.place; steps = p.steps; limit = p.limit }
+
+abbrev pub counted_on : ℕ → Option Peak → Option Peak
+counted_on n None = None
+counted_on n (Some p) = Some (peak_on n p)
 
 -- sums by place
 unfoldable pub plus_each : List ℕ → List ℕ → List ℕ

@@ -6,7 +6,7 @@
 --   field_room, apart_room   how many bytes these lines have at most
 --   FitsLine      a line of the sheet that fits: its total of steps is one word
 -- Assumes nothing.
-use Rattle.std.specs.Prelude.{◌≡◌, ℕ, ◌+◌, ◌*◌, cond, List, [], ◌∷◌, ◌++◌, length, ◌==◌}
+use Rattle.std.specs.Prelude.{◌≡◌, ℕ, ◌+◌, ◌*◌, ◌^◌, ◌<◌, List, [], ◌∷◌, ◌++◌, length, Option, Some, None}
 use Rattle.job_text.specs.Lines.{space, line_feed, decimal, spaced}
 use Rattle.job_sheet.specs.Figures.{Peak, FieldFigures}
 use Rattle.job_sheet.specs.declared.FieldLine.{FieldLine}
@@ -17,8 +17,9 @@ dash = 45
 abbrev pub none_text : List ℕ
 none_text = space ∷ dash ∷ space ∷ dash ∷ space ∷ dash ∷ []
 
-unfoldable pub highest_text : Peak → List ℕ
-highest_text p = cond (p.limit == 0) none_text (spaced (p.place ∷ p.steps ∷ p.limit ∷ []))
+abbrev pub highest_text : Option Peak → List ℕ
+highest_text None = none_text
+highest_text (Some p) = spaced (p.place ∷ p.steps ∷ p.limit ∷ [])
 
 -- in the order of the columns
 abbrev pub field_text : ℕ → FieldFigures → List ℕ
@@ -51,5 +52,5 @@ abbrev pub apart_room : ℕ
 apart_room = 19 + 21 * 3
 
 pub record FitsLine (l : FieldLine) : Type 0 where
-  pub word : l.steps.high ≡ 0
+  pub word : l.steps < 2 ^ 64
   pub five : length l.refused ≡ 5

@@ -24,7 +24,7 @@ use Rattle.table_rules.specs.Demand.{steps_at}
 use Rattle.find_solve.specs.Calls.{solve_tests, solve_outcome}
 use Rattle.find_solve.specs.Solving.{SolvedOut}
 use Rattle.find_solve.proofs.Admitting.{admitted, solved-at}
-use Rattle.find_solve.specs.declared.Counts.{Counts}
+use Rattle.find_solve.specs.declared.Solved.{Solved}
 use Rattle.job_records.specs.Layout.{words, part}
 use Rattle.job_records.specs.Cutoffs.{asked}
 use Rattle.job_records.specs.Reading.{Outcome, call_tests, told_read, read_at, Spelled}
@@ -82,7 +82,7 @@ module _ {n : ℕ} {bytes room after : List ℕ} (h : Spelled bytes room n after
         (subst (λ cs. Passed (solve_tests j.m (cutoff_of j) cs list list)) (sym front) (passes_on j.m (cutoff_of j) (words bytes) list list p.passed l l)) e
 
     -- it gives the roots and the steps
-    pub solved-spelled : {r : Counts} {list list' : List ℕ} → SolvedOut j.m k (take n after) list r list'
+    pub solved-spelled : {r : Solved} {list list' : List ℕ} → SolvedOut j.m k (take n after) list r list'
         → SolvedOut j.m (in_force (cutoff_of j)) (words bytes) list r list'
     unfolding front
     solved-spelled {r} {list} {list'} o = subst (λ cs. SolvedOut j.m (in_force (cutoff_of j)) cs list r list') front (solved-at e o)

@@ -9,7 +9,7 @@ ghost use Rattle.find_solve.specs.Solving.{SolvedOut};
 ghost use Rattle.job_records.specs.Layout.{words};
 ghost use Rattle.job_solve.specs.Solving.{cutoff_of, Accepted};
 
-use find_solve::{Counts, solve_in};
+use find_solve::{Solved, solve_in};
 use input::{COEFFICIENTS, in_force};
 use job_records::Job;
 
@@ -17,12 +17,11 @@ use job_records::Job;
 pub fn cutoff_in_force(job: Job) -> u16
     ensures { result ≡ in_force (cutoff_of job) }
 {
-    let cutoff = job.cutoff;
-    in_force(job_records::asked(cutoff))
+    in_force(job_records::asked(job.cutoff))
 }
 
 // The roots of an accepted record with these coefficient bytes, at the front of the list; how many, and the steps.
-pub fn solve_job(job: Job, bytes: &[u8], roots: &mut [u16]) -> Counts
+pub fn solve_job(job: Job, bytes: &[u8], roots: &mut [u16]) -> Solved
     requires { Accepted job (words bytes.now) × (limit ≤ length roots.old) }
     ensures { SolvedOut job.m (in_force (cutoff_of job)) (words bytes.now)
         roots.old result roots.new }

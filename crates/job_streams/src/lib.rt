@@ -1,9 +1,12 @@
 // Command line, standard input and standard output of the programs: what is wrong with them is said on standard error.
-// Each function is given the runtime and the program's name, as b"roots", and puts that name ahead of what it says.
+// What is told by a program stands behind its name, as b"roots".
 #![tactic(auto)]
 
 ghost use Rattle.std.specs.Prelude.{◌≡◌, ◌≤◌, length, take, Decides};
+ghost use Rattle.job_streams.specs.Reading.{came};
 
+use job_records::Stop;
+use refusals::Refusal;
 use std::env::{Env, FillError};
 use std::io;
 use std::io::Read;
@@ -17,11 +20,8 @@ const WORD: usize = 4096;
 // The version of the programs.
 const VERSION: [u8; 5] = *b"0.1.0";
 
-// The number under which a record without its mark is refused.
-const UNMARKED: u16 = 11;
-
 // What a word of the command line asks for.
-#[derive(Drop)]
+#[derive(Clone, Copy)]
 enum Word {
     Help,
     Version,
@@ -29,18 +29,34 @@ enum Word {
 }
 
 // What comes after the input that was read: nothing, more, or what a read that failed does not tell.
-#[derive(Drop)]
+#[derive(Clone, Copy)]
 pub enum Behind {
     Nothing,
     More,
     Unknown,
 }
 
-// How many bytes came from standard input; none where a read failed.
-#[derive(Drop)]
-pub struct Input {
-    pub failed: bool,
+// A program: the runtime, and its name.
+#[derive(Clone, Copy)]
+pub struct Program<'a> {
+    pub rt: &'a HostRuntime,
+    pub name: &'a [u8],
+}
+
+// What failed, and is told on standard error already.
+#[derive(Clone, Copy)]
+pub struct Told;
+
+// A read that failed, which is told already: how many bytes came ahead of it.
+#[derive(Clone, Copy)]
+pub struct Broken {
     pub bytes: usize,
+}
+
+impl From<Broken> for Told {
+    fn from(_: Broken) -> Told {
+        Told
+    }
 }
 
 // Room for the most bytes that a program reads. Of it only the length is told.
@@ -48,16 +64,6 @@ pub fn large_buffer() -> [u8; MOST]
     ensures { 65536 ≡ length result }
 {
     [0; MOST]
-}
-
-// Says a text on standard error. That it cannot be said can be told nowhere.
-pub fn say(rt: &HostRuntime, text: &[u8]) {
-    let _ = rt.stderr().write_all(text);
-}
-
-// Says a number in decimal on standard error.
-pub fn say_number(rt: &HostRuntime, n: u64) {
-    let _ = rt.stderr().print(n);
 }
 
 // A text of an error in front of the system's number for it.
@@ -68,43 +74,12 @@ fn front(text: &str) -> &str {
     }
 }
 
-// Says the system's text for an error, without its number. Where there is no memory for that, the number is said too.
-fn say_error(rt: &HostRuntime, error: io::Error) {
-    match error.to_string(rt.alloc()) {
-        Ok(text) => say(rt, front(text.as_str()).as_bytes()),
-        Err(_) => {
-            let _ = rt.stderr().print(error);
-        }
-    }
-}
-
-// Says that something failed: what, as b"salvage: kept.lr", and the system's text for the error.
-pub fn tell_error(rt: &HostRuntime, what: &[u8], error: io::Error) {
-    say(rt, what);
-    say(rt, b": ");
-    say_error(rt, error);
-    say(rt, b"\n");
-}
-
-// Tells that a stream of the program failed: its name, then the stream, as b": standard input", and the system's text
-// for the error.
-fn fail(rt: &HostRuntime, program: &[u8], stream: &[u8], error: io::Error) {
-    say(rt, program);
-    tell_error(rt, stream, error);
-}
-
 // Are these the same bytes?
+// kept: (a) that texts are told apart exactly is a promise on this name (docs/PROMISES.md)
 pub fn same(a: &[u8], b: &[u8]) -> bool
     ensures { Decides result (a.now ≡ b.now) }
 {
     a == b
-}
-
-// How much of a room of n bytes is filled: no more than MOST.
-fn at_most(n: usize) -> usize
-    ensures { (result ≤ n) × (result ≤ 65536) }
-{
-    if n < MOST { n } else { MOST }
 }
 
 // What a word asks for.
@@ -121,52 +96,15 @@ fn word_of(word: &[u8]) -> Word {
 // Which of several words is the first that is not known: `--help` and `--version` stand alone.
 fn first_unknown(word: &[u8]) -> usize {
     match word_of(word) {
-        Word::Help => 2,
-        Word::Version => 2,
+        Word::Help | Word::Version => 2,
         Word::Unknown => 1,
-    }
-}
-
-// Says that a program does not know a word, and how to use the program.
-fn refuse(rt: &HostRuntime, program: &[u8], word: &[u8], usage: &[u8]) {
-    say(rt, program);
-    say(rt, b": unknown word '");
-    say(rt, word);
-    say(rt, b"'; usage: ");
-    say(rt, usage);
-    say(rt, b"\n");
-}
-
-// Prints the program's name and version.
-pub fn print_version(rt: &HostRuntime, program: &[u8]) {
-    print(rt, program, program);
-    print(rt, program, b" ");
-    print(rt, program, &VERSION);
-    print(rt, program, b"\n");
-}
-
-// Does what the one word of a command line asks for; what is not known is refused.
-fn obey(rt: &HostRuntime, program: &[u8], word: &[u8], usage: &[u8], help: &[u8]) {
-    match word_of(word) {
-        Word::Help => {
-            print(rt, program, b"usage: ");
-            print(rt, program, usage);
-            print(rt, program, b"\n");
-            print(rt, program, help);
-        }
-        Word::Version => print_version(rt, program),
-        Word::Unknown => refuse(rt, program, word, usage),
     }
 }
 
 // Is there a word at a place of the command line? The program's name stands at place 0.
 pub fn has_word(rt: &HostRuntime, i: usize) -> bool {
     let mut one = [0u8; 1];
-    match rt.arg(i, &mut one) {
-        Ok(_) => true,
-        Err(FillError::TooLong) => true,
-        Err(FillError::NotPresent) => false,
-    }
+    !matches!(rt.arg(i, &mut one), Err(FillError::NotPresent))
 }
 
 // Puts the word at a place of the command line into the room, and tells its length: 0 where it is missing or longer than
@@ -174,118 +112,175 @@ pub fn has_word(rt: &HostRuntime, i: usize) -> bool {
 pub fn word_at(rt: &HostRuntime, i: usize, room: &mut [u8]) -> usize
     ensures { (result ≤ length room.new) × (result ≡ length (take result room.new)) }
 {
-    match rt.arg(i, room) {
-        Ok(n) => n,
-        Err(_) => 0,
-    }
+    rt.arg(i, room).unwrap_or(0)
 }
 
-// Is a program to go on? It is where its command line has no word. `--help` and `--version` are obeyed, and any other
-// word is refused, before anything is read or written.
-pub fn starts(rt: &HostRuntime, program: &[u8], usage: &[u8], help: &[u8]) -> bool {
-    if !has_word(rt, 1) {
-        return true;
+impl<'a> Program<'a> {
+    // Says a text on standard error. That it cannot be said can be told nowhere.
+    pub fn say(&self, text: &[u8]) {
+        let _ = self.rt.stderr().write_all(text);
     }
-    let mut room = [0u8; WORD];
-    let n = word_at(rt, 1, &mut room);
-    if !has_word(rt, 2) {
-        obey(rt, program, &room[..n], usage, help);
-        return false;
-    }
-    let m = word_at(rt, first_unknown(&room[..n]), &mut room);
-    refuse(rt, program, &room[..m], usage);
-    false
-}
 
-// Reads until MOST bytes came, the room is full or the input ends. A read that fails is told.
-pub fn read_all(rt: &HostRuntime, program: &[u8], room: &mut [u8]) -> Input
-    ensures prefix_len { (result.bytes ≤ length room.new) × (result.bytes ≡ length (take result.bytes room.new)) }
-    ensures bytes_bound { result.bytes ≤ 65536 }
-{
-    let most = at_most(room.len());
-    let mut stdin = rt.stdin();
-    let mut done = 0;
-    while done < most {
-        match stdin.read(&mut room[done..most]) {
-            Err(error) => {
-                fail(rt, program, b": standard input", error);
-                return Input {
-                    failed: true,
-                    bytes: 0,
-                };
+    // Says a number in decimal on standard error.
+    pub fn say_number(&self, n: u64) {
+        let _ = self.rt.stderr().print(n);
+    }
+
+    // Says a line behind the program's name.
+    fn tell(&self, line: &[u8]) {
+        self.say(self.name);
+        self.say(b": ");
+        self.say(line);
+        self.say(b"\n");
+    }
+
+    // Says the system's text for an error, without its number. Where there is no memory for that, the number is said
+    // too.
+    fn say_error(&self, error: io::Error) {
+        match error.to_string(self.rt.alloc()) {
+            Ok(text) => self.say(front(text.as_str()).as_bytes()),
+            Err(_) => {
+                let _ = self.rt.stderr().print(error);
             }
-            Ok(more) => {
-                if more == 0 {
-                    break;
+        }
+    }
+
+    // Tells that something failed: what, as b"standard input" or b"kept.lr", and the system's text for the error.
+    pub fn tell_error(&self, what: &[u8], error: io::Error) -> Told {
+        self.say(self.name);
+        self.say(b": ");
+        self.say(what);
+        self.say(b": ");
+        self.say_error(error);
+        self.say(b"\n");
+        Told
+    }
+
+    // Says that the program does not know a word, and how to use it.
+    fn refuse(&self, word: &[u8], usage: &[u8]) {
+        self.say(self.name);
+        self.say(b": unknown word '");
+        self.say(word);
+        self.say(b"'; usage: ");
+        self.say(usage);
+        self.say(b"\n");
+    }
+
+    // Prints a text. That it cannot be printed is told.
+    pub fn print(&self, text: &[u8]) -> Result<(), Told> {
+        match self.rt.stdout().write_all(text) {
+            Ok(()) => Ok(()),
+            Err(error) => Err(self.tell_error(b"standard output", error)),
+        }
+    }
+
+    // Prints a text; that it cannot be printed is told, and nothing else follows from it.
+    fn show(&self, text: &[u8]) {
+        let _ = self.print(text);
+    }
+
+    // Prints the program's name and version.
+    pub fn print_version(&self) {
+        self.show(self.name);
+        self.show(b" ");
+        self.show(&VERSION);
+        self.show(b"\n");
+    }
+
+    // Does what the one word of a command line asks for; what is not known is refused.
+    fn obey(&self, word: &[u8], usage: &[u8], help: &[u8]) {
+        match word_of(word) {
+            Word::Help => {
+                self.show(b"usage: ");
+                self.show(usage);
+                self.show(b"\n");
+                self.show(help);
+            }
+            Word::Version => self.print_version(),
+            Word::Unknown => self.refuse(word, usage),
+        }
+    }
+
+    // Is the program to go on? It is where its command line has no word. `--help` and `--version` are obeyed, and any
+    // other word is refused, before anything is read or written.
+    pub fn starts(&self, usage: &[u8], help: &[u8]) -> bool {
+        if !has_word(self.rt, 1) {
+            return true;
+        }
+        let mut room = [0u8; WORD];
+        let n = word_at(self.rt, 1, &mut room);
+        if !has_word(self.rt, 2) {
+            self.obey(&room[..n], usage, help);
+            return false;
+        }
+        let m = word_at(self.rt, first_unknown(&room[..n]), &mut room);
+        self.refuse(&room[..m], usage);
+        false
+    }
+
+    // Reads until MOST bytes came, the room is full or the input ends, and tells how many bytes came, also where a read
+    // fails, which is told.
+    pub fn read_all(&self, room: &mut [u8]) -> Result<usize, Broken>
+        ensures prefix_len { (came result ≤ length room.new) × (came result ≡ length (take (came result) room.new)) }
+        ensures bytes_bound { came result ≤ 65536 }
+    {
+        let most = room.len().min(MOST);
+        let mut stdin = self.rt.stdin();
+        let mut done = 0;
+        while done < most {
+            match stdin.read(&mut room[done..most]) {
+                Err(error) => {
+                    self.tell_error(b"standard input", error);
+                    return Err(Broken { bytes: done });
                 }
-                done += more;
+                Ok(0) => break,
+                Ok(more) => done += more,
             }
         }
+        Ok(done)
     }
-    Input {
-        failed: false,
-        bytes: done,
-    }
-}
 
-// Prints a text; false where that fails, which is told.
-pub fn print(rt: &HostRuntime, program: &[u8], text: &[u8]) -> bool {
-    match rt.stdout().write_all(text) {
-        Ok(()) => true,
-        Err(error) => {
-            fail(rt, program, b": standard output", error);
-            false
+    // Asks what comes after the n bytes that were read: only where they are the most that a program reads can there be
+    // more. A read that fails is told.
+    pub fn ask_behind(&self, n: usize) -> Behind {
+        if n < MOST {
+            return Behind::Nothing;
+        }
+        let mut one = [0u8; 1];
+        match self.rt.stdin().read(&mut one) {
+            Err(error) => {
+                self.tell_error(b"standard input", error);
+                Behind::Unknown
+            }
+            Ok(0) => Behind::Nothing,
+            Ok(_) => Behind::More,
         }
     }
-}
 
-// Asks what comes after the n bytes that were read: only where they are the most that a program reads can there be
-// more. A read that fails is told.
-pub fn ask_behind(rt: &HostRuntime, program: &[u8], n: usize) -> Behind {
-    if n < MOST {
-        return Behind::Nothing;
+    // Says that there is input past the most that a program reads.
+    pub fn tell_ignored(&self) {
+        self.tell(b"input behind 65,536 bytes is ignored");
     }
-    let mut one = [0u8; 1];
-    match rt.stdin().read(&mut one) {
-        Err(error) => {
-            fail(rt, program, b": standard input", error);
-            Behind::Unknown
+
+    // Where n bytes came: says so if there is input past the most that a program reads.
+    pub fn tell_behind(&self, n: usize) {
+        if let Behind::More = self.ask_behind(n) {
+            self.tell_ignored();
         }
-        Ok(0) => Behind::Nothing,
-        Ok(_) => Behind::More,
     }
-}
 
-// Says that there is input past the most that a program reads.
-pub fn tell_ignored(rt: &HostRuntime, program: &[u8]) {
-    say(rt, program);
-    say(rt, b": input behind 65,536 bytes is ignored\n");
-}
-
-// Where n bytes came: says so if there is input past the most that a program reads.
-pub fn tell_behind(rt: &HostRuntime, program: &[u8], n: usize) {
-    match ask_behind(rt, program, n) {
-        Behind::More => tell_ignored(rt, program),
-        Behind::Nothing => {}
-        Behind::Unknown => {}
+    // Says at which record of a job file, and at which byte, reading stopped, and why: its mark is missing, or it ends
+    // early.
+    pub fn tell_stop(&self, stop: Stop) {
+        self.say(self.name);
+        self.say(b": reading stopped at record ");
+        self.say_number(stop.record_number);
+        self.say(b" (byte ");
+        self.say_number(stop.at as u64);
+        match stop.refusal {
+            Refusal::Mark => self.say(b"): its mark is missing"),
+            _ => self.say(b"): it ends early"),
+        }
+        self.say(b"; the rest was not read; `salvage` keeps what can be kept\n");
     }
-}
-
-// Says at which record of a job file, and at which byte, reading stopped, and why: its mark is missing (11), or it ends
-// early (12).
-pub fn tell_stop(rt: &HostRuntime, program: &[u8], record_number: u64, at: usize, number: u16) {
-    say(rt, program);
-    say(rt, b": reading stopped at record ");
-    say_number(rt, record_number);
-    say(rt, b" (byte ");
-    say_number(rt, at as u64);
-    if number == UNMARKED {
-        say(rt, b"): its mark is missing");
-    } else {
-        say(rt, b"): it ends early");
-    }
-    say(
-        rt,
-        b"; the rest was not read; `salvage` keeps what can be kept\n",
-    );
 }

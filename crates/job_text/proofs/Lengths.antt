@@ -1,5 +1,4 @@
 -- How long a line is.
---   spaced-short   numbers of 16 bits, each behind its space, have at most six bytes each
 --   line-short     a line has at most the bytes that `line_room` says
 -- Assumes nothing.
 use mathlib.Core.Bool.{Bool, true, false, cond}
@@ -9,16 +8,7 @@ use native.Mathlib.Omega.{arith}
 use lib.Dec.{eqb}
 use lib.ListN.{length, get_or, length-append}
 use Rattle.job_text.specs.Lines.{decimal, spaced, line_feed, line_of, line_room}
-use Rattle.job_text.proofs.Writing.{five-digits, ten-digits}
-
-spaced-short : (xs : List ℕ) → ((i : ℕ) → i < length xs → get_or xs i 0 < 65536) → length (spaced xs) ≤ 6 * length xs
-unfolding spaced
-spaced-short [] h = omega arith
-spaced-short (x ∷ xs) h =
-    let e = length-append (decimal x) (spaced xs) in
-    let a = five-digits x (h 0 (omega arith)) in
-    let b = spaced-short xs (λ i l. h (suc i) (omega arith)) in
-    omega arith
+use Rattle.job_text.proofs.Writing.{ten-digits, spaced-short}
 
 -- a line of a number, an outcome and what stands behind it
 parts-short : (k : ℕ) (xs : List ℕ) → k < 4294967296 → ((i : ℕ) → i < length xs → get_or xs i 0 < 65536)

@@ -1,24 +1,27 @@
--- Texts written one behind the other.
---   wrote-byte     a byte that is stored is a text of one
+-- Texts put one behind the other.
+--   wrote-byte     a byte that is stored in lent memory is a text of one;  wrote-part  bytes that are copied into it
 --   wrote_then     a text, and then another behind it, are both
 --   wrote_nothing  no text changes nothing;  wrote-long  nothing gets longer
---   wrote-small, wrote-large        the digits of a number, as they are written
---   Putting        the first j bytes stand in the list;  put-from, put_on, put-end
+--   decimal-same   the digits that std's numbers have are those of `decimal`
 --   five-digits, ten-digits, twenty-digits   how many digits numbers of 16, 32 and 64 bits have at most
---   wrote-spaced, spaced-append     a number behind a space, and numbers one behind the other;  spaced-end, spaced-six,
---                                   spaced-long: where they end
---   Rowing         the first i of n numbers stand in the list, at most w bytes for each;  row_from, row_room,
---                  row_on, row-end, row-all
+--   spaced-append, spaced-one       numbers one behind the other, and a number behind a space;  spaced-six, spaced-long,
+--                                   spaced-short, spaced-wide: how long they are
+--   begun          a text with nothing before it;  longer  how long a text is with another behind it
+--   row_from, row_room, row_on, row-all   the first i of numbers stand behind a text
 --   line_refused, line-accepted     the line from its parts
 -- Assumes nothing.
-use mathlib.Core.Path.{◌≡◌, refl, sym, ap, ap₂, ◌∙◌, subst}
+use mathlib.Core.Path.{◌≡◌, refl, sym, ap, ap₂, ◌∙◌}
 use mathlib.Core.List.{List, [], ◌∷◌, ◌++◌, append-nil, append_assoc}
-use Prim.Native.Nat.{ℕ, suc, ◌+◌, ◌*◌, ◌/◌, ◌%◌, ◌≤◌, ◌<◌}
-use native.Mathlib.Nat.{add_assoc, add-zero, mul-suc, mul-le-mul_left}
+use Prim.Native.Nat.{ℕ, suc, ◌+◌, ◌*◌, ◌-◌, ◌%◌, ◌^◌, ◌≤◌, ◌<◌}
+use native.Mathlib.Nat.{add_assoc, add-zero}
 use native.Mathlib.Numerals.{add-one}
 use native.Mathlib.Omega.{arith}
+use Rattle.std.specs.Fmt.{decimal as shown}
+use Rattle.std.proofs.lemmas.Fmt.{decimal_by_steps}
+use Rattle.std.proofs.lemmas.Slice.{put_mid-paste}
 use borrow.Author.Tests.{eq-eqb, ne_eqb}
-use lib.ListN.{length, get_or, take, drop, set, length-append, length-set, take-append-drop}
+use borrow.Rule.Slice.PartMut.{put_mid}
+use lib.ListN.{length, get_or, take, drop, set, length-append, take-append-drop}
 use lib.Seq.{set_split, take-suc, take-length, drop-append-add, drop-drop, length-take-le}
 use Rattle.slices.specs.Lists.{pasted}
 use Rattle.slices.proofs.Lists.{length-pasted, pasted-front}
@@ -56,6 +59,16 @@ pub wrote-byte : {at b : ℕ} {s : List ℕ} → at + 1 ≤ length s → Wrote (
 unfolding pasted
 wrote-byte {at} {b} {s} h = record { ended = refl; bytes = set_split s at b (omega arith) ∙ rw add-one }
 
+-- a part that holds w is w written there
+pub wrote-part : (at : ℕ) (w s t : List ℕ) → t ≡ w → Wrote w at s (at + length w) (put_mid at (at + length w - at) s t)
+unfolding pasted
+wrote-part at w s t e = record {
+  ended = refl;
+  bytes =
+      put_mid-paste at (at + length w - at) s t w (length w) e (omega arith) refl
+      ∙ ap (λ u. take at s ++ u ++ drop (at + length w) s) (take-length w) ∙ append_assoc (take at s) w (drop (at + length w) s);
+}
+
 pub wrote_then : {v w : List ℕ} {at end end' : ℕ} {s s' s'' : List ℕ} → at ≤ length s → Wrote v at s end s' → Wrote w end s' end' s''
     → Wrote (v ++ w) at s end' s''
 wrote_then {v} {w} {at} {end} {end'} {s} {s'} {s''} h p q = record {
@@ -66,20 +79,16 @@ wrote_then {v} {w} {at} {end} {end'} {s} {s'} {s''} h p q = record {
 pub wrote-long : {v : List ℕ} {at end : ℕ} {s s' : List ℕ} → at + length v ≤ length s → Wrote v at s end s' → length s' ≡ length s
 wrote-long {v} {at} {end} {s} h p = ap length p.bytes ∙ length-pasted at v s h
 
+pub wrote_nothing : {at : ℕ} {s : List ℕ} → Wrote [] at s at s
+unfolding pasted
+wrote_nothing {at} {s} = record { ended = omega arith; bytes = rw add-zero (sym (take-append-drop at s)) }
+
 -- ---- `decimal`
 
-pub small-long : (x : ℕ) → x < 10 → length (decimal x) ≡ 1
-small-long x h = ap length (decimal-small x h)
-
-pub large-long : (x : ℕ) → 10 ≤ x → length (decimal x) ≡ length (decimal (x / 10)) + 1
-large-long x h = ap length (decimal-large x h) ∙ length-append (decimal (x / 10)) (digit_byte (x % 10) ∷ [])
-
-pub wrote-small : {x at end : ℕ} {s s' : List ℕ} → x < 10 → Wrote (digit_byte x ∷ []) at s end s' → Wrote (decimal x) at s end s'
-wrote-small {x} h p = rw (decimal-small x h) p
-
-pub wrote-large : {x at end end' : ℕ} {s s' s'' : List ℕ} → 10 ≤ x → at ≤ length s → Wrote (decimal (x / 10)) at s end s'
-    → Wrote (digit_byte (x % 10) ∷ []) end s' end' s'' → Wrote (decimal x) at s end' s''
-wrote-large {x} h l p q = rw (decimal-large x h) (wrote_then l p q)
+pub decimal-same : (x : ℕ) → x < 2 ^ 64 → shown x ≡ decimal x
+decimal-same =
+    decimal_by_steps (λ n ds. ds ≡ decimal n) (λ n h. sym (decimal-small n h))
+    (λ n ds h e. ap (λ l. l ++ (digit_byte (n % 10) ∷ [])) e ∙ sym (decimal-large n h))
 
 -- ---- numbers behind a space
 
@@ -102,120 +111,90 @@ ten-digits x h = decimal-short 9 x (omega arith)
 pub twenty-digits : (x : ℕ) → x < 18446744073709551616 → length (decimal x) ≤ 20
 twenty-digits x h = decimal-short 19 x (omega arith)
 
-pub wrote-spaced : (x : ℕ) {at end end' : ℕ} {s s' s'' : List ℕ} → at ≤ length s → Wrote (space ∷ []) at s end s' → Wrote (decimal x) end s' end' s''
-    → Wrote (spaced (x ∷ [])) at s end' s''
-wrote-spaced x h p q = rw (spaced-one x) (wrote_then h p q)
-
-spaced-end : (x : ℕ) {w at end : ℕ} {s s' : List ℕ} → length (decimal x) < w → Wrote (spaced (x ∷ [])) at s end s' → end ≤ at + w
-spaced-end x h p =
-    let n : length (spaced (x ∷ [])) ≡ suc (length (decimal x)) = ap length (spaced-one x) in
-    omega (arith, p.ended)
-
 -- a number of 16 bits takes at most six
-pub spaced-six : {x at end : ℕ} {s s' : List ℕ} → x < 65536 → Wrote (spaced (x ∷ [])) at s end s' → end ≤ at + 6
-spaced-six {x} h p = let d : length (decimal x) < 6 = omega (arith, five-digits x h) in spaced-end x d p
+pub spaced-six : (x : ℕ) → x < 65536 → length (spaced (x ∷ [])) ≤ 6
+spaced-six x h = omega (arith, ap length (spaced-one x), five-digits x h)
 
 -- and one of 64 bits at most 21
-pub spaced-long : {x at end : ℕ} {s s' : List ℕ} → x < 18446744073709551616 → Wrote (spaced (x ∷ [])) at s end s' → end ≤ at + 21
-spaced-long {x} h p = let d : length (decimal x) < 21 = omega (arith, twenty-digits x h) in spaced-end x d p
+pub spaced-long : (x : ℕ) → x < 18446744073709551616 → length (spaced (x ∷ [])) ≤ 21
+spaced-long x h = omega (arith, ap length (spaced-one x), twenty-digits x h)
 
--- ---- `put_bytes`
-
--- the first j bytes stand in the list
-pub record Putting (bytes : List ℕ) (at : ℕ) (old new : List ℕ) (end j : ℕ) : Type 0 where
-  pub within : j ≤ length bytes
-  pub fits : at + length bytes ≤ length old
-  pub long : length new ≡ length old
-  pub place : end ≡ at + j
-  pub done : Wrote (take j bytes) at old end new
-
-pub wrote_nothing : {at : ℕ} {s : List ℕ} → Wrote [] at s at s
-unfolding pasted
-wrote_nothing {at} {s} = record { ended = omega arith; bytes = rw add-zero (sym (take-append-drop at s)) }
-
-pub put-from : (bytes : List ℕ) (at : ℕ) (old : List ℕ) → at + length bytes ≤ length old → Putting bytes at old old at 0
-put-from bytes at old h = record { within = omega arith; fits = h; long = refl; place = omega arith; done = wrote_nothing }
-
-pub put_on : {bytes : List ℕ} {at : ℕ} {old new : List ℕ} {end j : ℕ} → Putting bytes at old new end j → j < length bytes
-    → Putting bytes at old (set new end (get_or bytes j 0)) (end + 1) (j + 1)
-put_on {bytes} {at} {old} {new} {end} {j} p h = record {
-  within = omega arith;
-  fits = p.fits;
-  long = length-set new end (get_or bytes j 0) ∙ p.long;
-  place = omega (arith, p.place);
-  done = rw (add-one j, take-suc bytes j 0) (wrote_then (omega (arith, p.fits)) p.done (wrote-byte (omega (arith, p.place, p.fits, p.long))));
-}
-
-pub put-end : {bytes : List ℕ} {at : ℕ} {old new : List ℕ} {end j : ℕ} → Putting bytes at old new end j → length bytes ≤ j → Wrote bytes at old end new
-put-end {bytes} {at} {old} {new} {end} {j} p h =
-    let e : j ≡ length bytes = omega (arith, p.within) in
-    subst (λ l. Wrote l at old end new) (ap (λ k. take k bytes) e ∙ take-length bytes) p.done
-
--- ---- `put_roots` and `put_numbers`
-
--- the first i of n numbers stand in the list, with at most w bytes for each
-pub record Rowing (w n : ℕ) (xs : List ℕ) (at : ℕ) (old new : List ℕ) (end i : ℕ) : Type 0 where
-  pub within : i ≤ n
-  pub listed : n ≤ length xs
-  pub fits : at + w * n ≤ length old
-  pub long : length new ≡ length old
-  pub room : end ≤ at + w * i
-  pub done : Wrote (spaced (take i xs)) at old end new
-
-pub row_from : (w n : ℕ) (xs : List ℕ) (at : ℕ) (old : List ℕ) → n ≤ length xs → at + w * n ≤ length old → Rowing w n xs at old old at 0
+pub spaced-short : (xs : List ℕ) → ((i : ℕ) → i < length xs → get_or xs i 0 < 65536) → length (spaced xs) ≤ 6 * length xs
 unfolding spaced
-row_from w n xs at old h k =
-    record { within = omega arith; listed = h; fits = k; long = refl; room = omega arith; done = wrote_nothing }
+spaced-short [] h = omega arith
+spaced-short (x ∷ xs) h =
+    let e = length-append (decimal x) (spaced xs) in
+    let a = five-digits x (h 0 (omega arith)) in
+    let b = spaced-short xs (λ i l. h (suc i) (omega arith)) in
+    omega arith
+
+-- numbers of 64 bits have at most 21 each
+pub spaced-wide : (xs : List ℕ) → ((i : ℕ) → i < length xs → get_or xs i 0 < 18446744073709551616) → length (spaced xs) ≤ 21 * length xs
+unfolding spaced
+spaced-wide [] h = omega arith
+spaced-wide (x ∷ xs) h =
+    let e = length-append (decimal x) (spaced xs) in
+    let a = twenty-digits x (h 0 (omega arith)) in
+    let b = spaced-wide xs (λ i l. h (suc i) (omega arith)) in
+    omega arith
+
+-- ---- one behind the other
+
+-- nothing stands before a text that is begun
+pub begun : {text s t : List ℕ} → s ≡ [] → t ≡ s ++ text → t ≡ text
+begun {text} n e = e ∙ ap (λ s. s ++ text) n
+
+pub longer : (s t v : List ℕ) → t ≡ s ++ v → length t ≡ length s + length v
+longer s t v e = ap length e ∙ length-append s v
+
+-- ---- numbers, one after the other
+
+pub row_from : (s : List ℕ) → s ≡ s ++ spaced []
+unfolding spaced
+row_from s = sym (append-nil s)
+
+-- those before the i-th, and the i-th
+row-next : (xs : List ℕ) (i : ℕ) → i < length xs → spaced (take (i + 1) xs) ≡ spaced (take i xs) ++ spaced (get_or xs i 0 ∷ [])
+row-next xs i l = rw (add-one, take-suc xs i 0) (spaced-append (take i xs) (get_or xs i 0 ∷ []))
 
 -- there is room for the next
-pub row_room : {w n at end i : ℕ} {xs old new : List ℕ} → Rowing w n xs at old new end i → i < n → end + w ≤ length new
-row_room {w} {n} {at} {end} {i} r h =
-    let e : w * suc i ≤ w * n = mul-le-mul_left w h in
-    omega (arith, r.room, r.fits, r.long, mul-suc w i)
+pub row_room : (s t : List ℕ) {x : ℕ} (xs : List ℕ) (i : ℕ) → t ≡ s ++ spaced (take i xs) → i < length xs → x ≡ get_or xs i 0
+    → length t + length (spaced (x ∷ [])) ≤ length s + length (spaced xs)
+row_room s t {x} xs i e l same =
+    let z = ap (λ x. length (spaced (x ∷ []))) same in
+    let a = longer s t _ e in
+    let b = longer (spaced (take i xs)) _ _ (row-next xs i l) in
+    let d : length (spaced xs) ≡ length (spaced (take (i + 1) xs)) + length (spaced (drop (i + 1) xs)) =
+    longer _ _ _ (sym (ap spaced (take-append-drop (i + 1) xs)) ∙ spaced-append (take (i + 1) xs) (drop (i + 1) xs)) in
+    omega arith
 
-pub row_on : {w n at end end' i : ℕ} {xs old new new' : List ℕ} → Rowing w n xs at old new end i → i < n
-    → length (decimal (get_or xs i 0)) < w
-    → length new' ≡ length new → Wrote (spaced (get_or xs i 0 ∷ [])) end new end' new' → Rowing w n xs at old new' end' (i + 1)
-row_on {w} {n} {at} {end} {end'} {i} {xs} {old} {new} {new'} r h b k p =
-    let l : i < length xs = omega (arith, r.listed) in
-    let e : spaced (take (i + 1) xs) ≡ spaced (take i xs) ++ spaced (get_or xs i 0 ∷ []) =
-    rw (add-one, take-suc xs i 0) (spaced-append (take i xs) (get_or xs i 0 ∷ [])) in
-    record {
-      within = omega arith;
-      listed = r.listed;
-      fits = r.fits;
-      long = k ∙ r.long;
-      room = rw (add-one i, mul-suc w i) (omega (arith, r.room, spaced-end (get_or xs i 0) b p));
-      done = rw e (wrote_then (omega (arith, r.fits)) r.done p);
-    }
-
-pub row-end : {w n at end i : ℕ} {xs old new : List ℕ} → Rowing w n xs at old new end i → n ≤ i → Wrote (spaced (take n xs)) at old end new × (end ≤ at + w * n)
-row-end {w} {n} {at} {end} {i} {xs} {old} {new} r h =
-    let e : i ≡ n = omega (arith, r.within) in
-    (subst (λ k. Wrote (spaced (take k xs)) at old end new) e r.done, subst (λ k. end ≤ at + w * k) e r.room)
+pub row_on : (s : List ℕ) {t v : List ℕ} {x : ℕ} (xs : List ℕ) (i : ℕ) → t ≡ s ++ spaced (take i xs) → i < length xs → x ≡ get_or xs i 0
+    → v ≡ t ++ spaced (x ∷ []) → v ≡ s ++ spaced (take (i + 1) xs)
+row_on s xs i e l same f =
+    f ∙ ap₂ (λ t x. t ++ spaced (x ∷ [])) e same ∙ append_assoc s (spaced (take i xs)) (spaced (get_or xs i 0 ∷ []))
+    ∙ ap (λ t. s ++ t) (sym (row-next xs i l))
 
 -- so all of them do
-pub row-all : {w at end i : ℕ} {xs old new : List ℕ} → Rowing w (length xs) xs at old new end i → length xs ≤ i
-    → Wrote (spaced xs) at old end new × (end ≤ at + w * length xs)
-row-all {w} {at} {end} {i} {xs} {old} {new} r h =
-    let e = row-end r h in
-    (subst (λ l. Wrote (spaced l) at old end new) (take-length xs) e.0, e.1)
+pub row-all : (s : List ℕ) {t : List ℕ} (xs : List ℕ) (i : ℕ) → t ≡ s ++ spaced (take i xs) → i ≤ length xs → length xs ≤ i → t ≡ s ++ spaced xs
+row-all s xs i e h k =
+    let same : i ≡ length xs = omega arith in
+    e ∙ ap (λ n. s ++ spaced (take n xs)) same ∙ ap (λ l. s ++ spaced l) (take-length xs)
 
 -- ---- `line`
 
-module _ (k outcome steps : ℕ) (roots : List ℕ) {a b : ℕ} {s s₁ s₂ : List ℕ}
-    (p : Wrote (decimal k) 0 s a s₁) (q : Wrote (spaced (outcome ∷ [])) a s₁ b s₂) where
-  pub line_refused : {e : ℕ} {s₃ : List ℕ} → (outcome ≡ 0 → ⊥) → Wrote (line_feed ∷ []) b s₂ e s₃ → Wrote (line_of k outcome steps roots) 0 s e s₃
+module _ (k outcome steps : ℕ) (roots : List ℕ) {a b e : List ℕ} (p : a ≡ decimal k) (q : b ≡ a ++ spaced (outcome ∷ [])) where
+  pub line_refused : (outcome ≡ 0 → ⊥) → e ≡ b ++ (line_feed ∷ []) → e ≡ line_of k outcome steps roots
   line_refused n f =
-      rw (ne_eqb outcome 0 n, ← append_assoc) (wrote_then (omega arith) (wrote_then (omega arith) p q) f)
+      f ∙ ap (λ t. t ++ (line_feed ∷ [])) (q ∙ ap (λ t. t ++ spaced (outcome ∷ [])) p)
+      ∙ rw (ne_eqb outcome 0 n) (append_assoc (decimal k) (spaced (outcome ∷ [])) (line_feed ∷ []))
 
-  pub line-accepted : {c d e end : ℕ} {s₃ s₄ s₅ s₆ : List ℕ} → outcome ≡ 0 → Wrote (spaced (length roots ∷ [])) b s₂ c s₃
-      → Wrote (spaced (steps ∷ [])) c s₃ d s₄ → Wrote (spaced roots) d s₄ e s₅ → Wrote (line_feed ∷ []) e s₅ end s₆
-      → Wrote (line_of k outcome steps roots) 0 s end s₆
-  line-accepted {end = end} {s₆ = s₆} z f g h l =
-      subst (λ t. Wrote t 0 s end s₆) (sym apart)
-      (wrote_then (omega arith) (wrote_then (omega arith) (wrote_then (omega arith) (wrote_then (omega arith) (wrote_then (omega arith) p q) f) g) h) l)
+  pub line-accepted : {c d f : List ℕ} → outcome ≡ 0 → c ≡ b ++ spaced (length roots ∷ []) → d ≡ c ++ spaced (steps ∷ [])
+      → f ≡ d ++ spaced roots → e ≡ f ++ (line_feed ∷ []) → e ≡ line_of k outcome steps roots
+  line-accepted z h i j l = let all = parts in all ∙ sym apart
     where
+      parts : e ≡ ((((decimal k ++ spaced (outcome ∷ [])) ++ spaced (length roots ∷ [])) ++ spaced (steps ∷ [])) ++ spaced roots) ++ (line_feed ∷ [])
+      parts = rw (l, j, i, h, q, p) refl
+
       apart : line_of k outcome steps roots
           ≡ ((((decimal k ++ spaced (outcome ∷ [])) ++ spaced (length roots ∷ [])) ++ spaced (steps ∷ [])) ++ spaced roots) ++ (line_feed ∷ [])
       apart = rw (eq-eqb outcome 0 z, spaced-append (outcome ∷ []) (length roots ∷ steps ∷ roots), spaced-append (length roots ∷ []) (steps ∷ roots), spaced-append (steps ∷ []) roots) (simp append_assoc)

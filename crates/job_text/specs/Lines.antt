@@ -8,7 +8,7 @@
 --                  the steps and the roots
 --   line_room       how many bytes a line with s roots has at most: ten of its number, six of each other, a line
 --                  feed;  longest_line  with the most roots
---   Wrote          a text stands in a list from a place on, up to an end; all else is as it was
+--   Wrote          a text stands in lent memory from a place on, up to an end; all else is as it was
 -- Assumes nothing.
 use Rattle.std.specs.Prelude.{◌≡◌, cond, List, [], ◌∷◌, ◌++◌, ℕ, zero, suc, ◌+◌, ◌*◌, ◌/◌, ◌%◌, length, eqb, ltb}
 use Rattle.slices.specs.Lists.{pasted}

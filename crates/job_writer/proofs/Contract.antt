@@ -17,7 +17,7 @@ use Rattle.job_records.proofs.Forward.{never}
 use Rattle.poly.proofs.RootProducts.{product-long}
 use Rattle.job_writer.specs.Records.{root_polynomial, record_of, length_for}
 use Rattle.job_writer.specs.Calls.{write_tests, Writes, Writable}
-use Rattle.job_writer.specs.declared.Written.TheVariants.{Bytes}
+use Rattle.std.specs.Prelude.{Ok}
 use Rattle.job_writer.proofs.Admitting.{writable}
 use Rattle.job_writer.proofs.Bytes.{length-word_bytes}
 
@@ -31,7 +31,7 @@ pub record Says (m c : ℕ) (roots room : List ℕ) (n : ℕ) (after : List ℕ)
   pub count : n ≡ length_for (length roots)
   pub holds : after ≡ copied (record_of m c roots) room
 
-pub bytes-say : (m c : ℕ) (roots room : List ℕ) {n : ℕ} {after : List ℕ} → Writes m c roots room (Bytes n) after
+pub bytes-say : (m c : ℕ) (roots room : List ℕ) {n : ℕ} {after : List ℕ} → Writes m c roots room (Ok n) after
     → Says m c roots room n after
 bytes-say m c roots room {n} {after} h = go (cases (write_tests m c roots (length room)))
   where

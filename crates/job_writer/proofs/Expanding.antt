@@ -2,11 +2,11 @@
 --   expanded-none, expanded-one   of no root it is 1, of one root z + r; where they are stored
 -- Assumes nothing.
 use mathlib.Core.Path.{◌≡◌, refl, sym, ap, ap₂, ◌∙◌}
-use mathlib.Core.List.{List, [], ◌∷◌}
+use mathlib.Core.List.{List, [], ◌∷◌, ◌++◌}
 use Prim.Native.Nat.{ℕ}
 use native.Mathlib.Omega.{arith}
 use lib.Bits.{xor_zero_r}
-use lib.ListN.{length, get_or, set}
+use lib.ListN.{length, get_or, set, drop}
 use Rattle.algebra.specs.Polynomial.{add, mul, from_roots}
 use Rattle.field.specs.Field.{field_at}
 use Rattle.field.proofs.Known.{listed}
@@ -39,11 +39,9 @@ expanded-none {m} [] (y ∷ f) x e = sym (ap (λ p. copied p (y ∷ f)) (of_none
 expanded-none (r ∷ roots) f x e = absurd (omega arith)
 
 -- of one root too
-pub expanded-one : {m : ℕ} (roots f : List ℕ) → Expandable m roots f → length roots ≡ 1
-    → set (set f 0 (get_or roots 0 0)) 1 1 ≡ copied (root_polynomial m roots) f
+pub expanded-one : {m : ℕ} (roots f : List ℕ) {t : List ℕ} → Expandable m roots f → length roots ≡ 1 → t ≡ get_or roots 0 0 ∷ 1 ∷ []
+    → t ++ drop 2 f ≡ copied (root_polynomial m roots) f
 unfolding copied
-expanded-one [] f x e = absurd (omega arith)
-expanded-one (r ∷ []) [] x e = absurd (let h = x.room in omega arith)
-expanded-one (r ∷ []) (y ∷ []) x e = absurd (let h = x.room in omega arith)
-expanded-one {m} (r ∷ []) (y ∷ z ∷ f) x e = sym (ap (λ p. copied p (y ∷ z ∷ f)) (of_one x))
-expanded-one (r ∷ s ∷ roots) f x e = absurd (omega arith)
+expanded-one [] f x e s = absurd (omega arith)
+expanded-one {m} (r ∷ []) f x e s = ap (λ t. t ++ drop 2 f) s ∙ sym (ap (λ p. copied p f) (of_one x))
+expanded-one (r ∷ q ∷ roots) f x e s = absurd (omega arith)

@@ -1,6 +1,8 @@
 -- What the C face returns (docs/RULES.md section 9): the struct of an outcome in its numbers. A value that the outcome
 -- does not have is 0, so a refusal has zeros behind its number.
 --   value_in       the value at place i of an outcome, or 0
+--   told_number    the number and the value of an answer that has one
+--   outcome_number the number of an answer that has no value
 --   as_value       outcome and value: product, inverse, position
 --   as_pair        outcome, how many roots, the lower and the upper, and 1 where the one root is double: the quadratic.
 --                 One root is the lower
@@ -16,7 +18,9 @@
 --   As            r is the struct of an answer that a contract admits
 --   ProductAs ..  THE CONTRACT of each export, by that of the call
 -- Assumes nothing.
-use Rattle.std.specs.Prelude.{◌≡◌, List, ℕ, length, get_or, drop}
+use Rattle.std.specs.Prelude.{◌≡◌, ⊤, List, [], ◌∷◌, ℕ, Result, length, get_or, drop}
+use Rattle.refusals.specs.Admitting.{told}
+use Rattle.refusals.specs.declared.Refusal.{Refusal}
 use Rattle.locator.specs.declared.LocatorValue.{LocatorValue}
 use Rattle.locator.specs.declared.LocatorPair.{LocatorPair}
 use Rattle.locator.specs.declared.LocatorFound.{LocatorFound}
@@ -28,25 +32,32 @@ use Rattle.locator.specs.declared.LocatorSalvaged.{LocatorSalvaged}
 use Rattle.locator.specs.declared.LocatorWritten.{LocatorWritten}
 use Rattle.locator.specs.declared.LocatorClaim.{LocatorClaim}
 use Rattle.locator.specs.declared.LocatorProved.{LocatorProved}
-use Rattle.field_elements.specs.Calls.{told_answer, told_quadratic, TellsProduct}
+use Rattle.field_elements.specs.Calls.{told_quadratic, TellsProduct}
 use Rattle.field_elements.specs.Calls.{TellsInverse, TellsPosition, TellsQuadratic}
-use Rattle.find_solve.specs.Calls.{told_solved, Solves}
-use Rattle.find_search.specs.Calls.{told_searched, Searches}
-use Rattle.find_affine.specs.Calls.{told_spanned, Spans}
-use Rattle.table_begin.specs.Calls.{told_begun, Begins}
-use Rattle.table_step.specs.Calls.{told_stepped, Steps}
-use Rattle.table_finish.specs.Calls.{told_finished, Finishes}
-use Rattle.corrector.specs.Correcting.{told_corrected, Corrects}
-use Rattle.corrector_encoder.specs.Encoding.{told_encoded, Encodes}
-use Rattle.job_salvage.specs.Calls.{told_salvaged, Salvages}
-use Rattle.job_writer.specs.Calls.{told_written, Writes}
+use Rattle.find_solve.specs.Calls.{solved_values, Solves}
+use Rattle.find_search.specs.Calls.{Searches}
+use Rattle.find_affine.specs.Calls.{spanned_values, Spans}
+use Rattle.table_begin.specs.Calls.{Begins}
+use Rattle.table_step.specs.Calls.{stepped_values, Steps}
+use Rattle.table_finish.specs.Calls.{Finishes}
+use Rattle.corrector.specs.Correcting.{Corrects}
+use Rattle.corrector_encoder.specs.Encoding.{Encodes}
+use Rattle.job_salvage.specs.Calls.{told_kept, Salvages}
+use Rattle.job_writer.specs.Calls.{Writes}
 use Rattle.claim_rules.specs.Claims.{Claim}
-use Rattle.claims.specs.Calls.{told_checked, Checks}
-use Rattle.claim_maker.specs.Calls.{told_proved, Proves}
+use Rattle.claims.specs.Calls.{checked_values, Checks}
+use Rattle.claim_maker.specs.Calls.{Proves}
 
 -- the value at place i of an outcome, or 0
 abbrev pub value_in : ℕ × List ℕ → ℕ → ℕ
 value_in o i = get_or o.1 i 0
+
+-- an answer with one value, and one with none
+abbrev pub told_number : Result ℕ Refusal → ℕ × List ℕ
+told_number = told (λ n. n ∷ [])
+
+abbrev pub outcome_number : Result ⊤ Refusal → ℕ
+outcome_number r = (told (λ _. []) r).0
 
 abbrev pub as_value : ℕ × List ℕ → LocatorValue
 as_value o = record { outcome = o.0; value = value_in o 0 }
@@ -100,13 +111,13 @@ pub record As {A R : Type 0} (tell : A → R) (admits : A → Type 0) (r : R) : 
   pub told : r ≡ tell answer
 
 abbrev pub ProductAs : ℕ → ℕ → ℕ → LocatorValue → Type 0
-ProductAs m a b = As (λ x. as_value (told_answer x)) (TellsProduct m a b)
+ProductAs m a b = As (λ x. as_value (told_number x)) (TellsProduct m a b)
 
 abbrev pub InverseAs : ℕ → ℕ → LocatorValue → Type 0
-InverseAs m a = As (λ x. as_value (told_answer x)) (TellsInverse m a)
+InverseAs m a = As (λ x. as_value (told_number x)) (TellsInverse m a)
 
 abbrev pub PositionAs : ℕ → ℕ → ℕ → LocatorValue → Type 0
-PositionAs m r convention = As (λ x. as_value (told_answer x)) (TellsPosition m r convention)
+PositionAs m r convention = As (λ x. as_value (told_number x)) (TellsPosition m r convention)
 
 abbrev pub QuadraticAs : ℕ → ℕ → ℕ → LocatorPair → Type 0
 QuadraticAs m a b = As (λ x. as_pair (told_quadratic x)) (TellsQuadratic m a b)
@@ -114,40 +125,40 @@ QuadraticAs m a b = As (λ x. as_pair (told_quadratic x)) (TellsQuadratic m a b)
 -- with lent memory afterwards
 abbrev pub SolvesAs : ℕ → ℕ → List ℕ → List ℕ → List ℕ → LocatorFound → List ℕ → List ℕ → Type 0
 SolvesAs m c cs roots mults r after beside =
-    As (λ x. as_found (told_solved x)) (λ x. Solves m c cs roots mults x after beside) r
+    As (λ x. as_found (told solved_values x)) (λ x. Solves m c cs roots mults x after beside) r
 
 abbrev pub SearchesAs : ℕ → List ℕ → List ℕ → List ℕ → LocatorFound → List ℕ → List ℕ → Type 0
 SearchesAs m cs roots mults r after beside =
-    As (λ x. as_found (told_searched x)) (λ x. Searches m cs roots mults x after beside) r
+    As (λ x. as_found (told_number x)) (λ x. Searches m cs roots mults x after beside) r
 
 abbrev pub SpansAs : ℕ → List ℕ → ℕ → List ℕ → LocatorSpace → List ℕ → Type 0
-SpansAs m cs constant list r after = As (λ x. as_space (told_spanned x)) (λ x. Spans m cs constant list x after) r
+SpansAs m cs constant list r after = As (λ x. as_space (told spanned_values x)) (λ x. Spans m cs constant list x after) r
 
 abbrev pub BeginsAs : ℕ → ℕ → List ℕ → List ℕ → ℕ → List ℕ → Type 0
-BeginsAs m c cs table r after = As (λ x. (told_begun x).0) (λ x. Begins m c cs table x after) r
+BeginsAs m c cs table r after = As (λ x. outcome_number x) (λ x. Begins m c cs table x after) r
 
 abbrev pub StepsAs : List ℕ → LocatorStepped → List ℕ → Type 0
-StepsAs table r after = As (λ x. as_stepped (told_stepped x)) (λ x. Steps table x after) r
+StepsAs table r after = As (λ x. as_stepped (told stepped_values x)) (λ x. Steps table x after) r
 
 abbrev pub FinishesAs : List ℕ → List ℕ → LocatorFound → List ℕ → Type 0
-FinishesAs table list r after = As (λ x. as_found (told_finished x)) (λ x. Finishes table list x after) r
+FinishesAs table list r after = As (λ x. as_found (told_number x)) (λ x. Finishes table list x after) r
 
 abbrev pub CorrectsAs : ℕ → List ℕ → LocatorCorrected → List ℕ → Type 0
-CorrectsAs t word r after = As (λ x. as_corrected (told_corrected x)) (λ x. Corrects t word (told_corrected x) after) r
+CorrectsAs t word r after = As (λ x. as_corrected (told_number x)) (λ x. Corrects t word (told_number x) after) r
 
 abbrev pub EncodesAs : ℕ → List ℕ → LocatorEncoded → List ℕ → Type 0
-EncodesAs t word r after = As (λ x. as_encoded (told_encoded x)) (λ x. Encodes t word (told_encoded x) after) r
+EncodesAs t word r after = As (λ x. as_encoded (told_number x)) (λ x. Encodes t word (told_number x) after) r
 
 abbrev pub SalvagesAs : List ℕ → List ℕ → LocatorSalvaged → List ℕ → Type 0
-SalvagesAs file room r after = As (λ x. as_salvaged (told_salvaged x)) (λ x. Salvages file room x after) r
+SalvagesAs file room r after = As (λ x. as_salvaged (told told_kept x)) (λ x. Salvages file room x after) r
 
 abbrev pub WritesAs : ℕ → ℕ → List ℕ → List ℕ → LocatorWritten → List ℕ → Type 0
-WritesAs m c roots room r after = As (λ x. as_written (told_written x)) (λ x. Writes m c roots room x after) r
+WritesAs m c roots room r after = As (λ x. as_written (told_number x)) (λ x. Writes m c roots room x after) r
 
 -- nothing is lent to write to
 abbrev pub ChecksAs : ℕ → List ℕ → Claim → LocatorClaim → Type 0
-ChecksAs m f c = As (λ x. as_claim (told_checked x)) (Checks m f c)
+ChecksAs m f c = As (λ x. as_claim (told checked_values x)) (Checks m f c)
 
 -- what the five buffers hold before and afterwards is told as a claim
 abbrev pub ProvesAs : ℕ → List ℕ → Claim → LocatorProved → Claim → Type 0
-ProvesAs m f before r after = As (λ x. as_proved (told_proved x)) (λ x. Proves m f before x after) r
+ProvesAs m f before r after = As (λ x. as_proved (told_number x)) (λ x. Proves m f before x after) r

@@ -9,23 +9,10 @@ ghost use Rattle.locator.specs.Calls.{SolvesAs, SearchesAs, SpansAs, BeginsAs, S
 ghost use Rattle.claim_rules.specs.Claims.{claim_of};
 ghost use Rattle.locator.specs.Calls.{EncodesAs, SalvagesAs, WritesAs, ChecksAs, ProvesAs};
 
-use answers::{found, refused, roots_of, value_of};
-use claim_maker::Proved;
-use claims::Checked;
-use corrector::Corrected;
-use corrector_encoder::Encoded;
-use field_elements::{Element, Roots};
-use find_affine::Spanned;
-use find_search::Searched;
-use find_solve::Solved;
-use job_salvage::Salvaged;
-use job_writer::Written;
-use refusals::number;
-use table_begin::Begun;
-use table_finish::Finished;
-use table_step::Stepped;
+use claims::Claim;
+use field_elements::Element;
 
-mod answers; // the structs that several calls answer
+mod answers; // each struct out of what its call answers
 
 // An element call's answer.
 #[repr(C)]
@@ -125,7 +112,7 @@ pub struct LocatorProved {
 pub extern "C" fn locator_product(m: u16, a: Element, b: Element) -> LocatorValue
     ensures { ProductAs m a b result }
 {
-    value_of(field_elements::product(m, a, b))
+    field_elements::product(m, a, b).into()
 }
 
 // The inverse of a in the field of degree m.
@@ -133,7 +120,7 @@ pub extern "C" fn locator_product(m: u16, a: Element, b: Element) -> LocatorValu
 pub extern "C" fn locator_inverse(m: u16, a: Element) -> LocatorValue
     ensures { InverseAs m a result }
 {
-    value_of(field_elements::inverse(m, a))
+    field_elements::inverse(m, a).into()
 }
 
 // The position of a root r in the field of degree m: where the bad bit stands, under a convention.
@@ -141,7 +128,7 @@ pub extern "C" fn locator_inverse(m: u16, a: Element) -> LocatorValue
 pub extern "C" fn locator_position(m: u16, r: Element, convention: u16) -> LocatorValue
     ensures { PositionAs m r convention result }
 {
-    value_of(field_elements::position(m, r, convention))
+    field_elements::position(m, r, convention).into()
 }
 
 // The roots of z^2 + az + b in the field of degree m.
@@ -149,16 +136,7 @@ pub extern "C" fn locator_position(m: u16, r: Element, convention: u16) -> Locat
 pub extern "C" fn locator_quadratic(m: u16, a: Element, b: Element) -> LocatorPair
     ensures { QuadraticAs m a b result }
 {
-    match field_elements::quadratic(m, a, b) {
-        Roots::Found(q) => roots_of(q),
-        Roots::Refused(k) => LocatorPair {
-            outcome: number(k),
-            count: 0,
-            lower: 0,
-            upper: 0,
-            doubled: 0,
-        },
-    }
+    field_elements::quadratic(m, a, b).into()
 }
 
 // The whole call.
@@ -173,10 +151,7 @@ pub extern "C" fn locator_solve(
     ensures { SolvesAs m cutoff coeffs.now roots.old mults.old
         result roots.new mults.new }
 {
-    match find_solve::solve(m, coeffs, cutoff, roots, mults) {
-        Solved::Found { s, steps } => found(s, steps),
-        Solved::NotSolved(k) => refused(k),
-    }
+    find_solve::solve(m, coeffs, cutoff, roots, mults).into()
 }
 
 // The plain search.
@@ -190,10 +165,7 @@ pub extern "C" fn locator_search(
     ensures { SearchesAs m coeffs.now roots.old mults.old
         result roots.new mults.new }
 {
-    match find_search::search(m, coeffs, roots, mults) {
-        Searched::Seen(s) => found(s, 0),
-        Searched::NotSearched(k) => refused(k),
-    }
+    find_search::search(m, coeffs, roots, mults).into()
 }
 
 // The roots of an affine polynomial: 0 of them where there is none.
@@ -206,23 +178,7 @@ pub extern "C" fn locator_affine(
 ) -> LocatorSpace
     ensures { SpansAs m coeffs.now constant roots.old result roots.new }
 {
-    match find_affine::affine(m, coeffs, constant, roots) {
-        Spanned::NoRoot => LocatorSpace {
-            outcome: 0,
-            count: 0,
-            dimension: 0,
-        },
-        Spanned::Space { dimension, count } => LocatorSpace {
-            outcome: 0,
-            count: count,
-            dimension: dimension,
-        },
-        Spanned::NotSpanned(k) => LocatorSpace {
-            outcome: number(k),
-            count: 0,
-            dimension: 0,
-        },
-    }
+    find_affine::affine(m, coeffs, constant, roots).into()
 }
 
 // Begins a table: its number alone.
@@ -230,10 +186,7 @@ pub extern "C" fn locator_affine(
 pub extern "C" fn locator_begin(m: u16, coeffs: &[Element], cutoff: u16, table: &mut [u16]) -> u16
     ensures { BeginsAs m cutoff coeffs.now table.old result table.new }
 {
-    match table_begin::begin(m, coeffs, cutoff, table) {
-        Begun::Ready => 0,
-        Begun::NotBegun(k) => number(k),
-    }
+    answers::outcome_of(table_begin::begin(m, coeffs, cutoff, table))
 }
 
 // One step of a table.
@@ -241,20 +194,7 @@ pub extern "C" fn locator_begin(m: u16, coeffs: &[Element], cutoff: u16, table: 
 pub extern "C" fn locator_step(table: &mut [u16]) -> LocatorStepped
     ensures { StepsAs table.old result table.new }
 {
-    match table_step::step(table) {
-        Stepped::Taken => LocatorStepped {
-            outcome: 0,
-            done: 0,
-        },
-        Stepped::Done => LocatorStepped {
-            outcome: 0,
-            done: 1,
-        },
-        Stepped::NotStepped(k) => LocatorStepped {
-            outcome: number(k),
-            done: 0,
-        },
-    }
+    table_step::step(table).into()
 }
 
 // Finishes a table that is done.
@@ -262,10 +202,7 @@ pub extern "C" fn locator_step(table: &mut [u16]) -> LocatorStepped
 pub extern "C" fn locator_finish(table: &[u16], roots: &mut [Element]) -> LocatorFound
     ensures { FinishesAs table.now roots.old result roots.new }
 {
-    match table_finish::finish(table, roots) {
-        Finished::Listed(s) => found(s, 0),
-        Finished::NotFinished(k) => refused(k),
-    }
+    table_finish::finish(table, roots).into()
 }
 
 // The block corrector.
@@ -273,13 +210,7 @@ pub extern "C" fn locator_finish(table: &[u16], roots: &mut [Element]) -> Locato
 pub extern "C" fn locator_correct(strength: u16, word: &mut [u8]) -> LocatorCorrected
     ensures { CorrectsAs strength word.old result word.new }
 {
-    match corrector::correct(strength, word) {
-        Corrected::Flips(flips) => LocatorCorrected { outcome: 0, flips },
-        Corrected::NotCorrected(k) => LocatorCorrected {
-            outcome: number(k),
-            flips: 0,
-        },
-    }
+    corrector::correct(strength, word).into()
 }
 
 // The block encoder.
@@ -287,13 +218,7 @@ pub extern "C" fn locator_correct(strength: u16, word: &mut [u8]) -> LocatorCorr
 pub extern "C" fn locator_encode(strength: u16, word: &mut [u8]) -> LocatorEncoded
     ensures { EncodesAs strength word.old result word.new }
 {
-    match corrector_encoder::encode(strength, word) {
-        Encoded::Checks(checks) => LocatorEncoded { outcome: 0, checks },
-        Encoded::NotEncoded(k) => LocatorEncoded {
-            outcome: number(k),
-            checks: 0,
-        },
-    }
+    corrector_encoder::encode(strength, word).into()
 }
 
 // Salvage of a damaged job file.
@@ -301,16 +226,7 @@ pub extern "C" fn locator_encode(strength: u16, word: &mut [u8]) -> LocatorEncod
 pub extern "C" fn locator_salvage(file: &[u8], kept: &mut [u8]) -> LocatorSalvaged
     ensures { SalvagesAs file.now kept.old result kept.new }
 {
-    match job_salvage::salvage(file, kept) {
-        Salvaged::Kept { bytes, .. } => LocatorSalvaged {
-            outcome: 0,
-            length: bytes,
-        },
-        Salvaged::NotSalvaged(k) => LocatorSalvaged {
-            outcome: number(k),
-            length: 0,
-        },
-    }
+    job_salvage::salvage(file, kept).into()
 }
 
 // The record of the polynomial that has given roots.
@@ -323,16 +239,7 @@ pub extern "C" fn locator_write(
 ) -> LocatorWritten
     ensures { WritesAs m cutoff roots.now room.old result room.new }
 {
-    match job_writer::write(m, cutoff, roots, room) {
-        Written::Bytes(n) => LocatorWritten {
-            outcome: 0,
-            length: n,
-        },
-        Written::NotWritten(k) => LocatorWritten {
-            outcome: number(k),
-            length: 0,
-        },
-    }
+    job_writer::write(m, cutoff, roots, room).into()
 }
 
 // The check of a claim: the roots of f with their multiplicities, a cofactor h, and u and v.
@@ -349,20 +256,14 @@ pub extern "C" fn locator_check(
     ensures { ChecksAs m f.now (claim_of roots.now mults.now
         h.now u.now v.now) result }
 {
-    match claims::check(m, f, roots, mults, h, u, v) {
-        Checked::Accepted => LocatorClaim {
-            outcome: 0,
-            accepted: 1,
-        },
-        Checked::No => LocatorClaim {
-            outcome: 0,
-            accepted: 0,
-        },
-        Checked::NotChecked(k) => LocatorClaim {
-            outcome: number(k),
-            accepted: 0,
-        },
-    }
+    let claim = Claim {
+        roots,
+        mults,
+        h,
+        u,
+        v,
+    };
+    claims::check(m, f, &claim).into()
 }
 
 // The making of a claim about f: fills its roots, their multiplicities, the cofactor h, and u and v.
@@ -380,14 +281,5 @@ pub extern "C" fn locator_prove(
         (claim_of roots.old mults.old h.old u.old v.old) result
         (claim_of roots.new mults.new h.new u.new v.new) }
 {
-    match claim_maker::prove(m, f, roots, mults, h, u, v) {
-        Proved::Proven(n) => LocatorProved {
-            outcome: 0,
-            count: n,
-        },
-        Proved::NotProven(k) => LocatorProved {
-            outcome: number(k),
-            count: 0,
-        },
-    }
+    claim_maker::prove(m, f, roots, mults, h, u, v).into()
 }

@@ -21,8 +21,9 @@ use Rattle.algebra.proofs.Lengths.{length-rem, length-quo}
 use Rattle.algebra.proofs.StaysBelow.{append-below, take_below, drop-below, rem_below, quo-below, below_at}
 use Rattle.field.specs.Field.{field_at, G}
 use Rattle.field.proofs.Ring.{ring}
-use Rattle.poly.specs.Lent.{Lent, Addable, held}
-use Rattle.poly.specs.Division.{divided, Divisible}
+use Rattle.poly.specs.Lent.{Lent, held}
+use Rattle.poly.specs.Asking.{Addable, Divisible}
+use Rattle.poly.specs.Division.{divided}
 use Rattle.poly.proofs.Logs.{field_of, numbers_of, held_below, held-long}
 use Rattle.poly.proofs.Sums.{add_none}
 use Rattle.poly.proofs.Parts.{part-rest, part_none}
@@ -139,22 +140,24 @@ divided-behind m p f {n} e = drop_at (rem (G m) p f) (take (length f - length p)
 
 -- from k on the division is done
 pub record Dividing (m : ℕ) (ls ts row f₀ : List ℕ) (n : ℕ) (f : List ℕ) (k : ℕ) : Type 0 where
-  pub given : Divisible m ls ts row f₀
+  pub tables : Lent m ls ts
+  pub given : Divisible m row f₀
   pub size : n ≡ length row
   pub within : k + n ≤ length f₀
   pub long : length f ≡ length f₀
   pub done : f ≡ take k f₀ ++ divided m (held m row) (drop k f₀)
 
-pub dividing-from : {m : ℕ} {ls ts row f : List ℕ} → Divisible m ls ts row f → Dividing m ls ts row f (length row) f (length f - length row)
-dividing-from {m} {ls} {ts} {row} {f} g =
+pub dividing-from : {m : ℕ} {ls ts row f : List ℕ} → Lent m ls ts → Divisible m row f → Dividing m ls ts row f (length row) f (length f - length row)
+dividing-from {m} {ls} {ts} {row} {f} l g =
     let k : ℕ = length f - length row in
     let room = g.room in
     record {
+      tables = l;
       given = g;
       size = refl;
       within = omega arith;
       long = refl;
-      done = sym (ap (λ u. take k f ++ u) (divided-start g.tables (held m row) (drop k f) (length-drop k f ∙ omega (arith, held-long m row))) ∙ take-append-drop k f);
+      done = sym (ap (λ u. take k f ++ u) (divided-start l (held m row) (drop k f) (length-drop k f ∙ omega (arith, held-long m row))) ∙ take-append-drop k f);
     }
 
 module _ {m : ℕ} {ls ts row f₀ : List ℕ} {n : ℕ} {f : List ℕ} {k : ℕ} (s : Dividing m ls ts row f₀ n f k) where
@@ -188,12 +191,11 @@ module _ {m : ℕ} {ls ts row f₀ : List ℕ} {n : ℕ} {f : List ℕ} {k : ℕ
       shorter (suc j) (x ∷ l) = ap (λ u. x ∷ u) (shorter j l)
 
   -- what the kernel asks
-  pub dividing-asks : 0 < k → Addable m ls ts (get_or f (k - 1 + n) 0) row (take (length f - (k - 1)) (drop (k - 1) f))
+  pub dividing-asks : 0 < k → Addable m (get_or f (k - 1 + n) 0) row (take (length f - (k - 1)) (drop (k - 1) f))
   dividing-asks h =
       let w = s.within in
       let z = s.size in
       record {
-        tables = s.given.tables;
         element = subst (λ u. get_or u (k - 1 + n) 0 < 2 ^ m) (sym s.done)
             (below_at (2 ^ m) (take k f₀ ++ divided m (held m row) (drop k f₀)) all (k - 1 + n) (omega (arith, ap length s.done, s.long)));
         logs = s.given.logs;
@@ -203,7 +205,7 @@ module _ {m : ℕ} {ls ts row f₀ : List ℕ} {n : ℕ} {f : List ℕ} {k : ℕ
       all : Below (2 ^ m) (take k f₀ ++ divided m (held m row) (drop k f₀))
       all =
           append-below (2 ^ m) (take k f₀) (divided m (held m row) (drop k f₀)) (take_below (2 ^ m) k f₀ s.given.small)
-          (divided-below s.given.tables (held m row) (drop k f₀) (held_below s.given.tables row) (drop-below (2 ^ m) k f₀ s.given.small))
+          (divided-below s.tables (held m row) (drop k f₀) (held_below s.tables row) (drop-below (2 ^ m) k f₀ s.given.small))
 
   -- a turn divides by one digit more
   pub dividing-on : {y : List ℕ} → 0 < k → y ≡ added m (get_or f (k - 1 + n) 0) row (take (length f - (k - 1)) (drop (k - 1) f))
@@ -220,10 +222,11 @@ module _ {m : ℕ} {ls ts row f₀ : List ℕ} {n : ℕ} {f : List ℕ} {k : ℕ
       let t : get_or f (j + n) 0 ≡ get_or (get_or f₀ j 0 ∷ divided m p (drop k f₀)) (length p) 0 =
       sym (get_or-drop j f n 0) ∙ ap₂ (λ u i. get_or u i 0) (behind h) (sym hl) in
       let d : y ≡ divided m p (drop j f₀) =
-      e ∙ ap₂ (λ v u. add (G m) u (map ((G m).mul v) p)) t (part-rest j f ∙ behind h) ∙ divided-on s.given.tables p (get_or f₀ j 0) (drop k f₀) room ∙ ap (divided m p) (sym here) in
+      e ∙ ap₂ (λ v u. add (G m) u (map ((G m).mul v) p)) t (part-rest j f ∙ behind h) ∙ divided-on s.tables p (get_or f₀ j 0) (drop k f₀) room ∙ ap (divided m p) (sym here) in
       let done : take j f ++ (y ++ drop (length f - j) (drop j f)) ≡ take j f₀ ++ divided m p (drop j f₀) =
       ap₂ (λ u v. u ++ v) (before h) (part_none j f y ∙ d) in
       record {
+        tables = s.tables;
         given = s.given;
         size = s.size;
         within = omega arith;
@@ -232,7 +235,7 @@ module _ {m : ℕ} {ls ts row f₀ : List ℕ} {n : ℕ} {f : List ℕ} {k : ℕ
               arith,
               length-append (take j f₀) (divided m p (drop j f₀)),
               length-take-le j f₀ (omega arith),
-              length-divided s.given.tables p (drop j f₀) (omega (arith, length-drop j f₀)),
+              length-divided s.tables p (drop j f₀) (omega (arith, length-drop j f₀)),
               length-drop j f₀,
             );
         done = done;

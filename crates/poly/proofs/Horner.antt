@@ -4,7 +4,7 @@
 --   value-from, value-logs, value-fits, value_on, value-end   the start, what a turn reads, a turn, the end
 -- Assumes nothing.
 use mathlib.Core.Path.{◌≡◌, refl, sym, ap, ◌∙◌}
-use mathlib.Core.Logic.{◌≢◌}
+use native.Mathlib.Nat.{not-suc-le-zero}
 use mathlib.Core.List.{List, [], ◌∷◌}
 use Prim.Native.Nat.{ℕ, suc, ◌+◌, ◌-◌, ◌^◌, ◌≤◌, ◌<◌}
 use native.Mathlib.Omega.{arith}
@@ -16,17 +16,18 @@ use Rattle.algebra.proofs.StaysBelow.{eval-below, drop-below}
 use Rattle.field.specs.Field.{field_at, G}
 use Rattle.field.proofs.Ring.{ring}
 use Rattle.poly.specs.Lent.{Lent}
-use Rattle.poly.proofs.Logs.{field_of, numbers_of, logs-fit, product-fits, product_at}
+use Rattle.field.proofs.ByLogs.{product-fits, product-stands}
+use Rattle.poly.proofs.Logs.{field_of, numbers_of, logs-fit}
 
-pub value_none : (m : ℕ) (f : List ℕ) (x : ℕ) → length f ≡ 0 → 0 ≡ eval (G m) f x
+pub value_none : (m : ℕ) (f : List ℕ) (x : ℕ) → length f < 1 → 0 ≡ eval (G m) f x
 unfolding eval
 value_none m [] x h = refl
 value_none m (c ∷ f) x h = absurd (let b : ⊥ = omega arith in b)
 
 -- at 0 the constant is left
-pub value-zero : {m : ℕ} {ls ts : List ℕ} (f : List ℕ) {x : ℕ} → Lent m ls ts → length f ≢ 0 → x ≡ 0 → get_or f 0 0 ≡ eval (G m) f x
+pub value-zero : {m : ℕ} {ls ts : List ℕ} (f : List ℕ) {x : ℕ} → Lent m ls ts → 1 ≤ length f → x ≡ 0 → get_or f 0 0 ≡ eval (G m) f x
 unfolding eval
-value-zero {m} [] l h z = absurd (h refl)
+value-zero {m} [] l h z = absurd (not-suc-le-zero h)
 value-zero {m} (c ∷ f) {x} l h z =
     sym (ap (λ y. bit_xor c ((G m).mul y (eval (G m) f x))) z
     ∙ ap (bit_xor c) ((ring (field_at m) (field_of l).monic).mul-zero-l (eval (G m) f x)) ∙ xor_zero_r c)
@@ -54,7 +55,7 @@ module _ {m : ℕ} {ls ts f : List ℕ} {x k v : ℕ} (s : Valuing m ls ts f x k
   value-logs = logs-fit s.tables value-small
 
   pub value-fits : get_or ls x 0 + get_or ls v 0 < length ts
-  value-fits = product-fits s.tables s.nonzero s.element value-small
+  value-fits = product-fits s.tables s.element value-small
 
   -- one coefficient more
   pub value_on : 0 < k → Valuing m ls ts f x (k - 1) (bit_xor (get_or f (k - 1) 0) (get_or ts (get_or ls x 0 + get_or ls v 0) 0))
@@ -70,7 +71,7 @@ module _ {m : ℕ} {ls ts f : List ℕ} {x k v : ℕ} (s : Valuing m ls ts f x k
         nonzero = s.nonzero;
         element = s.element;
         within = omega arith;
-        done = ap (bit_xor (get_or f j 0)) (product_at s.tables s.nonzero s.element value-small ∙ ap ((G m).mul x) s.done)
+        done = ap (bit_xor (get_or f j 0)) (product-stands s.tables s.nonzero s.element value-small ∙ ap ((G m).mul x) s.done)
             ∙ sym (ap (λ u. eval (G m) u x) here);
       }
 

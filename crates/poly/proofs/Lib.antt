@@ -3,9 +3,8 @@
 -- lists: parts of a slice, loops that store from the front, sums
 pub mod Parts
 pub mod Sums
--- products, inverses and rows over lent tables, and how they are lent
+-- logs and rows over lent tables
 pub mod Logs
-pub mod Lending
 -- what the loops hold at each turn
 pub mod RowLoops
 pub mod Divisions

@@ -1,17 +1,17 @@
--- What lent tables give: products, inverses and rows by logs.
+-- What lent tables give: logs and rows.
 --   field_of, small_of, numbers_of the field's laws, from what is lent
 --   logs-fit, log-at               an element indexes the log table, and its entry is the log
---   product-fits, product_at       the antilog of the sum of two logs is the product, and stands in the table
---   row_fits, row_at               the same of an element and an entry of a row
---   antilog-log, log-is-log        the antilog of a log is the element
+--   row_fits, row_at               the antilog of the sum of a log and an entry of a row is the product, and stands in the
+--                                  table
+--   antilog-log                    the antilog of a log is the element
 --   held-row, row-is-row           a polynomial is held by its row
 --   held_below, held-long          what a row holds are elements, as many as its logs
---   inverse-fits, inverse-at       the antilog of twice the order less the log is the inverse
+--   square-zero                    0 is its own square
 -- Assumes nothing.
-use mathlib.Core.Path.{◌≡◌, refl, sym, ap, ap₂, ◌∙◌, subst}
+use mathlib.Core.Path.{◌≡◌, refl, sym, ap, ap₂, ◌∙◌}
 use mathlib.Core.Bool.{Bool, true, false, cond}
 use mathlib.Core.List.{List, [], ◌∷◌}
-use Prim.Native.Nat.{ℕ, zero, suc, ◌+◌, ◌-◌, ◌*◌, ◌/◌, ◌%◌, ◌^◌, ◌≤◌, ◌<◌}
+use Prim.Native.Nat.{ℕ, zero, suc, ◌+◌, ◌/◌, ◌%◌, ◌^◌, ◌<◌}
 use native.Mathlib.Nat.{not-suc-le-zero, le_of_suc-le-suc}
 use native.Mathlib.Decide.{dec_lt}
 use native.Mathlib.Omega.{arith}
@@ -21,10 +21,10 @@ use lib.ListN.{length, get_or, length-map}
 use Rattle.algebra.specs.Field.{OnNumbers, power}
 use Rattle.algebra.specs.Polynomial.{Below}
 use Rattle.field.proofs.Known.{listed}
-use Rattle.field.specs.Field.{Field, size, order, mul, inverse, numbers, position, field_at, G}
+use Rattle.field.specs.Field.{Field, size, mul, numbers, position, field_at, G}
 use Rattle.field.specs.Tables.{log_of, antilog_of}
-use Rattle.field.proofs.Ring.{power-lt, power-add}
-use Rattle.field.proofs.Generator.{Generated, generated, Small, small, one_below, position-is, power-order, inverse-only}
+use Rattle.field.proofs.Ring.{ring, power-lt}
+use Rattle.field.proofs.Generator.{Generated, generated, Small, small, one_below, position-is}
 use Rattle.field.proofs.Logarithms.{log-position, antilog-even, log-lt, log-product}
 use Rattle.field.proofs.Instance.{known-numbers}
 use Rattle.poly.specs.Lent.{Lent, IsLog, LogRow, log_row, held}
@@ -49,20 +49,6 @@ module _ (F : Field) (gen : Generated F) where
       go : Dec (0 < x) → antilog_of F (log_of F x) ≡ x
       go (yes p) = ap (antilog_of F) (log-position F x p) ∙ antilog-even F (position F x) ∙ (position-is F gen x p h).1
       go (no z) = let e : x ≡ 0 = omega arith in ap (λ y. antilog_of F (log_of F y)) e ∙ sym e
-
-  -- the inverse by logs
-  back-inverse : (x : ℕ) → 0 < x → x < size F → antilog_of F (2 * order F - log_of F x) ≡ inverse F x
-  back-inverse x p h =
-      let at = position-is F gen x p h in
-      let l = at.0 in
-      let i : ℕ = position F x in
-      let j : ℕ = order F - i in
-      let whole : i + j ≡ order F = omega arith in
-      let place : 2 * order F - log_of F x ≡ 2 * j = omega (arith, log-position F x p) in
-      ap (antilog_of F) place ∙ antilog-even F j
-      ∙ sym (inverse-only F gen x (power (numbers F) 2 j) p h (power-lt F gen.monic (one_below F gen) 2 j)
-      (ap (λ (y : ℕ). mul F y (power (numbers F) 2 j)) (sym at.1)
-      ∙ sym (power-add F gen.monic (one_below F gen) 2 i j) ∙ ap (power (numbers F) 2) whole ∙ power-order F gen))
 
 -- ---- over lent tables
 
@@ -104,17 +90,6 @@ module _ {m : ℕ} {logs antilogs : List ℕ} (l : Lent m logs antilogs) where
   antilog-log : {x : ℕ} → x < 2 ^ m → antilog_of (field_at m) (log_of (field_at m) x) ≡ x
   antilog-log {x} h = back (field_at m) field_of x h
 
-  log-is-log : {x : ℕ} → x < 2 ^ m → IsLog m (get_or logs x 0)
-  log-is-log {x} h = subst (IsLog m) (sym (log-at h)) (ap (log_of (field_at m)) (antilog-log h))
-
-  -- two elements
-  pub product-fits : {x y : ℕ} → 0 < x → x < 2 ^ m → y < 2 ^ m → get_or logs x 0 + get_or logs y 0 < length antilogs
-  product-fits p h k = row_fits p h (log-is-log k)
-
-  pub product_at : {x y : ℕ} → 0 < x → x < 2 ^ m → y < 2 ^ m → get_or antilogs (get_or logs x 0 + get_or logs y 0) 0 ≡ mul (field_at m) x y
-  product_at {x} {y} p h k =
-      row_at p h (log-is-log k) ∙ ap (λ u. mul (field_at m) x (antilog_of (field_at m) u)) (log-at k) ∙ ap (mul (field_at m) x) (antilog-log k)
-
   -- rows of polynomials
   pub held-row : (p : List ℕ) → Below (2 ^ m) p → held m (log_row m p) ≡ p
   held-row [] h = refl
@@ -132,18 +107,9 @@ module _ {m : ℕ} {logs antilogs : List ℕ} (l : Lent m logs antilogs) where
   held_below [] = tt
   held_below (x ∷ row) = (antilog-lt (field_at m) field_of x, held_below row)
 
-  -- the inverse
-  pub inverse-fits : {x : ℕ} → 0 < x → x < 2 ^ m → (get_or logs x 0 ≤ 2 * (length logs - 1)) × (2 * (length logs - 1) - get_or logs x 0 < length antilogs)
-  inverse-fits {x} p h =
-      let two = field_of.two in
-      let k = log-lt (field_at m) field_of x h in
-      (omega (arith, l.logs.entries, log-at h), omega (arith, l.logs.entries, l.antilogs.entries, log-at h))
-
-  pub inverse-at : {x : ℕ} → 0 < x → x < 2 ^ m → get_or antilogs (2 * (length logs - 1) - get_or logs x 0) 0 ≡ inverse (field_at m) x
-  inverse-at {x} p h =
-      let e : 2 * (length logs - 1) - get_or logs x 0 ≡ 2 * order (field_at m) - log_of (field_at m) x = ap₂ (λ n i. 2 * (n - 1) - i) l.logs.entries (log-at h) in
-      l.antilogs.entry (2 * (length logs - 1) - get_or logs x 0) (omega (arith, (inverse-fits p h).1, l.antilogs.entries))
-      ∙ ap (antilog_of (field_at m)) e ∙ back-inverse (field_at m) field_of x p h
-
 pub held-long : (m : ℕ) (row : List ℕ) → length (held m row) ≡ length row
 held-long m row = length-map row (antilog_of (field_at m))
+
+-- 0 is its own square
+pub square-zero : {m : ℕ} {ls ts : List ℕ} {x : ℕ} → Lent m ls ts → x ≡ 0 → 0 ≡ mul (field_at m) x x
+square-zero {m} {ls} {ts} {x} l z = sym (ap (λ y. mul (field_at m) y x) z ∙ (ring (field_at m) (field_of l).monic).mul-zero-l x)

@@ -1,19 +1,17 @@
 -- The degree, scaling, and making monic: what holds at each turn.
---   Searching, search-from, search-on, search-hit, search-miss   nothing stands at k or above
 --   Scaling, scale-from, scale-on, scale-fits, scale-end         the first i coefficients are multiplied
 --   norm-zero, norm-lead, norm-skip                              what `norm` does with the highest coefficient
 --   made_none, made_some                                         what `make_monic` has done
 -- Assumes nothing.
 use mathlib.Core.Path.{◌≡◌, refl, sym, ap, ◌∙◌}
-use mathlib.Core.Logic.{◌≢◌, ⊎_elim}
+use mathlib.Core.Logic.{◌≢◌}
 use mathlib.Core.Option.{some}
 use mathlib.Core.List.{List, ◌++◌, map}
 use Prim.Native.Nat.{ℕ, suc, ◌+◌, ◌-◌, ◌^◌, ◌≤◌, ◌<◌}
-use native.Mathlib.Nat.{not-suc-le-zero, eq-or-lt_of_le}
 use native.Mathlib.Decide.{le_ind, dec_lt}
 use native.Mathlib.Omega.{arith}
 use borrow.Author.Tests.{eq-eqb, ne_eqb}
-use lib.ListN.{length, get_or, take, drop, set, length-map, get_or-eq_default}
+use lib.ListN.{length, get_or, take, drop, set, length-map}
 use lib.Seq.{length-take-le, length_front, take_at}
 use Rattle.algebra.specs.Polynomial.{Below}
 use Rattle.algebra.specs.Routines.{norm}
@@ -22,41 +20,22 @@ use Rattle.field.specs.Field.{mul, inverse, field_at, G}
 use Rattle.field.proofs.Ring.{ring}
 use Rattle.field.proofs.Generator.{inverse-lt, mul-inverse}
 use Rattle.poly.specs.Lent.{Lent}
-use Rattle.poly.specs.Monic.{TopIs, monic_low, MadeMonic, Scalable}
+use Rattle.poly.specs.Monic.{TopIs, monic_low, MadeMonic}
+use Rattle.poly.specs.Asking.{Scalable}
 use Rattle.slices.proofs.Filling.{Filling, map-from, map_on, fill-next, fill_end}
-use Rattle.poly.proofs.Logs.{field_of, logs-fit, product-fits, product_at}
-
--- ---- `top`
-
--- nothing stands at k or above
-pub record Searching (r : List ℕ) (k : ℕ) : Type 0 where
-  pub within : k ≤ length r
-  pub above : (j : ℕ) → k ≤ j → get_or r j 0 ≡ 0
-
-pub search-from : (r : List ℕ) → Searching r (length r)
-search-from r = record { within = omega arith; above = λ j h. get_or-eq_default r 0 h }
-
-pub search-on : {r : List ℕ} {k : ℕ} → Searching r k → 0 < k → get_or r (k - 1) 0 ≡ 0 → Searching r (k - 1)
-search-on {r} {k} s h e = record {
-  within = omega (arith, s.within);
-  above = λ j l. ⊎_elim (λ i. ap (λ n. get_or r n 0) (sym i) ∙ e) (λ i. s.above j (omega arith)) (eq-or-lt_of_le l);
-}
-
-pub search-hit : {r : List ℕ} {k : ℕ} → Searching r k → get_or r (k - 1) 0 ≢ 0 → TopIs r k
-search-hit s h = record { within = s.within; above = s.above; nonzero = λ l. h }
-
-pub search-miss : {r : List ℕ} {k : ℕ} → Searching r k → k ≤ 0 → TopIs r 0
-search-miss s h = record { within = omega arith; above = λ j l. s.above j (omega arith); nonzero = λ l. absurd (not-suc-le-zero l) }
+use Rattle.field.proofs.ByLogs.{product-fits, product-stands}
+use Rattle.poly.proofs.Logs.{field_of, logs-fit}
 
 -- ---- `scale`
 
 -- the first i coefficients are multiplied
 pub record Scaling (m : ℕ) (ls ts : List ℕ) (v : ℕ) (r₀ r : List ℕ) (i : ℕ) : Type 0 where
-  pub given : Scalable m ls ts v r₀
+  pub tables : Lent m ls ts
+  pub given : Scalable m v r₀
   pub filling : Filling (map ((G m).mul v) r₀) r₀ r i
 
-pub scale-from : {m : ℕ} {ls ts : List ℕ} {v : ℕ} {r : List ℕ} → Scalable m ls ts v r → Scaling m ls ts v r r 0
-scale-from {m} {ls} {ts} {v} {r} g = record { given = g; filling = map-from ((G m).mul v) r }
+pub scale-from : {m : ℕ} {ls ts : List ℕ} {v : ℕ} {r : List ℕ} → Lent m ls ts → Scalable m v r → Scaling m ls ts v r r 0
+scale-from {m} {ls} {ts} {v} {r} l g = record { tables = l; given = g; filling = map-from ((G m).mul v) r }
 
 module _ {m : ℕ} {ls ts : List ℕ} {v : ℕ} {r₀ r : List ℕ} {i : ℕ} (s : Scaling m ls ts v r₀ r i) where
   -- what stands at i is an element
@@ -64,15 +43,16 @@ module _ {m : ℕ} {ls ts : List ℕ} {v : ℕ} {r₀ r : List ℕ} {i : ℕ} (s
   scale_small h = let b = below_at (2 ^ m) r₀ s.given.small i h in omega (arith, fill-next s.filling h)
 
   pub scale-logs : i < length r₀ → get_or r i 0 < length ls
-  scale-logs h = logs-fit s.given.tables (scale_small h)
+  scale-logs h = logs-fit s.tables (scale_small h)
 
   pub scale-fits : i < length r₀ → get_or ls v 0 + get_or ls (get_or r i 0) 0 < length ts
-  scale-fits h = product-fits s.given.tables s.given.nonzero s.given.element (scale_small h)
+  scale-fits h = product-fits s.tables s.given.element (scale_small h)
 
   pub scale-on : i < length r₀ → Scaling m ls ts v r₀ (set r i (get_or ts (get_or ls v 0 + get_or ls (get_or r i 0) 0) 0)) (i + 1)
   scale-on h = record {
+    tables = s.tables;
     given = s.given;
-    filling = map_on ((G m).mul v) s.filling h (product_at s.given.tables s.given.nonzero s.given.element (scale_small h));
+    filling = map_on ((G m).mul v) s.filling h (product-stands s.tables s.given.nonzero s.given.element (scale_small h));
   }
 
   pub scale-end : length r₀ ≤ i → r ≡ map ((G m).mul v) r₀
@@ -108,9 +88,8 @@ module _ {m : ℕ} {ls ts r : List ℕ} {j : ℕ} (l : Lent m ls ts) (b : Below 
   lead-small = below_at (2 ^ m) r b (j - 1) (omega (arith, t.within))
 
   -- its inverse is none either
-  pub made_asks : {v : ℕ} → v ≡ inverse (field_at m) (get_or r (j - 1) 0) → Scalable m ls ts v (take (j - 1) r)
+  pub made_asks : {v : ℕ} → v ≡ inverse (field_at m) (get_or r (j - 1) 0) → Scalable m v (take (j - 1) r)
   made_asks {v} e = record {
-    tables = l;
     nonzero = go (dec_lt 0 v);
     element = omega (arith, inverse-lt (field_at m) (field_of l) (get_or r (j - 1) 0));
     small = take_below (2 ^ m) (j - 1) r b;

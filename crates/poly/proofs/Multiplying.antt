@@ -15,7 +15,8 @@ use Rattle.algebra.specs.Polynomial.{from_roots, linear, mul}
 use Rattle.algebra.proofs.StaysBelow.{below_at, drop-below}
 use Rattle.field.specs.Field.{G}
 use Rattle.slices.specs.Lists.{copied}
-use Rattle.poly.specs.Products.{Multipliable, Stretchable}
+use Rattle.poly.specs.Lent.{Lent}
+use Rattle.poly.specs.Asking.{Multipliable, Stretchable}
 use Rattle.poly.proofs.RootProducts.{product-below, product-long}
 
 -- the product over the roots from i on
@@ -24,20 +25,22 @@ behind m roots i = from_roots (G m) (drop i roots)
 
 -- it stands from place i on; before it and behind the last place the list is as it was
 pub record Multiplying (m : ℕ) (ls ts roots f₀ f : List ℕ) (i : ℕ) : Type 0 where
-  pub given : Multipliable m ls ts roots f₀
+  pub tables : Lent m ls ts
+  pub given : Multipliable m roots f₀
   pub within : i ≤ length roots
   pub long : length f ≡ length f₀
   pub done : f ≡ take i f₀ ++ (behind m roots i ++ drop (suc (length roots)) f₀)
 
 -- behind the last root the product is 1
-pub multiply-from : {m : ℕ} {ls ts roots f : List ℕ} → Multipliable m ls ts roots f
+pub multiply-from : {m : ℕ} {ls ts roots f : List ℕ} → Lent m ls ts → Multipliable m roots f
     → Multiplying m ls ts roots (set f (length roots) 1) (set f (length roots) 1) (length roots)
 unfolding from_roots
-multiply-from {m} {ls} {ts} {roots} {f} g =
+multiply-from {m} {ls} {ts} {roots} {f} l g =
     let n : ℕ = length roots in
     let same : length (set f n 1) ≡ length f = length-set f n 1 in
     record {
-      given = record { tables = g.tables; small = g.small; room = omega (arith, g.room) };
+      tables = l;
+      given = record { small = g.small; room = omega (arith, g.room) };
       within = omega arith;
       long = refl;
       done = set_split f n 1 g.room
@@ -83,12 +86,11 @@ module _ {m : ℕ} {ls ts roots f₀ f : List ℕ} {i : ℕ} (s : Multiplying m 
 
   -- it can be multiplied by the root before it
   pub multiply-lent : 0 < i
-      → Stretchable m ls ts (get_or roots (i - 1) 0) (take (length roots + 1 - (i - 1)) (drop (i - 1) f))
+      → Stretchable m (get_or roots (i - 1) 0) (take (length roots + 1 - (i - 1)) (drop (i - 1) f))
   multiply-lent h =
-      subst (Stretchable m ls ts (get_or roots (i - 1) 0)) (sym (multiply-part h)) (record {
-        tables = s.given.tables;
+      subst (Stretchable m (get_or roots (i - 1) 0)) (sym (multiply-part h)) (record {
         element = below_at (2 ^ m) roots s.given.small (i - 1) (omega (arith, s.within));
-        small = product-below m s.given.tables.degree (drop i roots)
+        small = product-below m s.tables.degree (drop i roots)
             (drop-below (2 ^ m) i roots s.given.small);
         room = omega (arith, product-long m (drop i roots));
       })
@@ -115,6 +117,7 @@ module _ {m : ℕ} {ls ts roots f₀ f : List ℕ} {i : ℕ} (s : Multiplying m 
       (ap (drop (n + 1 - j)) (ap (drop j) (parts h) ∙ drop_at (take j f₀) (slot ++ rest) j (before-long h))
       ∙ drop_at slot rest (n + 1 - j) (slot-long h))) in
       record {
+        tables = s.tables;
         given = s.given;
         within = omega arith;
         long = ap length back ∙ length-append (take j f₀) (behind m roots j ++ rest)

@@ -20,10 +20,12 @@ use Rattle.algebra.specs.Polynomial.{Below, add, linear, mul}
 use Rattle.algebra.proofs.StaysBelow.{below_at}
 use Rattle.field.specs.Field.{field_at, G}
 use Rattle.field.proofs.Ring.{ring}
-use Rattle.poly.proofs.Logs.{field_of, numbers_of, logs-fit, product-fits, product_at}
+use Rattle.field.proofs.ByLogs.{product-fits, product-stands}
+use Rattle.poly.proofs.Logs.{field_of, numbers_of, logs-fit}
 use Rattle.poly.proofs.Sums.{add_at, add-nil, add_none, add-rest, long-row}
 use Rattle.slices.proofs.Filling.{Filling, fill, fill-from, fill_on, fill-next, fill_stop, map_at}
-use Rattle.poly.specs.Products.{Stretchable}
+use Rattle.poly.specs.Lent.{Lent}
+use Rattle.poly.specs.Asking.{Stretchable}
 
 -- the sum that the loop makes
 abbrev pub stretched : ℕ → ℕ → List ℕ → List ℕ
@@ -60,30 +62,32 @@ module _ (m : ℕ) where
 
 -- the first i coefficients are the product's
 pub record Stretching (m : ℕ) (ls ts : List ℕ) (r : ℕ) (f₀ : List ℕ) (top : ℕ) (f : List ℕ) (i : ℕ) : Type 0 where
-  pub given : Stretchable m ls ts r f₀
+  pub tables : Lent m ls ts
+  pub given : Stretchable m r f₀
   pub cleared : f₀ ≡ 0 ∷ drop 1 f₀
   pub ends : suc top ≡ length f₀
   pub within : i ≤ top
   pub filling : Filling (stretched m r f₀) f₀ f i
 
-module _ {m : ℕ} {ls ts : List ℕ} {r : ℕ} where
+module _ {m : ℕ} {ls ts : List ℕ} {r : ℕ} (l : Lent m ls ts) where
   -- with 0 at its front it can be multiplied as well
-  clear-front : (f : List ℕ) → Stretchable m ls ts r f
-      → Stretchable m ls ts r (set f 0 0) × (set f 0 0 ≡ 0 ∷ drop 1 (set f 0 0))
+  clear-front : (f : List ℕ) → Stretchable m r f
+      → Stretchable m r (set f 0 0) × (set f 0 0 ≡ 0 ∷ drop 1 (set f 0 0))
   clear-front [] g = absurd (not-suc-le-zero g.room)
-  clear-front (c ∷ f) g = (record { tables = g.tables; element = g.element; small = g.small; room = g.room }, refl)
+  clear-front (c ∷ f) g = (record { element = g.element; small = g.small; room = g.room }, refl)
 
   -- where f starts with 0 the sum is the product
-  product-of : (f : List ℕ) → Stretchable m ls ts r f → f ≡ 0 ∷ drop 1 f
+  product-of : (f : List ℕ) → Stretchable m r f → f ≡ 0 ∷ drop 1 f
       → stretched m r f ≡ mul (G m) (linear (G m) r) (drop 1 f)
   product-of f g e =
       ap (λ u. add (G m) u (map ((G m).mul r) (drop 1 f))) e
-      ∙ linear-stretched m (numbers_of g.tables) r (drop 1 f) g.small (omega (arith, length-drop 1 f, g.room))
+      ∙ linear-stretched m (numbers_of l) r (drop 1 f) g.small (omega (arith, length-drop 1 f, g.room))
 
   -- the first slot is set to 0
-  pub stretch-from : {f : List ℕ} → Stretchable m ls ts r f
+  pub stretch-from : {f : List ℕ} → Stretchable m r f
       → Stretching m ls ts r (set f 0 0) (length (set f 0 0) - 1) (set f 0 0) 0
   stretch-from {f} g = record {
+    tables = l;
     given = (clear-front f g).0;
     cleared = (clear-front f g).1;
     ends = omega (arith, length-set f 0 0, g.room);
@@ -93,13 +97,13 @@ module _ {m : ℕ} {ls ts : List ℕ} {r : ℕ} where
   }
 
   -- nothing is added
-  pub stretch-skipped : {f : List ℕ} → Stretchable m ls ts r f → r ≡ 0
+  pub stretch-skipped : {f : List ℕ} → Stretchable m r f → r ≡ 0
       → set f 0 0 ≡ mul (G m) (linear (G m) r) (drop 1 f)
   stretch-skipped {f} g z =
       let w = clear-front f g in
       let h : List ℕ = set f 0 0 in
       sym (ap (λ u. add (G m) h (map ((G m).mul u) (drop 1 h))) z
-      ∙ add_none m (ring (field_at m) (field_of g.tables).monic).mul-zero-l h (drop 1 h)
+      ∙ add_none m (ring (field_at m) (field_of l).monic).mul-zero-l h (drop 1 h)
       (omega (arith, length-drop 1 h)))
       ∙ product-of h w.0 w.1 ∙ ap (mul (G m) (linear (G m) r)) (drop-set-lt 1 f 0 0 (omega arith))
 
@@ -132,11 +136,11 @@ module _ {m r top i : ℕ} {ls ts f₀ f : List ℕ} (s : Stretching m ls ts r f
 
   -- a coefficient has its log
   pub stretch-logs : i < top → get_or f (i + 1) 0 < length ls
-  stretch-logs h = logs-fit s.given.tables (small h)
+  stretch-logs h = logs-fit s.tables (small h)
 
   -- the product stands in the table
   pub stretch-fits : 0 < r → i < top → get_or ls r 0 + get_or ls (get_or f (i + 1) 0) 0 < length ts
-  stretch-fits p h = product-fits s.given.tables p s.given.element (small h)
+  stretch-fits p h = product-fits s.tables s.given.element (small h)
 
   -- one more coefficient
   pub stretch-on : 0 < r → i < top
@@ -151,13 +155,14 @@ module _ {m r top i : ℕ} {ls ts f₀ f : List ℕ} (s : Stretching m ls ts r f
       let short : length q ≤ length f₀ = omega arith in
       let at : i < length q = omega arith in
       record {
+        tables = s.tables;
         given = s.given;
         cleared = s.cleared;
         ends = ends;
         within = omega arith;
         filling = fill_on s.filling here
             (ap₂ bit_xor (fill-next s.filling here)
-            (product_at s.given.tables p s.given.element (small h) ∙ ap ((G m).mul r) above
+            (product-stands s.tables p s.given.element (small h) ∙ ap ((G m).mul r) above
             ∙ sym (map_at ((G m).mul r) (drop 1 f₀) i (inside h)))
             ∙ sym (add_at m f₀ q i short at));
       }
@@ -170,7 +175,7 @@ module _ {m r top i : ℕ} {ls ts f₀ f : List ℕ} (s : Stretching m ls ts r f
       fill_stop s.filling
       (ap (λ n. drop n (stretched m r f₀)) e ∙ add-rest m f₀ q (omega (arith, s.ends, s.within))
       ∙ ap (λ n. drop n f₀) (sym e))
-      ∙ product-of f₀ s.given s.cleared
+      ∙ product-of s.tables f₀ s.given s.cleared
 
 -- ---- from what is lent: its first slot is set to 0 before the loop
 

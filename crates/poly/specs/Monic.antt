@@ -3,14 +3,11 @@
 --   monic_low   what the first j coefficients hold once they are monic: the j - 1 below the leading one; nothing where
 --              j is 0
 --   MadeMonic  r became r' : j coefficients were left, and they are monic
---   Scalable   r can be multiplied by v
 -- Assumes nothing.
-use Rattle.std.specs.Prelude.{◌≡◌, ◌≢◌, List, ℕ, zero, suc, ◌-◌, ◌^◌, ◌≤◌, ◌<◌, length, get_or, take}
+use Rattle.std.specs.Prelude.{◌≡◌, ◌≢◌, List, ℕ, zero, suc, ◌-◌, ◌≤◌, ◌<◌, length, get_or, take}
 use Rattle.std.proofs.Math.Option.{Option, none, some}
-use Rattle.algebra.specs.Polynomial.{Below}
 use Rattle.algebra.specs.Routines.{norm}
 use Rattle.field.specs.Field.{G}
-use Rattle.poly.specs.Lent.{Lent}
 
 -- nothing stands above
 pub record TopIs (r : List ℕ) (k : ℕ) : Type 0 where
@@ -28,10 +25,3 @@ pub record MadeMonic (m : ℕ) (r : List ℕ) (j : ℕ) (r' : List ℕ) : Type 0
   pub within : j ≤ length r
   pub long : length r' ≡ length r
   pub made : norm (G m) (length r) r ≡ monic_low j r'
-
--- by an element that is not 0
-pub record Scalable (m : ℕ) (ls ts : List ℕ) (v : ℕ) (r : List ℕ) : Type 0 where
-  pub tables : Lent m ls ts
-  pub nonzero : 0 < v
-  pub element : v < 2 ^ m
-  pub small : Below (2 ^ m) r

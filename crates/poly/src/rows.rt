@@ -2,32 +2,33 @@
 ghost use Rattle.std.specs.Prelude.{◌≡◌, map};
 ghost use Rattle.algebra.specs.Polynomial.{add};
 ghost use Rattle.field.specs.Field.{G};
-ghost use Rattle.poly.specs.Lent.{log_row, held, Addable, Loggable};
+ghost use Rattle.poly.specs.Lent.{log_row, held};
+ghost use Rattle.poly.specs.Asking.{Addable, Loggable};
+
+use field::tables::Tables;
 
 // The kernel: adds t times the polynomial that the row holds to the front of r.
-pub fn add_row(m: u16, logs: &[u16], antilogs: &[u16], t: u16, row: &[u16], r: &mut [u16])
-    requires { Addable m logs.now antilogs.now t row.now r.old }
-    ensures { r.new ≡ add (G m) r.old (map ((G m).mul t) (held m row.now)) }
+pub fn add_row(tables: &Tables, t: u16, row: &[u16], r: &mut [u16])
+    requires { Addable tables.now.degree t row.now r.old }
+    ensures { let F = G tables.now.degree in r.new ≡ add F r.old (map (F.mul t) (held tables.now.degree row.now)) }
 {
     if t == 0 {
         return;
     }
-    let s = logs[t as usize] as usize;
-    let mut i = 0;
-    while i < row.len() {
-        r[i] = r[i] ^ antilogs[s + row[i] as usize];
-        i += 1;
+    let antilogs = tables.antilogs;
+    let s = tables.logs[t as usize] as usize;
+    for (i, log) in row.iter().enumerate() {
+        r[i] ^= antilogs[s + *log as usize];
     }
 }
 
 // Writes the row of p.
-pub fn log_row(m: u16, logs: &[u16], antilogs: &[u16], p: &[u16], row: &mut [u16])
-    requires { Loggable m logs.now antilogs.now p.now row.old }
-    ensures { row.new ≡ log_row m p.now }
+pub fn log_row(tables: &Tables, p: &[u16], row: &mut [u16])
+    requires { Loggable tables.now.degree p.now row.old }
+    ensures { row.new ≡ log_row tables.now.degree p.now }
 {
-    let mut i = 0;
-    while i < p.len() {
-        row[i] = logs[p[i] as usize];
-        i += 1;
+    let logs = tables.logs;
+    for (i, x) in p.iter().enumerate() {
+        row[i] = logs[*x as usize];
     }
 }

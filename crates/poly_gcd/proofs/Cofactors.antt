@@ -16,25 +16,25 @@ use lib.ListN.{length, take, drop, set, replicate, length-map, length-set, lengt
 use lib.Seq.{length-take-le, take_at, take-suc-set, take-append-le, drop-append-le, take-take}
 use Rattle.algebra.specs.Polynomial.{Below}
 use Rattle.algebra.specs.Routines.{monic, quo, cofactor}
-use Rattle.algebra.proofs.Lengths.{length-monic, length-cofactor}
+use Rattle.algebra.proofs.Lengths.{length-monic}
 use Rattle.algebra.proofs.StaysBelow.{monic-below}
 use Rattle.field.specs.Tables.{log_of}
 use Rattle.field.specs.Field.{field_at, G}
 use Rattle.slices.specs.Lists.{copied}
 use Rattle.slices.proofs.Lists.{copied-front, length-copied}
-use Rattle.poly.specs.Lent.{Loggable, LogRow, log_row, held}
-use Rattle.poly.specs.Division.{divided, Divisible}
+use Rattle.poly.specs.Lent.{Lent, LogRow, log_row, held}
+use Rattle.poly.specs.Asking.{Loggable, Divisible}
+use Rattle.poly.specs.Division.{divided}
 use Rattle.input.specs.Limit.{limit}
-use Rattle.poly_gcd.specs.Euclid.{Cofactorable}
+use Rattle.poly_gcd.specs.Asking.{Cofactorable}
 use Rattle.poly.proofs.Logs.{numbers_of, held-row, row-is-row}
 use Rattle.poly.proofs.Divisions.{divided-behind, length-divided}
-use Rattle.poly.proofs.Remainders.{copied-whole}
 
-module _ {m : ℕ} {ls ts p g h : List ℕ} (c : Cofactorable m ls ts p g h) where
+module _ {m : ℕ} {ls ts p g h : List ℕ} (l : Lent m ls ts) (c : Cofactorable m p g h) where
   -- the row of g has its room
-  pub cofactor-row : Loggable m ls ts g (take (length g) (replicate limit 0))
+  pub cofactor-row : Loggable m g (take (length g) (replicate limit 0))
   cofactor-row =
-      record { tables = c.tables; small = c.small-g; room = sym (length-take-le (length g) (replicate limit 0) (omega (arith, c.few, c.shorter))) }
+      record { small = c.small-g; room = sym (length-take-le (length g) (replicate limit 0) (omega (arith, c.few, c.shorter))) }
 
   module _ {y f : List ℕ} (r : y ≡ log_row m g) (e : f ≡ copied p (replicate (suc limit) 0)) where
     -- the row, where it stands
@@ -72,29 +72,28 @@ module _ {m : ℕ} {ls ts p g h : List ℕ} (c : Cofactorable m ls ts p g h) whe
     pub whole_long : length whole ≡ length p + 1
     whole_long = ap length whole_is ∙ length-monic (G m) p ∙ sym (add-one (length p))
 
-    pub cofactor-asks : Divisible m ls ts row whole
+    pub cofactor-asks : Divisible m row whole
     cofactor-asks = record {
-      tables = c.tables;
-      logs = subst (LogRow m) (sym row_is) (row-is-row c.tables g c.small-g);
-      small = subst (Below (2 ^ m)) (sym whole_is) (monic-below (numbers_of c.tables) p c.small-p);
+      logs = subst (LogRow m) (sym row_is) (row-is-row l g c.small-g);
+      small = subst (Below (2 ^ m)) (sym whole_is) (monic-below (numbers_of l) p c.small-p);
       room = omega (arith, row-long, whole_long, c.shorter);
     }
 
     module _ {f₁ : List ℕ} (d : f₁ ≡ divided m (held m row) whole) where
       -- what is divided
       done : f₁ ≡ divided m g (monic (G m) p)
-      done = d ∙ ap₂ (λ u v. divided m u v) (ap (held m) row_is ∙ held-row c.tables g c.small-g) whole_is
+      done = d ∙ ap₂ (λ u v. divided m u v) (ap (held m) row_is ∙ held-row l g c.small-g) whole_is
 
       cofactor-long : length f₁ ≡ length p + 1
       cofactor-long =
           let s = c.shorter in
-          ap length done ∙ length-divided c.tables g (monic (G m) p) (omega (arith, length-monic (G m) p)) ∙ length-monic (G m) p ∙ sym (add-one (length p))
+          ap length done ∙ length-divided l g (monic (G m) p) (omega (arith, length-monic (G m) p)) ∙ length-monic (G m) p ∙ sym (add-one (length p))
 
       pub quotient_fits : (z : List ℕ) → length p ≤ length (f₁ ++ z)
       quotient_fits z = omega (arith, cofactor-long, length-append f₁ z)
 
       -- the quotient, where it stands
-      pub cofactor-is : {h₁ : List ℕ} (z : List ℕ) → h₁ ≡ copied (take (length p - length g) (drop (length g) (f₁ ++ z))) h → h₁ ≡ cofactor (G m) p g
+      pub cofactor-is : {h₁ : List ℕ} (z : List ℕ) → h₁ ≡ take (length p - length g) (drop (length g) (f₁ ++ z)) → h₁ ≡ cofactor (G m) p g
       unfolding cofactor
       cofactor-is {h₁} z k =
           let q : List ℕ = quo (G m) g (monic (G m) p) in
@@ -105,4 +104,4 @@ module _ {m : ℕ} {ls ts p g h : List ℕ} (c : Cofactorable m ls ts p g h) whe
           ap (take n) (drop-append-le (length g) f₁ z (omega arith)) ∙ take-append-le n (drop (length g) f₁) z (omega (arith, length-drop (length g) f₁))
           ∙ ap (λ u. take n (drop (length g) u)) done ∙ ap (take n) (divided-behind m g (monic (G m) p) refl)
           ∙ take-take n (length (monic (G m) p) - length g) q (omega (arith, length-monic (G m) p)) in
-          k ∙ ap (λ u. copied u h) part ∙ copied-whole (take n q) h (omega (arith, length-cofactor (G m) p g, c.room))
+          k ∙ part

@@ -17,17 +17,18 @@ use Rattle.algebra.proofs.NumberMonic.{Made, norm-made, norm-none}
 use Rattle.field.specs.Field.{G}
 use Rattle.poly.specs.Lent.{Lent}
 use Rattle.poly.specs.Monic.{MadeMonic}
-use Rattle.poly_gcd.specs.Euclid.{Commonable, GcdIs}
+use Rattle.poly_gcd.specs.Asking.{Commonable}
+use Rattle.poly_gcd.specs.Euclid.{GcdIs}
 use Rattle.poly.proofs.Logs.{numbers_of}
 use Rattle.poly_gcd.proofs.EuclidLoops.{monic_low-some, monic_low-none}
 
-module _ {m : ℕ} {ls ts p t g g' : List ℕ} {n : ℕ} (c : Commonable m ls ts p t g) (d : GcdIs m p t n g') where
+module _ {m : ℕ} {ls ts p t g g' : List ℕ} {n : ℕ} (l : Lent m ls ts) (c : Commonable m p t g) (d : GcdIs m p t n g') where
   pub gcd-means : IsGcdBelow (G m) (2 ^ m) (monic (G m) p) t (monic (G m) (take n g'))
   gcd-means =
-      subst (λ u. IsGcdBelow (G m) (2 ^ m) (monic (G m) p) t (monic (G m) u)) (sym d.low) (gcd-right (numbers_of c.tables) p t c.small-p c.small-t)
+      subst (λ u. IsGcdBelow (G m) (2 ^ m) (monic (G m) p) t (monic (G m) u)) (sym d.low) (gcd-right (numbers_of l) p t c.small-p c.small-t)
 
   gcd-below : Below (2 ^ m) (take n g')
-  gcd-below = subst (Below (2 ^ m)) (sym d.low) (S.gcd-below (numbers_of c.tables) p t c.small-p c.small-t)
+  gcd-below = subst (Below (2 ^ m)) (sym d.low) (S.gcd-below (numbers_of l) p t c.small-p c.small-t)
 
 module _ {m : ℕ} {ls ts r : List ℕ} {j : ℕ} {r' : List ℕ} (l : Lent m ls ts) (b : Below (2 ^ m) r) (d : MadeMonic m r j r') where
   pub monic-means : j ≢ 0 → Made (G m) (2 ^ m) r (take (j - 1) r')

@@ -1,5 +1,4 @@
 -- Squares and their sums: what holds at each turn.
---   square-zero                                                    0 is its own square
 --   square-even, square-odd                                        the places of a square
 --   Spreading, spread-from, spread-on, spread_end                  the squares of the first i coefficients are written
 --   stands-long, front_fits                                        where the square and its remainder stand
@@ -11,7 +10,7 @@
 -- Assumes nothing.
 use mathlib.Core.Path.{◌≡◌, refl, sym, ap, ◌∙◌, subst}
 use mathlib.Core.List.{List, [], ◌∷◌, ◌++◌}
-use Prim.Native.Nat.{ℕ, zero, suc, ◌+◌, ◌-◌, ◌^◌, ◌≤◌, ◌<◌}
+use Prim.Native.Nat.{ℕ, zero, suc, ◌+◌, ◌-◌, ◌*◌, ◌^◌, ◌≤◌, ◌<◌}
 use native.Mathlib.Nat.{not-suc-le-zero, le_of_suc-le-suc}
 use native.Mathlib.Omega.{arith}
 use lib.Bits.{bit_xor}
@@ -22,21 +21,16 @@ use Rattle.algebra.specs.Routines.{rem, square, frobenius_mod, trace_mod}
 use Rattle.algebra.proofs.Lengths.{length-rem, length-square, length-add-left}
 use Rattle.algebra.proofs.StaysBelow.{below_at, rem_below, square-below}
 use Rattle.field.specs.Field.{mul, field_at, G}
-use Rattle.field.proofs.Ring.{ring}
-use Rattle.slices.specs.Lists.{copied}
 use Rattle.poly.specs.Lent.{Lent, held}
-use Rattle.poly.specs.Division.{divided, Divisible, Reducible}
+use Rattle.poly.specs.Asking.{Divisible}
+use Rattle.poly.specs.Division.{divided}
 use Rattle.input.specs.Limit.{limit}
-use Rattle.poly_powers.specs.Powers.{Spreadable, Squarable}
+use Rattle.poly_powers.specs.Asking.{Spreadable, Squarable}
 use Rattle.slices.proofs.Filling.{Filling, fill-from, fill_on, fill-next, fill_end}
-use Rattle.poly.proofs.Logs.{field_of, small_of, numbers_of, held_below, held-long}
+use Rattle.poly.proofs.Logs.{small_of, numbers_of, held_below, held-long}
 use Rattle.poly.proofs.Divisions.{length-divided}
 use Rattle.poly.proofs.Sums.{add_at, add-nil, add_assoc}
-use Rattle.poly.proofs.Remainders.{copied-whole, remainder-long}
-
--- 0 is its own square
-pub square-zero : {m : ℕ} {ls ts : List ℕ} {x : ℕ} → Lent m ls ts → x ≡ 0 → 0 ≡ mul (field_at m) x x
-square-zero {m} {ls} {ts} {x} l z = sym (ap (λ y. mul (field_at m) y x) z ∙ (ring (field_at m) (field_of l).monic).mul-zero-l x)
+use Rattle.poly.proofs.Remainders.{remainder-long}
 
 -- ---- `spread`
 
@@ -58,30 +52,31 @@ module _ (m : ℕ) where
   square-odd (c ∷ w) (suc i) h = let e : suc i + suc i + 1 ≡ suc (suc (i + i + 1)) = omega arith in ap (λ n. get_or (square (G m) (c ∷ w)) n 0) e ∙ square-odd w i (le_of_suc-le-suc h)
 
 -- the squares of the first i coefficients are written
-pub record Spreading (m : ℕ) (ls ts w s₀ s : List ℕ) (i : ℕ) : Type 0 where
-  pub given : Spreadable m ls ts w s₀
+pub record Spreading (m : ℕ) (w s₀ s : List ℕ) (i : ℕ) : Type 0 where
+  pub given : Spreadable m w s₀
   pub within : i ≤ length w
   pub filling : Filling (square (G m) w) s₀ s (i + i)
 
-pub spread-from : {m : ℕ} {ls ts w s : List ℕ} → Spreadable m ls ts w s → Spreading m ls ts w s s 0
-spread-from {m} {ls} {ts} {w} {s} g =
+pub spread-from : {m : ℕ} {w s : List ℕ} → Spreadable m w s → Spreading m w s s 0
+spread-from {m} {w} {s} g =
     record { given = g; within = omega arith; filling = fill-from (square (G m) w) s (length-square (G m) w ∙ sym g.room) }
 
-module _ {m : ℕ} {ls ts w s₀ s : List ℕ} {i : ℕ} (p : Spreading m ls ts w s₀ s i) where
-  pub spread-asks : i < length w → Lent m ls ts × (get_or w i 0 < 2 ^ m)
-  spread-asks h = (p.given.tables, below_at (2 ^ m) w p.given.small i h)
+module _ {m : ℕ} {w s₀ s : List ℕ} {i : ℕ} (p : Spreading m w s₀ s i) where
+  pub spread-asks : i < length w → get_or w i 0 < 2 ^ m
+  spread-asks h = below_at (2 ^ m) w p.given.small i h
 
   -- two places more
-  pub spread-on : {x : ℕ} → i < length w → x ≡ mul (field_at m) (get_or w i 0) (get_or w i 0) → Spreading m ls ts w s₀ (set (set s (i + i) x) (i + i + 1) 0) (i + 1)
+  pub spread-on : {x : ℕ} → i < length w → x ≡ mul (field_at m) (get_or w i 0) (get_or w i 0) → Spreading m w s₀ (set (set s (2 * i) x) (2 * i + 1) 0) (i + 1)
   spread-on {x} h e =
       let room = p.given.room in
       let next : i + i + 1 + 1 ≡ i + 1 + (i + 1) = omega arith in
-      record {
+      let twice : i + i ≡ 2 * i = omega arith in
+      subst (λ k. Spreading m w s₀ (set (set s k x) (k + 1) 0) (i + 1)) twice (record {
         given = p.given;
         within = omega arith;
         filling = subst (Filling (square (G m) w) s₀ (set (set s (i + i) x) (i + i + 1) 0)) next
             (fill_on (fill_on p.filling (omega arith) (e ∙ sym (square-even m w i h))) (omega arith) (sym (square-odd m w i h)));
-      }
+      })
 
   pub spread_end : length w ≤ i → s ≡ square (G m) w
   spread_end h = fill_end p.filling (omega (arith, p.given.room))
@@ -92,12 +87,12 @@ module _ {m : ℕ} {ls ts w s₀ s : List ℕ} {i : ℕ} (p : Spreading m ls ts 
 abbrev places : List ℕ → ℕ
 places row = length row + length row
 
-module _ {m : ℕ} {ls ts row w : List ℕ} (g : Squarable m ls ts row w) where
+module _ {m : ℕ} {ls ts row w : List ℕ} (l : Lent m ls ts) (g : Squarable m row w) where
   square-small : Below (2 ^ m) (square (G m) w)
-  square-small = square-below (numbers_of g.tables) w g.small
+  square-small = square-below (numbers_of l) w g.small
 
-  pub square-room : (s : List ℕ) → limit + limit ≤ length s → Spreadable m ls ts w (take (places row) s)
-  square-room s r = record { tables = g.tables; small = g.small; room = omega (arith, length-take-le (places row) s (omega (arith, g.few)), g.long) }
+  pub square-room : (s : List ℕ) → limit + limit ≤ length s → Spreadable m w (take (places row) s)
+  square-room s r = record { small = g.small; room = omega (arith, length-take-le (places row) s (omega (arith, g.few)), g.long) }
 
   module _ (z : List ℕ) {y : List ℕ} (e : y ≡ square (G m) w) where
     y-long : length y ≡ places row
@@ -110,9 +105,8 @@ module _ {m : ℕ} {ls ts row w : List ℕ} (g : Squarable m ls ts row w) where
     pub stands-long : length (take (places row) (y ++ z)) ≡ places row
     stands-long = ap length stands ∙ y-long
 
-    pub square-asks : Divisible m ls ts row (take (places row) (y ++ z))
+    pub square-asks : Divisible m row (take (places row) (y ++ z))
     square-asks = record {
-      tables = g.tables;
       logs = g.logs;
       small = subst (Below (2 ^ m)) (sym (stands ∙ e)) square-small;
       room = omega (arith, stands-long);
@@ -121,24 +115,22 @@ module _ {m : ℕ} {ls ts row w : List ℕ} (g : Squarable m ls ts row w) where
     module _ {y₁ : List ℕ} (f : y₁ ≡ divided m (held m row) (take (places row) (y ++ z))) where
       y₁-long : length y₁ ≡ places row
       y₁-long =
-          ap length f ∙ length-divided g.tables (held m row) (take (places row) (y ++ z)) (omega (arith, held-long m row, square-asks.room))
+          ap length f ∙ length-divided l (held m row) (take (places row) (y ++ z)) (omega (arith, held-long m row, square-asks.room))
           ∙ stands-long
 
       -- the remainder stands in front
       pub front_fits : (z₁ : List ℕ) → length row ≤ length (y₁ ++ z₁)
       front_fits z₁ = omega (arith, y₁-long, length-append y₁ z₁)
 
-      pub square-is : {w₁ : List ℕ} (z₁ : List ℕ) → w₁ ≡ copied (take (length row) (y₁ ++ z₁)) w → w₁ ≡ rem (G m) (held m row) (square (G m) w)
+      pub square-is : {w₁ : List ℕ} (z₁ : List ℕ) → w₁ ≡ take (length row) (y₁ ++ z₁) → w₁ ≡ rem (G m) (held m row) (square (G m) w)
       square-is z₁ h =
-          let r : Reducible m ls ts row (square (G m) w) w = record { tables = g.tables; logs = g.logs; small = square-small; room = g.long } in
-          remainder-long r (f ∙ ap (divided m (held m row)) (stands ∙ e)) (h ∙ ap (λ u. copied u w) (take-append-le (length row) y₁ z₁ (omega (arith, y₁-long))))
+          remainder-long m row (square (G m) w) (f ∙ ap (divided m (held m row)) (stands ∙ e)) (h ∙ take-append-le (length row) y₁ z₁ (omega (arith, y₁-long)))
 
   -- the square can be squared again
-  square-again : {w₁ : List ℕ} → w₁ ≡ rem (G m) (held m row) (square (G m) w) → Squarable m ls ts row w₁
+  square-again : {w₁ : List ℕ} → w₁ ≡ rem (G m) (held m row) (square (G m) w) → Squarable m row w₁
   square-again e = record {
-    tables = g.tables;
     logs = g.logs;
-    small = subst (Below (2 ^ m)) (sym e) (rem_below (numbers_of g.tables) (held m row) (square (G m) w) (held_below g.tables row) square-small);
+    small = subst (Below (2 ^ m)) (sym e) (rem_below (numbers_of l) (held m row) (square (G m) w) (held_below l row) square-small);
     few = g.few;
     long = ap length e ∙ length-rem (G m) (held m row) (square (G m) w) ∙ held-long m row;
   }
@@ -147,16 +139,17 @@ module _ {m : ℕ} {ls ts row w : List ℕ} (g : Squarable m ls ts row w) where
 
 -- i squarings are done
 pub record Powering (m : ℕ) (ls ts row : List ℕ) (k : ℕ) (w₀ s₀ w s : List ℕ) (i : ℕ) : Type 0 where
-  pub given : Squarable m ls ts row w
+  pub tables : Lent m ls ts
+  pub given : Squarable m row w
   pub within : i ≤ k
   pub long-w : length w ≡ length w₀
   pub long-s : length s ≡ length s₀
   pub same : frobenius_mod (G m) (held m row) (k - i) w ≡ frobenius_mod (G m) (held m row) k w₀
 
-pub power-from : {m : ℕ} {ls ts row w : List ℕ} (k : ℕ) (s : List ℕ) → Squarable m ls ts row w → Powering m ls ts row k w s w s 0
-power-from {m} {ls} {ts} {row} {w} k s g =
+pub power-from : {m : ℕ} {ls ts row w : List ℕ} (k : ℕ) (s : List ℕ) → Lent m ls ts → Squarable m row w → Powering m ls ts row k w s w s 0
+power-from {m} {ls} {ts} {row} {w} k s l g =
     let e : k - 0 ≡ k = omega arith in
-    record { given = g; within = omega arith; long-w = refl; long-s = refl; same = ap (λ n. frobenius_mod (G m) (held m row) n w) e }
+    record { tables = l; given = g; within = omega arith; long-w = refl; long-s = refl; same = ap (λ n. frobenius_mod (G m) (held m row) n w) e }
 
 module _ {m : ℕ} {ls ts row : List ℕ} {k : ℕ} {w₀ s₀ w s : List ℕ} {i : ℕ} (p : Powering m ls ts row k w₀ s₀ w s i) where
   -- one squaring more
@@ -164,8 +157,9 @@ module _ {m : ℕ} {ls ts row : List ℕ} {k : ℕ} {w₀ s₀ w s : List ℕ} {
   unfolding frobenius_mod
   power-on {w₁} {s₁} h e n =
       let left : k - i ≡ suc (k - (i + 1)) = omega arith in
-      let again : Squarable m ls ts row w₁ = square-again p.given e in
+      let again : Squarable m row w₁ = square-again p.tables p.given e in
       record {
+        tables = p.tables;
         given = again;
         within = omega arith;
         long-w = again.long ∙ sym p.given.long ∙ p.long-w;
@@ -204,7 +198,8 @@ module _ {m : ℕ} {w r₀ r : List ℕ} {i : ℕ} (s : Summing m w r₀ r i) wh
 
 -- i terms are added
 pub record Tracing (m : ℕ) (ls ts row w₀ s₀ sum₀ w s sum : List ℕ) (i : ℕ) : Type 0 where
-  pub given : Squarable m ls ts row w
+  pub tables : Lent m ls ts
+  pub given : Squarable m row w
   pub first : 0 < i
   pub within : i ≤ m
   pub long-w : length w ≡ length w₀
@@ -213,14 +208,14 @@ pub record Tracing (m : ℕ) (ls ts row w₀ s₀ sum₀ w s sum : List ℕ) (i 
   pub room : length sum₀ ≡ length row
   pub same : add (G m) sum (trace_mod (G m) (held m row) (m - i) (rem (G m) (held m row) (square (G m) w))) ≡ trace_mod (G m) (held m row) m w₀
 
-pub trace-from : {m : ℕ} {ls ts row w sum₁ : List ℕ} (s sum : List ℕ) → Squarable m ls ts row w → length sum ≡ length row → sum₁ ≡ copied w sum
+pub trace-from : {m : ℕ} {ls ts row w sum₁ : List ℕ} (s : List ℕ) → Lent m ls ts → Squarable m row w → sum₁ ≡ w
     → Tracing m ls ts row w s sum₁ w s sum₁ 1
 unfolding trace_mod
-trace-from {m} {ls} {ts} {row} {w} {sum₁} s sum g h e =
-    let positive = (small_of g.tables).degree-pos in
-    let whole : sum₁ ≡ w = e ∙ copied-whole w sum (omega (arith, g.long)) in
+trace-from {m} {ls} {ts} {row} {w} {sum₁} s l g whole =
+    let positive = (small_of l).degree-pos in
     let up : suc (m - 1) ≡ m = omega arith in
     record {
+      tables = l;
       given = g;
       first = omega arith;
       within = omega arith;
@@ -243,9 +238,10 @@ module _ {m : ℕ} {ls ts row w₀ s₀ sum₀ w s sum : List ℕ} {i : ℕ} (t 
   unfolding trace_mod
   trace-on {w₁} {s₁} {sum₁} h e n a =
       let left : m - i ≡ suc (m - (i + 1)) = omega arith in
-      let again : Squarable m ls ts row w₁ = square-again t.given e in
+      let again : Squarable m row w₁ = square-again t.tables t.given e in
       let tail : List ℕ = trace_mod (G m) (held m row) (m - (i + 1)) (rem (G m) (held m row) (square (G m) w₁)) in
       record {
+        tables = t.tables;
         given = again;
         first = omega arith;
         within = omega arith;

@@ -15,8 +15,10 @@ use Rattle.algebra.specs.Polynomial.{add}
 use Rattle.algebra.specs.Routines.{rem, square}
 use Rattle.field.specs.Field.{mul, field_at, G}
 use Rattle.field.specs.Tables.{log_of}
-use Rattle.poly.specs.Lent.{LogRow, IsLog, log_row, held, Addable, Loggable}
-use Rattle.poly_powers.specs.Powers.{Savable, Saved, Summable, power_rows, trace_sum}
+use Rattle.poly.specs.Lent.{Lent, LogRow, IsLog, log_row, held}
+use Rattle.poly.specs.Asking.{Addable, Loggable}
+use Rattle.poly_powers.specs.Asking.{Savable, Summable}
+use Rattle.poly_powers.specs.Powers.{Saved, power_rows, trace_sum}
 use Rattle.poly.proofs.Logs.{numbers_of, held-long}
 use Rattle.poly.proofs.Sums.{add-nil, add_assoc, long-row}
 use Rattle.poly_powers.proofs.PowerLoops.{Powering, power-from, power-on, power-end}
@@ -56,15 +58,16 @@ pub record Saving (m : ℕ) (ls ts row : List ℕ) (k : ℕ) (w₀ s₀ rows₀ 
   pub long-rows : length rows ≡ length rows₀
   pub saved : take at rows ++ power_rows m (held m row) (k - i) w ≡ power_rows m (held m row) k w₀
 
-pub saving-from : {m : ℕ} {ls ts row w rows : List ℕ} {k : ℕ} (s : List ℕ) → Savable m ls ts row k w rows → Saving m ls ts row k w s rows w s rows 0 0
-saving-from {m} {row = row} {w} {k = k} s g =
+pub saving-from : {m : ℕ} {ls ts row w rows : List ℕ} {k : ℕ} (s : List ℕ) → Lent m ls ts → Savable m row k w rows → Saving m ls ts row k w s rows w s rows (0 * length row) 0
+saving-from {m} {row = row} {w} {rows} {k} s l g =
     let e : k - 0 ≡ k = omega arith in
+    let none : 0 * length row ≡ 0 = omega arith in
     record {
-      powering = power-from k s g.squarable;
-      place = omega arith;
+      powering = power-from k s l g.squarable;
+      place = refl;
       room = g.room-rows;
       long-rows = refl;
-      saved = ap (λ j. power_rows m (held m row) j w) e;
+      saved = ap₂ (λ a j. take a rows ++ power_rows m (held m row) j w) none e;
     }
 
 module _ {m : ℕ} {ls ts row : List ℕ} {k : ℕ} {w₀ s₀ rows₀ w s rows : List ℕ} {at i : ℕ} (p : Saving m ls ts row k w₀ s₀ rows₀ w s rows at i) where
@@ -73,19 +76,18 @@ module _ {m : ℕ} {ls ts row : List ℕ} {k : ℕ} {w₀ s₀ rows₀ w s rows 
   saving-room h = rows_fit i k (length row) h p.room p.place
 
   -- and can be written there
-  pub saving-asks : i < k → Loggable m ls ts w (take (at + length row - at) (drop at rows))
+  pub saving-asks : i < k → Loggable m w (take (at + length row - at) (drop at rows))
   saving-asks h =
       let r = saving-room h in
       let d : at + length row - at ≡ length row = omega arith in
       record {
-        tables = p.powering.given.tables;
         small = p.powering.given.small;
         room = p.powering.given.long ∙ sym (length-take-le (at + length row - at) (drop at rows) (omega (arith, length-drop at rows)) ∙ d);
       }
 
   -- one row more
   pub saving-on : {w₁ s₁ y : List ℕ} → i < k → y ≡ log_row m w → w₁ ≡ rem (G m) (held m row) (square (G m) w) → length s₁ ≡ length s
-      → Saving m ls ts row k w₀ s₀ rows₀ w₁ s₁ (take at rows ++ (y ++ drop (at + length row - at) (drop at rows))) (at + length row) (i + 1)
+      → Saving m ls ts row k w₀ s₀ rows₀ w₁ s₁ (take at rows ++ (y ++ drop (at + length row - at) (drop at rows))) ((i + 1) * length row) (i + 1)
   unfolding power_rows
   saving-on {w₁} {s₁} {y} h f e n =
       let d : ℕ = at + length row - at in
@@ -96,7 +98,7 @@ module _ {m : ℕ} {ls ts row : List ℕ} {k : ℕ} {w₀ s₀ rows₀ w s rows 
       let rows₁ : List ℕ = take at rows ++ (y ++ drop d (drop at rows)) in
       let long : length y ≡ length row = ap length f ∙ length-map w (log_of (field_at m)) ∙ p.powering.given.long in
       let l : length rows₁ ≡ length rows = ap (λ j. length (take at rows ++ (y ++ drop j (drop at rows)))) o ∙ part-long at (length row) y rows r long in
-      record {
+      subst (λ a. Saving m ls ts row k w₀ s₀ rows₀ w₁ s₁ rows₁ a (i + 1)) (next_place i (length row) p.place) (record {
         powering = power-on p.powering h e n;
         place = next_place i (length row) p.place;
         room = subst (λ j. k * length row ≤ j) (sym l) p.room;
@@ -104,7 +106,7 @@ module _ {m : ℕ} {ls ts row : List ℕ} {k : ℕ} {w₀ s₀ rows₀ w s rows 
         saved = ap₂ (λ u v. u ++ power_rows m q (k - (i + 1)) v) (part-front at (length row) d y rows r long ∙ ap (λ u. take at rows ++ u) f) e
             ∙ append_assoc (take at rows) (log_row m w) (power_rows m q (k - (i + 1)) (rem (G m) q (square (G m) w)))
             ∙ ap (λ j. take at rows ++ power_rows m q j w) (sym left) ∙ p.saved;
-      }
+      })
 
   pub saving-end : k ≤ i → Saved m (held m row) k w₀ w rows
   unfolding power_rows
@@ -131,23 +133,26 @@ part-of-row {m} {rows} n at h r =
 
 -- i terms are added
 pub record Combining (m : ℕ) (ls ts rows : List ℕ) (k b : ℕ) (t₀ t : List ℕ) (c at i : ℕ) : Type 0 where
-  pub given : Summable m ls ts rows k b t₀
+  pub tables : Lent m ls ts
+  pub given : Summable m rows k b t₀
   pub within : i ≤ k
   pub element : c < 2 ^ m
   pub place : at ≡ i * length t₀
   pub long : length t ≡ length t₀
   pub sum : add (G m) t (trace_sum m (length t₀) (k - i) c (drop at rows)) ≡ add (G m) t₀ (trace_sum m (length t₀) k b rows)
 
-pub combine-from : {m : ℕ} {ls ts rows t : List ℕ} {k b : ℕ} → Summable m ls ts rows k b t → Combining m ls ts rows k b t t b 0 0
-combine-from {m} {rows = rows} {t} {k} {b} g =
+pub combine-from : {m : ℕ} {ls ts rows t : List ℕ} {k b : ℕ} → Lent m ls ts → Summable m rows k b t → Combining m ls ts rows k b t t b (0 * length t) 0
+combine-from {m} {rows = rows} {t} {k} {b} l g =
     let e : k - 0 ≡ k = omega arith in
+    let none : 0 * length t ≡ 0 = omega arith in
     record {
+      tables = l;
       given = g;
       within = omega arith;
       element = g.element;
-      place = omega arith;
+      place = refl;
       long = refl;
-      sum = ap (λ j. add (G m) t (trace_sum m (length t) j b rows)) e;
+      sum = ap₂ (λ a j. add (G m) t (trace_sum m (length t) j b (drop a rows))) none e;
     }
 
 module _ {m : ℕ} {ls ts rows : List ℕ} {k b : ℕ} {t₀ t : List ℕ} {c at i : ℕ} (p : Combining m ls ts rows k b t₀ t c at i) where
@@ -156,13 +161,12 @@ module _ {m : ℕ} {ls ts rows : List ℕ} {k b : ℕ} {t₀ t : List ℕ} {c at
   combine-room h = rows_fit i k (length t₀) h p.given.room-rows p.place
 
   -- and can be added
-  pub combine-asks : i < k → Addable m ls ts c (take (at + length t₀ - at) (drop at rows)) t
+  pub combine-asks : i < k → Addable m c (take (at + length t₀ - at) (drop at rows)) t
   combine-asks h =
       let r = combine-room h in
       let n : ℕ = at + length t₀ - at in
       let q : at + n ≤ length rows = omega arith in
       record {
-        tables = p.given.tables;
         element = p.element;
         logs = part-of-row n at q p.given.logs;
         room = omega (arith, length-take-le n (drop at rows) (omega (arith, length-drop at rows)), p.long);
@@ -170,25 +174,26 @@ module _ {m : ℕ} {ls ts rows : List ℕ} {k b : ℕ} {t₀ t : List ℕ} {c at
 
   -- one term more
   pub combine-on : {c₁ : ℕ} {t₁ : List ℕ} → i < k → t₁ ≡ add (G m) t (map ((G m).mul c) (held m (take (at + length t₀ - at) (drop at rows)))) → c₁ ≡ mul (field_at m) c c
-      → Combining m ls ts rows k b t₀ t₁ c₁ (at + length t₀) (i + 1)
+      → Combining m ls ts rows k b t₀ t₁ c₁ ((i + 1) * length t₀) (i + 1)
   unfolding trace_sum
   combine-on {c₁} {t₁} h e f =
       let o : at + length t₀ - at ≡ length t₀ = omega arith in
       let left : k - i ≡ suc (k - (i + 1)) = omega arith in
       let a : List ℕ = map ((G m).mul c) (held m (take (length t₀) (drop at rows))) in
       let to : t₁ ≡ add (G m) t a = e ∙ ap (λ j. add (G m) t (map ((G m).mul c) (held m (take j (drop at rows))))) o in
-      let r : Addable m ls ts c (take (length t₀) (drop at rows)) t = subst (λ j. Addable m ls ts c (take j (drop at rows)) t) o (combine-asks h) in
+      let r : Addable m c (take (length t₀) (drop at rows)) t = subst (λ j. Addable m c (take j (drop at rows)) t) o (combine-asks h) in
       let rest : List ℕ = trace_sum m (length t₀) (k - (i + 1)) ((G m).mul c c) (drop (length t₀) (drop at rows)) in
-      record {
+      subst (λ a. Combining m ls ts rows k b t₀ t₁ c₁ a (i + 1)) (next_place i (length t₀) p.place) (record {
+        tables = p.tables;
         given = p.given;
         within = omega arith;
-        element = subst (λ x. x < 2 ^ m) (sym f) ((numbers_of p.given.tables).mul-below c c p.element p.element);
+        element = subst (λ x. x < 2 ^ m) (sym f) ((numbers_of p.tables).mul-below c c p.element p.element);
         place = next_place i (length t₀) p.place;
         long = ap length to ∙ long-row m t (held m (take (length t₀) (drop at rows))) c (omega (arith, held-long m (take (length t₀) (drop at rows)), r.room)) ∙ p.long;
         sum = ap₂ (λ u v. add (G m) u (trace_sum m (length t₀) (k - (i + 1)) v (drop (at + length t₀) rows))) to f
             ∙ ap (λ l. add (G m) (add (G m) t a) (trace_sum m (length t₀) (k - (i + 1)) ((G m).mul c c) l)) (sym (drop-drop (length t₀) at rows))
             ∙ add_assoc m t a rest ∙ ap (λ j. add (G m) t (trace_sum m (length t₀) j c (drop at rows))) (sym left) ∙ p.sum;
-      }
+      })
 
   pub combine-end : k ≤ i → t ≡ add (G m) t₀ (trace_sum m (length t₀) k b rows)
   unfolding trace_sum

@@ -13,6 +13,7 @@ use Rattle.algebra.specs.Trial.{All}
 use Rattle.algebra.specs.Polynomial.{Below}
 use Rattle.field.specs.Field.{G}
 use Rattle.input.specs.Limit.{limit}
+use Rattle.poly.specs.Lent.{Lent}
 use Rattle.poly.proofs.Parts.{part-rest}
 use Rattle.poly_resultants.specs.Maps.{digits, low, high, image}
 use Rattle.poly_resultants.specs.Levels.{room, Polynomial, Maps, Mapped, Fours, Tries, Climbs, Descends, Descended, Lifts, Levelled}
@@ -28,11 +29,11 @@ back_long y rest e = omega (arith, length-append y rest)
 pub back-front : (y rest : List ℕ) {n : ℕ} → length y ≡ n → take n (y ++ rest) ≡ y
 back-front y rest {n} e = take_at y rest n e
 
-module _ {m : ℕ} {ls ts chain : List ℕ} {end : ℕ} {f out : List ℕ} (a : Climbs m ls ts chain end f out) where
+module _ {m : ℕ} {ls ts chain : List ℕ} {end : ℕ} {f out : List ℕ} (lent : Lent m ls ts) (a : Climbs m chain end f out) where
   -- ---- no map is left
 
-  pub level-tries : Tries m ls ts f out × Fours m end
-  level-tries = (record { tables = a.tables; poly = a.poly; space = a.space }, a.fours)
+  pub level-tries : Tries m f out × Fours m end
+  level-tries = (record { poly = a.poly; space = a.space }, a.fours)
 
   pub level-tried : {k : ℕ} {out' : List ℕ} → length chain ≡ 0 → Levelled m [] end f k out' → Levelled m chain end f k out'
   level-tried {k} {out'} e l = subst (λ s. Levelled m s end f k out') (sym (none chain e)) l
@@ -61,9 +62,8 @@ module _ {m : ℕ} {ls ts chain : List ℕ} {end : ℕ} {f out : List ℕ} (a : 
     steps : All (λ b. (0 < b) × (b < 2 ^ m)) (get_or chain 0 0 ∷ drop 1 chain)
     steps = subst (All (λ b. (0 < b) × (b < 2 ^ m))) parted a.steps
 
-    pub level-maps : {p q : List ℕ} → length p ≡ length f - length f / 2 → length q ≡ length f / 2 → Maps m ls ts (get_or chain 0 0) f p q
+    pub level-maps : {p q : List ℕ} → length p ≡ length f - length f / 2 → length q ≡ length f / 2 → Maps m (get_or chain 0 0) f p q
     level-maps j k = record {
-      tables = a.tables;
       positive = steps.0.0;
       small = steps.0.1;
       poly = a.poly;
@@ -89,15 +89,14 @@ module _ {m : ℕ} {ls ts chain : List ℕ} {end : ℕ} {f out : List ℕ} (a : 
 
       poly-image : Polynomial m g
       poly-image = subst (Polynomial m) (sym t.image) (record {
-        small = image-below m a.tables.degree (get_or chain 0 0) f steps.0.1 a.poly.small;
+        small = image-below m lent.degree (get_or chain 0 0) f steps.0.1 a.poly.small;
         least = let l = a.poly.least in omega (arith, length-image (G m) (get_or chain 0 0) f l);
         limited = let l = a.poly.limited in omega (arith, length-image (G m) (get_or chain 0 0) f a.poly.least);
-        led = led-image m a.tables.degree (get_or chain 0 0) f a.poly.small a.poly.least a.poly.led;
+        led = led-image m lent.degree (get_or chain 0 0) f a.poly.small a.poly.least a.poly.led;
       })
 
-      pub level-climbs : {ys : List ℕ} → room ≤ length ys → Climbs m ls ts (take (length chain - 1) (drop 1 chain)) end g ys
+      pub level-climbs : {ys : List ℕ} → room ≤ length ys → Climbs m (take (length chain - 1) (drop 1 chain)) end g ys
       level-climbs h = record {
-        tables = a.tables;
         steps = subst (All (λ b. (0 < b) × (b < 2 ^ m))) (sym (part-rest 1 chain)) steps.1;
         fours = a.fours;
         poly = poly-image;
@@ -114,18 +113,17 @@ module _ {m : ℕ} {ls ts chain : List ℕ} {end : ℕ} {f out : List ℕ} (a : 
         below = subst (λ s. Levelled m s end (image (G m) (get_or chain 0 0) f) k ys) (part-rest 1 chain)
             (subst (λ s. Levelled m (take (length chain - 1) (drop 1 chain)) end s k ys) t.image l)
 
-        pub level-descends : Descends m ls ts (get_or chain 0 0) p' q' (take k ys) out
+        pub level-descends : Descends m (get_or chain 0 0) p' q' (take k ys) out
         level-descends =
-            subst (λ s. Descends m ls ts (get_or chain 0 0) s q' (take k ys) out) (sym (ep ∙ t.low))
-            (subst (λ s. Descends m ls ts (get_or chain 0 0) (low (G m) (get_or chain 0 0) f) s (take k ys) out) (sym (eq ∙ t.high)) (record {
-              tables = a.tables;
+            subst (λ s. Descends m (get_or chain 0 0) s q' (take k ys) out) (sym (ep ∙ t.low))
+            (subst (λ s. Descends m (get_or chain 0 0) (low (G m) (get_or chain 0 0) f) s (take k ys) out) (sym (eq ∙ t.high)) (record {
               positive = steps.0.0;
               small = steps.0.1;
-              low = evens-below m a.tables.degree (digits (G m) (get_or chain 0 0) f) digits-small;
-              high = odds-below m a.tables.degree (digits (G m) (get_or chain 0 0) f) digits-small;
-              zeros = norm-zeros m a.tables.degree (get_or chain 0 0) f (take k ys) below.roots;
+              low = evens-below m lent.degree (digits (G m) (get_or chain 0 0) f) digits-small;
+              high = odds-below m lent.degree (digits (G m) (get_or chain 0 0) f) digits-small;
+              zeros = norm-zeros m lent.degree (get_or chain 0 0) f (take k ys) below.roots;
               once = below.distinct;
-              few = image-few m a.tables.degree (get_or chain 0 0) f a.poly;
+              few = image-few m lent.degree (get_or chain 0 0) f a.poly;
               least = omega (arith, halved, whole);
               longest = omega (arith, halved, whole);
               space = a.space;
@@ -138,11 +136,11 @@ module _ {m : ℕ} {ls ts chain : List ℕ} {end : ℕ} {f out : List ℕ} (a : 
             whole = length-halves (digits (G m) (get_or chain 0 0) f)
 
             digits-small : Below (2 ^ m) (digits (G m) (get_or chain 0 0) f)
-            digits-small = digits-below m a.tables.degree (get_or chain 0 0) f a.poly.small
+            digits-small = digits-below m lent.degree (get_or chain 0 0) f a.poly.small
 
         pub level-end : {n : ℕ} {out' : List ℕ} → Descended m (get_or chain 0 0) p' q' (take k ys) n out' → Levelled m chain end f n out'
         level-end {n} {out'} d =
             subst (λ s. Levelled m s end f n out') (sym parted)
-            (level-up m a.tables.degree (get_or chain 0 0) f below
+            (level-up m lent.degree (get_or chain 0 0) f below
             (subst (λ s. Lifts m (get_or chain 0 0) s (high (G m) (get_or chain 0 0) f) (take k ys) (take n out')) (ep ∙ t.low)
             (subst (λ s. Lifts m (get_or chain 0 0) p' s (take k ys) (take n out')) (eq ∙ t.high) d.lifts)) d.within)

@@ -19,7 +19,8 @@ use Rattle.slices.proofs.Filling.{Filling, fill-from, fill_on, fill-next, fill_e
 use Rattle.field.specs.Field.{field_at, G, mul as times}
 use Rattle.input.specs.Limit.{limit}
 use Rattle.field.specs.Tables.{log_of}
-use Rattle.poly.specs.Lent.{Lent, LogRow, log_row, held, Addable, Loggable}
+use Rattle.poly.specs.Lent.{Lent, LogRow, log_row, held}
+use Rattle.poly.specs.Asking.{Addable, Loggable}
 use Rattle.poly.proofs.Parts.{part-rest, part_none}
 use Rattle.poly.proofs.Logs.{held-long, held-row, row-is-row}
 use Rattle.poly.proofs.RowLoops.{added}
@@ -34,7 +35,8 @@ use Rattle.poly_resultants.proofs.Numbers.{digits-below, evens-below, odds-below
 
 -- what lies ahead is still to be combined
 pub record Combining (m : ℕ) (ls ts : List ℕ) (b : ℕ) (s₀ : List ℕ) (n : ℕ) (s : List ℕ) (i : ℕ) : Type 0 where
-  pub given : Factors m ls ts b s₀
+  pub tables : Lent m ls ts
+  pub given : Factors m b s₀
   pub size : n ≡ length s₀
   pub done : List ℕ
   pub ahead : List ℕ
@@ -44,8 +46,9 @@ pub record Combining (m : ℕ) (ls ts : List ℕ) (b : ℕ) (s₀ : List ℕ) (n
   pub small : Below (2 ^ m) ahead
   pub whole : combine (G m) b s₀ ≡ done ++ combine (G m) b ahead
 
-pub combining-from : {m : ℕ} {ls ts : List ℕ} {b : ℕ} {s : List ℕ} → Factors m ls ts b s → Combining m ls ts b s (length s) s 0
-combining-from {m} {ls} {ts} {b} {s} g = record {
+pub combining-from : {m : ℕ} {ls ts : List ℕ} {b : ℕ} {s : List ℕ} → Lent m ls ts → Factors m b s → Combining m ls ts b s (length s) s 0
+combining-from {m} {ls} {ts} {b} {s} lent g = record {
+  tables = lent;
   given = g;
   size = refl;
   done = [];
@@ -90,6 +93,7 @@ module _ {m : ℕ} {ls ts : List ℕ} {b : ℕ} {s₀ : List ℕ} {n : ℕ} {s :
           let val : v ≡ bit_xor x (times (field_at m) b y) = ap₂ bit_xor at_x (e ∙ ap (times (field_at m) b) at_y) in
           let now : set s i v ≡ c.done ++ v ∷ y ∷ l = ap (λ u. set u i v) q ∙ set_at c.done x (y ∷ l) v i p in
           record {
+            tables = c.tables;
             given = c.given;
             size = c.size;
             done = c.done ++ v ∷ y ∷ [];
@@ -114,13 +118,15 @@ module _ {m : ℕ} {ls ts : List ℕ} {b : ℕ} {s₀ : List ℕ} {n : ℕ} {s :
 
 -- from k on stand the digits
 pub record Converting (m : ℕ) (ls ts : List ℕ) (b : ℕ) (f₀ f : List ℕ) (k : ℕ) : Type 0 where
-  pub given : Factors m ls ts b f₀
+  pub tables : Lent m ls ts
+  pub given : Factors m b f₀
   pub within : k ≤ length f₀
   pub done : f ≡ take k f₀ ++ digits (G m) b (drop k f₀)
 
-pub converting-from : {m : ℕ} {ls ts : List ℕ} {b : ℕ} {f : List ℕ} → Factors m ls ts b f → Converting m ls ts b f f (length f)
+pub converting-from : {m : ℕ} {ls ts : List ℕ} {b : ℕ} {f : List ℕ} → Lent m ls ts → Factors m b f → Converting m ls ts b f f (length f)
 unfolding digits
-converting-from {m} {ls} {ts} {b} {f} g = record {
+converting-from {m} {ls} {ts} {b} {f} lent g = record {
+  tables = lent;
   given = g;
   within = omega arith;
   done = sym (ap₂ (λ u v. u ++ digits (G m) b v) (take_all (length f) f (omega arith)) (drop_all f) ∙ append-nil f);
@@ -149,13 +155,12 @@ module _ {m : ℕ} {ls ts : List ℕ} {b : ℕ} {f₀ f : List ℕ} {k : ℕ} (c
   untouched : take k f ≡ take k f₀
   untouched = ap (take k) c.done ∙ take_at (take k f₀) (digits (G m) b (drop k f₀)) k (length-take-le k f₀ c.within)
 
-  pub converting-asks : Factors m ls ts b (take (length f - k) (drop k f))
+  pub converting-asks : Factors m b (take (length f - k) (drop k f))
   converting-asks = record {
-    tables = c.given.tables;
     positive = c.given.positive;
     small = c.given.small;
     elements = subst (Below (2 ^ m)) (sym (part-rest k f ∙ converted))
-        (digits-below m c.given.tables.degree b (drop k f₀) (drop-below (2 ^ m) k f₀ c.given.elements));
+        (digits-below m c.tables.degree b (drop k f₀) (drop-below (2 ^ m) k f₀ c.given.elements));
   }
 
   pub converting-on : {y : List ℕ} → 0 < k → y ≡ combine (G m) b (take (length f - k) (drop k f))
@@ -169,6 +174,7 @@ module _ {m : ℕ} {ls ts : List ℕ} {b : ℕ} {f₀ f : List ℕ} {k : ℕ} (c
       let cut : take k f₀ ≡ take j f₀ ++ get_or f₀ j 0 ∷ [] = ap (λ i. take i f₀) (sym back) ∙ take-suc f₀ j 0 (omega arith) in
       let new : y ≡ combine (G m) b (digits (G m) b (drop k f₀)) = e ∙ ap (combine (G m) b) (part-rest k f ∙ converted) in
       record {
+        tables = c.tables;
         given = c.given;
         within = omega arith;
         done = ap₂ (λ u v. u ++ v) (untouched ∙ cut) (part_none k f y ∙ new)
@@ -237,7 +243,8 @@ module _ {m : ℕ} {ls ts g₀ g : List ℕ} {i : ℕ} (c : Squaring m ls ts g�
 
 -- what lies ahead still wants the rest of the product
 pub record Multiplying (m : ℕ) (ls ts : List ℕ) (b : ℕ) (p row r₀ r : List ℕ) (i : ℕ) : Type 0 where
-  pub given : Products m ls ts b p row r₀
+  pub tables : Lent m ls ts
+  pub given : Products m b p row r₀
   pub within : i ≤ length p
   pub done : List ℕ
   pub ahead : List ℕ
@@ -247,8 +254,9 @@ pub record Multiplying (m : ℕ) (ls ts : List ℕ) (b : ℕ) (p row r₀ r : Li
   pub whole : add (G m) r₀ (mul (G m) (map ((G m).mul b) p) (held m row))
       ≡ done ++ add (G m) ahead (mul (G m) (map ((G m).mul b) (drop i p)) (held m row))
 
-pub multiplying-from : {m : ℕ} {ls ts : List ℕ} {b : ℕ} {p row r : List ℕ} → Products m ls ts b p row r → Multiplying m ls ts b p row r r 0
-multiplying-from {m} {ls} {ts} {b} {p} {row} {r} g = record {
+pub multiplying-from : {m : ℕ} {ls ts : List ℕ} {b : ℕ} {p row r : List ℕ} → Lent m ls ts → Products m b p row r → Multiplying m ls ts b p row r r 0
+multiplying-from {m} {ls} {ts} {b} {p} {row} {r} lent g = record {
+  tables = lent;
   given = g;
   within = omega arith;
   done = [];
@@ -272,9 +280,8 @@ module _ {m : ℕ} {ls ts : List ℕ} {b : ℕ} {p row r₀ r : List ℕ} {i : �
   pub multiplying-small : i < length p → get_or p i 0 < 2 ^ m
   multiplying-small h = below_at (2 ^ m) p c.given.factors.elements i h
 
-  pub multiplying-asks : {t : ℕ} → i < length p → t < 2 ^ m → Addable m ls ts t row (take (length r - i) (drop i r))
+  pub multiplying-asks : {t : ℕ} → i < length p → t < 2 ^ m → Addable m t row (take (length r - i) (drop i r))
   multiplying-asks h k = record {
-    tables = c.given.factors.tables;
     element = k;
     logs = c.given.logs;
     room = rw (part-rest i r, here) (let s = c.given.space in let o = c.given.some in omega (arith, ahead-size));
@@ -311,7 +318,7 @@ module _ {m : ℕ} {ls ts : List ℕ} {b : ℕ} {p row r₀ r : List ℕ} {i : �
           ∙ ap (λ l. add (G m) l (0 ∷ mul (G m) (map ((G m).mul b) rest) (held m row))) (sym y-is)
 
       R : Ring (G m)
-      R = known-ring m c.given.factors.tables.degree
+      R = known-ring m c.tables.degree
 
       go : (z : List ℕ) → y ≡ z → Multiplying m ls ts b p row r₀ (take i r ++ (y ++ drop (length r - i) (drop i r))) (i + 1)
       go [] q = absurd (let s = c.given.space in let o = c.given.some in let g : length y ≡ 0 = ap length q in omega (arith, y-long))
@@ -320,6 +327,7 @@ module _ {m : ℕ} {ls ts : List ℕ} {b : ℕ} {p row r₀ r : List ℕ} {i : �
           ap₂ (λ u v. u ++ v) left (part_none i r y ∙ q) in
           let one : i + 1 ≡ suc i = omega arith in
           record {
+            tables = c.tables;
             given = c.given;
             within = omega arith;
             done = c.done ++ x ∷ [];
@@ -353,7 +361,7 @@ module _ {m : ℕ} {ls ts : List ℕ} {b : ℕ} {p row r₀ r : List ℕ} {i : �
 
 -- ---- `resultant`
 
-module _ {m : ℕ} {ls ts : List ℕ} {b : ℕ} {p q g : List ℕ} (d : Digits m ls ts b p q g) where
+module _ {m : ℕ} {ls ts : List ℕ} {b : ℕ} {p q g : List ℕ} (lent : Lent m ls ts) (d : Digits m b p q g) where
   pub high-long : length q ≡ length g / 2
   high-long = ap length d.high ∙ length-odds g
 
@@ -364,10 +372,10 @@ module _ {m : ℕ} {ls ts : List ℕ} {b : ℕ} {p q g : List ℕ} (d : Digits m
   high-room = let l = d.limited in omega (arith, high-long)
 
   high_small : Below (2 ^ m) q
-  high_small = subst (Below (2 ^ m)) (sym d.high) (odds-below m d.factors.tables.degree g d.factors.elements)
+  high_small = subst (Below (2 ^ m)) (sym d.high) (odds-below m lent.degree g d.factors.elements)
 
-  pub row-asks : {r : List ℕ} → length r ≡ length q → Loggable m ls ts q r
-  row-asks e = record { tables = d.factors.tables; small = high_small; room = sym e }
+  pub row-asks : {r : List ℕ} → length r ≡ length q → Loggable m q r
+  row-asks e = record { small = high_small; room = sym e }
 
   -- the row that was written, as it is lent again
   pub row_back : (y rest : List ℕ) → y ≡ log_row m q → take (length q) (y ++ rest) ≡ log_row m q
@@ -376,15 +384,14 @@ module _ {m : ℕ} {ls ts : List ℕ} {b : ℕ} {p q g : List ℕ} (d : Digits m
   pub row_fits : (y rest : List ℕ) → y ≡ log_row m q → length q ≤ length (y ++ rest)
   row_fits y rest e = omega (arith, length-append y rest, ap length e, length-map q (log_of (field_at m)))
 
-  pub product-asks : {row s : List ℕ} → row ≡ log_row m q → s ≡ map (λ c. times (field_at m) c c) g → Products m ls ts b p row s
+  pub product-asks : {row s : List ℕ} → row ≡ log_row m q → s ≡ map (λ c. times (field_at m) c c) g → Products m b p row s
   product-asks {row} {s} e f = record {
     factors = record {
-      tables = d.factors.tables;
       positive = d.factors.positive;
       small = d.factors.small;
-      elements = subst (Below (2 ^ m)) (sym d.low) (evens-below m d.factors.tables.degree g d.factors.elements);
+      elements = subst (Below (2 ^ m)) (sym d.low) (evens-below m lent.degree g d.factors.elements);
     };
-    logs = subst (LogRow m) (sym e) (row-is-row d.factors.tables q high_small);
+    logs = subst (LogRow m) (sym e) (row-is-row lent q high_small);
     some = let l = d.least in omega (arith, ap length e, length-map q (log_of (field_at m)), high-long);
     space = omega (arith, ap length e, length-map q (log_of (field_at m)), low-long, ap length f, length-map g (λ c. times (field_at m) c c));
   }
@@ -394,5 +401,5 @@ module _ {m : ℕ} {ls ts : List ℕ} {b : ℕ} {p q g : List ℕ} (d : Digits m
   unfolding resultant
   product-end {row} {s} {r} e f h =
       h ∙ ap₂ (λ u v. add (G m) u (mul (G m) (map ((G m).mul b) p) v)) f
-      (ap (held m) e ∙ held-row d.factors.tables q high_small)
+      (ap (held m) e ∙ held-row lent q high_small)
       ∙ ap₂ (λ u v. add (G m) (map (λ c. times (field_at m) c c) g) (mul (G m) (map ((G m).mul b) u) v)) d.low d.high

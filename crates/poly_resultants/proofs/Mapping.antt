@@ -8,6 +8,7 @@ use native.Mathlib.Omega.{arith}
 use lib.ListN.{length, take, drop}
 use Rattle.algebra.specs.Polynomial.{Below}
 use Rattle.field.specs.Field.{G}
+use Rattle.poly.specs.Lent.{Lent}
 use Rattle.poly.proofs.Parts.{part-rest}
 use Rattle.poly_resultants.specs.Maps.{evens, odds, digits, resultant}
 use Rattle.poly_resultants.specs.Lending.{Factors, Digits}
@@ -15,9 +16,9 @@ use Rattle.poly_resultants.specs.Levels.{Maps, Mapped}
 use Rattle.poly_resultants.proofs.Shapes.{length_digits, length-halves, length-odds}
 use Rattle.poly_resultants.proofs.Numbers.{digits-below}
 
-module _ {m : ℕ} {ls ts : List ℕ} {b : ℕ} {f p q : List ℕ} (a : Maps m ls ts b f p q) where
-  pub mapping-converts : Factors m ls ts b f
-  mapping-converts = record { tables = a.tables; positive = a.positive; small = a.small; elements = a.poly.small }
+module _ {m : ℕ} {ls ts : List ℕ} {b : ℕ} {f p q : List ℕ} (lent : Lent m ls ts) (a : Maps m b f p q) where
+  pub mapping-converts : Factors m b f
+  mapping-converts = record { positive = a.positive; small = a.small; elements = a.poly.small }
 
   -- the digits
   module _ {g₂ : List ℕ} (digits_are : g₂ ≡ digits (G m) b f) where
@@ -30,13 +31,12 @@ module _ {m : ℕ} {ls ts : List ℕ} {b : ℕ} {f p q : List ℕ} (a : Maps m l
     pub mapping-high : length q ≡ length (evens (take (length g₂ - 1) (drop 1 g₂)))
     mapping-high = a.high ∙ ap (λ n. n / 2) (sym digits_long) ∙ sym (length-odds g₂) ∙ ap (λ l. length (evens l)) (sym (part-rest 1 g₂))
 
-    pub mapping-resultant : {p₁ q₁ : List ℕ} → p₁ ≡ evens g₂ → q₁ ≡ evens (take (length g₂ - 1) (drop 1 g₂)) → Digits m ls ts b p₁ q₁ g₂
+    pub mapping-resultant : {p₁ q₁ : List ℕ} → p₁ ≡ evens g₂ → q₁ ≡ evens (take (length g₂ - 1) (drop 1 g₂)) → Digits m b p₁ q₁ g₂
     mapping-resultant i j = record {
       factors = record {
-        tables = a.tables;
         positive = a.positive;
         small = a.small;
-        elements = subst (Below (2 ^ m)) (sym digits_are) (digits-below m a.tables.degree b f a.poly.small);
+        elements = subst (Below (2 ^ m)) (sym digits_are) (digits-below m lent.degree b f a.poly.small);
       };
       low = i;
       high = j ∙ ap evens (part-rest 1 g₂);

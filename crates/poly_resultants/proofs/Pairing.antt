@@ -11,10 +11,9 @@ use lib.ListN.{length, drop, get_or}
 use Rattle.algebra.specs.Polynomial.{eval}
 use Rattle.field.specs.Field.{field_at, G, mul}
 use Rattle.poly.specs.Lent.{Lent}
-use Rattle.poly.proofs.Logs.{product_at}
+use Rattle.field.proofs.ByLogs.{product-stands}
 use Rattle.poly.proofs.Horner.{Valuing, value-logs, value_on, value-end}
 use Rattle.poly_resultants.specs.Pairs.{Evaluates, ValuesAt}
-use Rattle.poly_resultants.specs.declared.descent.Values.{Values}
 use Rattle.poly_resultants.proofs.Ring.{Ring, known-ring, mul-zero}
 
 past_end : (l : List ℕ) (k : ℕ) → length l ≤ k → get_or l k 0 ≡ 0
@@ -42,26 +41,26 @@ turned : {m : ℕ} {ls ts f : List ℕ} {x k v t : ℕ} → Valuing m ls ts f x 
     → Valuing m ls ts f x (k - 1) (bit_xor (get_or f (k - 1) 0) t)
 turned {m} {ls} {ts} {f} {x} {k} {v} {t} a h e =
     subst (λ w. Valuing m ls ts f x (k - 1) (bit_xor (get_or f (k - 1) 0) w))
-    (product_at a.tables a.nonzero a.element (subst (λ w. v < w) a.tables.logs.entries (value-logs a)) ∙ sym e) (value_on a h)
+    (product-stands a.tables a.nonzero a.element (subst (λ w. v < w) a.tables.logs.entries (value-logs a)) ∙ sym e) (value_on a h)
 
 -- from k on both values are made
 pub record Pairing (m : ℕ) (ls ts p q : List ℕ) (y k v w : ℕ) : Type 0 where
   pub low : Valuing m ls ts p y k v
   pub high : Valuing m ls ts q y k w
 
-pub pairing-from : {m : ℕ} {ls ts p q : List ℕ} {y v : ℕ} → Evaluates m ls ts p q y → v ≡ get_or p (length q) 0 → Pairing m ls ts p q y (length q) v 0
+pub pairing-from : {m : ℕ} {ls ts p q : List ℕ} {y v : ℕ} → Lent m ls ts → Evaluates m p q y → v ≡ get_or p (length q) 0 → Pairing m ls ts p q y (length q) v 0
 unfolding eval
-pairing-from {m} {ls} {ts} {p} {q} {y} {v} a e = record {
+pairing-from {m} {ls} {ts} {p} {q} {y} {v} lent a e = record {
   low = record {
-    tables = a.pair.tables;
+    tables = lent;
     small = a.pair.low;
     nonzero = a.positive;
     element = a.pair.element;
     within = a.pair.least;
-    done = e ∙ top-value a.pair.tables p (length q) y a.pair.most;
+    done = e ∙ top-value lent p (length q) y a.pair.most;
   };
   high = record {
-    tables = a.pair.tables;
+    tables = lent;
     small = a.pair.high;
     nonzero = a.positive;
     element = a.pair.element;
@@ -88,5 +87,5 @@ module _ {m : ℕ} {ls ts p q : List ℕ} {y k v w : ℕ} (a : Pairing m ls ts p
       → Pairing m ls ts p q y (k - 1) (bit_xor (get_or p (k - 1) 0) s) (bit_xor (get_or q (k - 1) 0) t)
   pairing-on h d e = record { low = turned a.low h d; high = turned a.high h e }
 
-  pub pairing-end : {r : Values} → k ≤ 0 → r.low ≡ v → r.high ≡ w → ValuesAt m p q y r
+  pub pairing-end : {r : ℕ × ℕ} → k ≤ 0 → r.0 ≡ v → r.1 ≡ w → ValuesAt m p q y r
   pairing-end h d e = record { low = d ∙ value-end a.low h; high = e ∙ value-end a.high h }

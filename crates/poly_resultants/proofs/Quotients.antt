@@ -17,7 +17,8 @@ use Rattle.field.proofs.Ring.{power-add, mul-zero-r}
 use Rattle.field.proofs.Generator.{one_below, position-is}
 use Rattle.field.proofs.Logarithms.{log-position, log-lt, antilog-even, antilog-odd}
 use Rattle.poly.specs.Lent.{Lent}
-use Rattle.poly.proofs.Logs.{field_of, log-at, inverse-fits, inverse-at}
+use Rattle.field.proofs.ByLogs.{inverse-fits, inverse-stands}
+use Rattle.poly.proofs.Logs.{field_of, log-at}
 
 -- the log of 0
 log-none : (F : Field) → log_of F 0 ≡ 1
@@ -53,7 +54,7 @@ module _ {m : ℕ} {ls ts : List ℕ} (l : Lent m ls ts) {x y : ℕ} (p : 0 < x)
 
   inverse-power : inverse F x ≡ power (numbers F) 2 i
   inverse-power =
-      sym (inverse-at l p h) ∙ l.antilogs.entry (2 * (length ls - 1) - get_or ls x 0) (omega (arith, (inverse-fits l p h).1, l.antilogs.entries))
+      sym (inverse-stands l p h) ∙ l.antilogs.entry (2 * (length ls - 1) - get_or ls x 0) (omega (arith, (inverse-fits l p h).1, l.antilogs.entries))
       ∙ ap (antilog_of F) place ∙ antilog-even F i
 
   pub quotient-at : get_or ts (2 * (length ls - 1) - get_or ls x 0 + get_or ls y 0) 0 ≡ mul F (inverse F x) y

@@ -17,7 +17,7 @@ use native.Mathlib.Nat.{add-zero, add-suc, suc-add, zero-add}
 use native.Mathlib.Omega.{arith}
 use borrow.Author.Tests.{eq-eqb, ne_eqb}
 use lib.Dec.{eqb}
-use lib.ListN.{length, set}
+use lib.ListN.{length, get_or, set}
 use lib.Seq.{length-take-le}
 use Rattle.algebra.specs.Trial.{All, Distinct, keep, up_from}
 use Rattle.algebra.specs.Polynomial.{eval, is_root}
@@ -27,7 +27,6 @@ use Rattle.field.specs.Field.{G}
 use Rattle.field.proofs.Known.{by_row, listed}
 use Rattle.poly.specs.Lent.{Lent}
 use Rattle.poly.specs.Values.{FourValues}
-use Rattle.poly.specs.declared.values.Four.{Four}
 use Rattle.poly_resultants.specs.Maps.{tower}
 use Rattle.poly_resultants.specs.Levels.{Put, Noted, Fours, Tries, Tried, Blocks, Levelled}
 use Rattle.poly_resultants.proofs.Numbers.{N, few-roots}
@@ -102,14 +101,14 @@ tried-again t = record { long = refl; front = t.front; passed = t.passed }
 pub tried-over : {m x n y k : ℕ} {f out₀ out out' : List ℕ} → Tried m f out₀ x n out → Tried m f out y k out' → Tried m f out₀ y k out'
 tried-over t u = record { long = u.long ∙ t.long; front = u.front; passed = u.passed }
 
-module _ {m : ℕ} {ls ts f out₀ : List ℕ} (g : Tries m ls ts f out₀) {x n : ℕ} {out : List ℕ} (t : Tried m f out₀ x n out) (h : x ≤ 2 ^ m) where
+module _ {m : ℕ} {ls ts f out₀ : List ℕ} (lent : Lent m ls ts) (g : Tries m f out₀) {x n : ℕ} {out : List ℕ} (t : Tried m f out₀ x n out) (h : x ≤ 2 ^ m) where
   -- what is written are roots
   roots-below : All (λ y. (y < 2 ^ m) × (eval (G m) f y ≡ 0)) (keep (is_root (G m) f) (up_from 0 x))
   roots-below = all_from (λ y. (y < 2 ^ m) × (eval (G m) f y ≡ 0)) (keep (is_root (G m) f) (up_from 0 x)) (λ y j.
       let e = (kept-exactly (is_root (G m) f) x y).0 j in
       let b = e.0 in
       let s : y < 2 ^ m = omega arith in
-      (s, (is_root-is (N m g.tables.degree) f g.poly.small y s).0 e.1))
+      (s, (is_root-is (N m lent.degree) f g.poly.small y s).0 e.1))
 
   -- each once
   once-below : Distinct (keep (is_root (G m) f) (up_from 0 x))
@@ -123,7 +122,7 @@ module _ {m : ℕ} {ls ts f out₀ : List ℕ} (g : Tries m ls ts f out₀) {x n
       let b = t.front in
       omega (
         arith,
-        few-roots m g.tables.degree f (keep (is_root (G m) f) (up_from 0 x)) g.poly.small g.poly.led once-below roots-below,
+        few-roots m lent.degree f (keep (is_root (G m) f) (up_from 0 x)) g.poly.small g.poly.led once-below roots-below,
         ap length t.passed,
         length-take-le n out b,
       )
@@ -134,21 +133,21 @@ module _ {m : ℕ} {ls ts f out₀ : List ℕ} (g : Tries m ls ts f out₀) {x n
     within = t.front;
     roots = subst (All (λ y. (y < 2 ^ m) × (eval (G m) f y ≡ 0))) (sym t.passed) roots-below;
     whole = λ y hy z b. subst (Memᴰ y) (sym t.passed)
-        ((kept-exactly (is_root (G m) f) x y).1 (omega arith, (is_root-is (N m g.tables.degree) f g.poly.small y hy).1 z));
+        ((kept-exactly (is_root (G m) f) x y).1 (omega arith, (is_root-is (N m lent.degree) f g.poly.small y hy).1 z));
     distinct = subst Distinct (sym t.passed) once-below;
   }
 
 -- ---- four in a row
 
-module _ {m : ℕ} {ls ts f : List ℕ} {x : ℕ} {out : List ℕ} {n : ℕ} (b : Blocks m ls ts f x out n) where
+module _ {m : ℕ} {ls ts f : List ℕ} {x : ℕ} {out : List ℕ} {n : ℕ} (lent : Lent m ls ts) (b : Blocks m f x out n) where
   -- what stands in out may be written over
   room_at : {y k : ℕ} {out' : List ℕ} → Tried m f out y k out' → y ≤ x + 3 → k < length out'
-  room_at t l = let w = b.within in tried-room b.given t (omega arith)
+  room_at t l = let w = b.within in tried-room lent b.given t (omega arith)
 
   pub four-room : n < length out
   four-room = room_at b.tried (omega arith)
 
-  module _ {v : Four} (w : FourValues m f x v) {i : ℕ} {out₁ : List ℕ} (p : Noted v.a x n out i out₁) where
+  module _ {v : List ℕ} (w : FourValues m f x v) {i : ℕ} {out₁ : List ℕ} (p : Noted (get_or v 0 0) x n out i out₁) where
     -- one was tried
     first : Tried m f out (x + 1) i out₁
     first = tried-note b.tried four-room w.first p
@@ -156,7 +155,7 @@ module _ {m : ℕ} {ls ts f : List ℕ} {x : ℕ} {out : List ℕ} {n : ℕ} (b 
     pub four-room-1 : i < length out₁
     four-room-1 = room_at first (omega arith)
 
-    module _ {j : ℕ} {out₂ : List ℕ} (q : Noted v.b (x + 1) i out₁ j out₂) where
+    module _ {j : ℕ} {out₂ : List ℕ} (q : Noted (get_or v 1 0) (x + 1) i out₁ j out₂) where
       -- two were
       second : Tried m f out (x + 2) j out₂
       second = tried-at (omega arith) (tried-note first four-room-1 w.second q)
@@ -164,7 +163,7 @@ module _ {m : ℕ} {ls ts f : List ℕ} {x : ℕ} {out : List ℕ} {n : ℕ} (b 
       pub four-room-2 : j < length out₂
       four-room-2 = room_at second (omega arith)
 
-      module _ {k : ℕ} {out₃ : List ℕ} (r : Noted v.c (x + 2) j out₂ k out₃) where
+      module _ {k : ℕ} {out₃ : List ℕ} (r : Noted (get_or v 2 0) (x + 2) j out₂ k out₃) where
         -- three were
         third : Tried m f out (x + 3) k out₃
         third = tried-at (omega arith) (tried-note second four-room-2 w.third r)
@@ -172,27 +171,29 @@ module _ {m : ℕ} {ls ts f : List ℕ} {x : ℕ} {out : List ℕ} {n : ℕ} (b 
         pub four-room-3 : k < length out₃
         four-room-3 = room_at third (omega arith)
 
-        pub four-all : {l : ℕ} {out₄ : List ℕ} → Noted v.d (x + 3) k out₃ l out₄ → Tried m f out (x + 4) l out₄
+        pub four-all : {l : ℕ} {out₄ : List ℕ} → Noted (get_or v 3 0) (x + 3) k out₃ l out₄ → Tried m f out (x + 4) l out₄
         four-all s = tried-at (omega arith) (tried-note third four-room-3 w.fourth s)
 
 -- ---- all
 
 -- what the loop keeps
 pub record TriedFours (m : ℕ) (ls ts : List ℕ) (e : ℕ) (f out₀ : List ℕ) (x n : ℕ) (out : List ℕ) : Type 0 where
-  pub given : Tries m ls ts f out₀
+  pub tables : Lent m ls ts
+  pub given : Tries m f out₀
   pub ends : Fours m e
   pub tried : Tried m f out₀ x n out
   pub fours : x % 4 ≡ 0
   pub positive : 0 < x
   pub within : x ≤ e
 
-pub fours-from : {m : ℕ} {ls ts : List ℕ} {e : ℕ} {f out : List ℕ} {n : ℕ} {out' : List ℕ} → Tries m ls ts f out → Fours m e → Tried m f out 4 n out'
+pub fours-from : {m : ℕ} {ls ts : List ℕ} {e : ℕ} {f out : List ℕ} {n : ℕ} {out' : List ℕ} → Lent m ls ts → Tries m f out → Fours m e → Tried m f out 4 n out'
     → TriedFours m ls ts e f out' 4 n out'
-fours-from g h t =
+fours-from lent g h t =
     let s = g.space in
     let l = t.long in
     record {
-      given = record { tables = g.tables; poly = g.poly; space = omega arith };
+      tables = lent;
+      given = record { poly = g.poly; space = omega arith };
       ends = h;
       tried = tried-again t;
       fours = refl;
@@ -201,7 +202,7 @@ fours-from g h t =
     }
 
 module _ {m : ℕ} {ls ts : List ℕ} {e : ℕ} {f out₀ : List ℕ} {x n : ℕ} {out : List ℕ} (t : TriedFours m ls ts e f out₀ x n out) where
-  pub fours-asks : x < e → Blocks m ls ts f x out n
+  pub fours-asks : x < e → Blocks m f x out n
   fours-asks h =
       let s = t.given.space in
       let l = t.tried.long in
@@ -209,7 +210,7 @@ module _ {m : ℕ} {ls ts : List ℕ} {e : ℕ} {f out₀ : List ℕ} {x n : ℕ
       let c = t.ends.fours in
       let w = t.ends.within in
       record {
-        given = record { tables = t.given.tables; poly = t.given.poly; space = omega arith };
+        given = record { poly = t.given.poly; space = omega arith };
         tried = tried-again t.tried;
         positive = t.positive;
         within = omega arith;
@@ -220,6 +221,7 @@ module _ {m : ℕ} {ls ts : List ℕ} {e : ℕ} {f out₀ : List ℕ} {x n : ℕ
       let a = t.fours in
       let c = t.ends.fours in
       record {
+        tables = t.tables;
         given = t.given;
         ends = t.ends;
         tried = tried-over t.tried u;
@@ -229,4 +231,4 @@ module _ {m : ℕ} {ls ts : List ℕ} {e : ℕ} {f out₀ : List ℕ} {x n : ℕ
       }
 
   pub fours-end : e ≤ x → Levelled m [] e f n out
-  fours-end h = let w = t.within in let l = t.ends.within in tried-end t.given t.tried (omega arith) h
+  fours-end h = let w = t.within in let l = t.ends.within in tried-end t.tables t.given t.tried (omega arith) h

@@ -10,7 +10,7 @@
 --   Noted            the number x, whose value is v, was written behind the first n elements of out where v is 0
 --   Fours            the numbers below e can be tried, four in a row
 --   Tried            the first n elements of out are the roots of f below x
---   Boths, BothsLent, Aboves, Descends, Maps, Tries, Blocks, Climbs   what the routines may take for granted
+--   Boths, Aboves, Descends, Maps, Tries, Blocks, Climbs   what the routines may take for granted
 --   Mapped           g, p and q hold the resultant of f, A and B
 --   Descended        the first k elements of out are the roots above ys
 --   Levelled         the first k elements of out are roots of f, each once, and all whose tower of maps ends below e
@@ -21,9 +21,7 @@ use Rattle.std.specs.Int.Bits.{bit_xor}
 use Rattle.algebra.specs.Trial.{All, Distinct, keep, up_from}
 use Rattle.algebra.specs.Polynomial.{eval, is_root, Below}
 use Rattle.field.specs.Field.{field_at, G, mul}
-use Rattle.field.specs.Tables.{Halves}
 use Rattle.input.specs.Limit.{limit}
-use Rattle.poly.specs.Lent.{Lent}
 use Rattle.poly_resultants.specs.Maps.{quad, tower, low, high, image, Led}
 
 abbrev pub most : ℕ
@@ -74,21 +72,15 @@ Few m b p q = (xs : List ℕ) → Distinct xs → All (λ x. (x < 2 ^ m) × (val
 -- ---- what the routines may take for granted
 
 -- x^2 + b x = y can be solved, and two numbers written behind the first n
-pub record Boths (m : ℕ) (ls ts : List ℕ) (b y : ℕ) (out : List ℕ) (n : ℕ) : Type 0 where
-  pub tables : Lent m ls ts
+pub record Boths (m : ℕ) (b y : ℕ) (out : List ℕ) (n : ℕ) : Type 0 where
   pub positive : 0 < b
   pub small : b < 2 ^ m
   pub element : y < 2 ^ m
   pub space : n + 2 ≤ length out
 
--- and the table of halves is lent
-pub record BothsLent (m : ℕ) (ls ts hs : List ℕ) (b y : ℕ) (out : List ℕ) (n : ℕ) : Type 0 where
-  pub boths : Boths m ls ts b y out n
-  pub halves : Halves (field_at m) hs
-
 -- and y is a root of the resultant
-pub record Aboves (m : ℕ) (ls ts : List ℕ) (b : ℕ) (p q : List ℕ) (y : ℕ) (out : List ℕ) (n : ℕ) : Type 0 where
-  pub boths : Boths m ls ts b y out n
+pub record Aboves (m : ℕ) (b : ℕ) (p q : List ℕ) (y : ℕ) (out : List ℕ) (n : ℕ) : Type 0 where
+  pub boths : Boths m b y out n
   pub low : Below (2 ^ m) p
   pub high : Below (2 ^ m) q
   pub zero : norm_by m b p q y ≡ 0
@@ -96,8 +88,7 @@ pub record Aboves (m : ℕ) (ls ts : List ℕ) (b : ℕ) (p q : List ℕ) (y : �
   pub longest : length p ≤ suc (length q)
 
 -- each of ys is one
-pub record Descends (m : ℕ) (ls ts : List ℕ) (b : ℕ) (p q ys out : List ℕ) : Type 0 where
-  pub tables : Lent m ls ts
+pub record Descends (m : ℕ) (b : ℕ) (p q ys out : List ℕ) : Type 0 where
   pub positive : 0 < b
   pub small : b < 2 ^ m
   pub low : Below (2 ^ m) p
@@ -122,8 +113,7 @@ pub record Polynomial (m : ℕ) (f : List ℕ) : Type 0 where
   pub led : Led (G m) f
 
 -- a map can be made, of f, with its digits to p and q
-pub record Maps (m : ℕ) (ls ts : List ℕ) (b : ℕ) (f p q : List ℕ) : Type 0 where
-  pub tables : Lent m ls ts
+pub record Maps (m : ℕ) (b : ℕ) (f p q : List ℕ) : Type 0 where
   pub positive : 0 < b
   pub small : b < 2 ^ m
   pub poly : Polynomial m f
@@ -137,8 +127,7 @@ pub record Mapped (m b : ℕ) (f g p q : List ℕ) : Type 0 where
   pub high : q ≡ high (G m) b f
 
 -- numbers can be tried
-pub record Tries (m : ℕ) (ls ts f out : List ℕ) : Type 0 where
-  pub tables : Lent m ls ts
+pub record Tries (m : ℕ) (f out : List ℕ) : Type 0 where
   pub poly : Polynomial m f
   pub space : room ≤ length out
 
@@ -159,15 +148,14 @@ pub record Tried (m : ℕ) (f out : List ℕ) (x n : ℕ) (out' : List ℕ) : Ty
   pub passed : take n out' ≡ keep (is_root (G m) f) (up_from 0 x)
 
 -- and four more can be
-pub record Blocks (m : ℕ) (ls ts f : List ℕ) (x : ℕ) (out : List ℕ) (n : ℕ) : Type 0 where
-  pub given : Tries m ls ts f out
+pub record Blocks (m : ℕ) (f : List ℕ) (x : ℕ) (out : List ℕ) (n : ℕ) : Type 0 where
+  pub given : Tries m f out
   pub tried : Tried m f out x n out
   pub positive : 0 < x
   pub within : x + 3 < 2 ^ m
 
 -- what is left of the maps, and where they end
-pub record Climbs (m : ℕ) (ls ts chain : List ℕ) (e : ℕ) (f out : List ℕ) : Type 0 where
-  pub tables : Lent m ls ts
+pub record Climbs (m : ℕ) (chain : List ℕ) (e : ℕ) (f out : List ℕ) : Type 0 where
   pub steps : All (λ b. (0 < b) × (b < 2 ^ m)) chain
   pub fours : Fours m e
   pub poly : Polynomial m f

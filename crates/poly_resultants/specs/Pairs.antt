@@ -6,12 +6,9 @@
 use Rattle.std.specs.Prelude.{◌≡◌, List, ℕ, suc, ◌^◌, ◌≤◌, ◌<◌, length}
 use Rattle.algebra.specs.Polynomial.{eval, Below}
 use Rattle.field.specs.Field.{G}
-use Rattle.poly.specs.Lent.{Lent}
-use Rattle.poly_resultants.specs.declared.descent.Values.{Values}
 
 -- the digits at even and at odd places
-pub record Evaluable (m : ℕ) (ls ts p q : List ℕ) (y : ℕ) : Type 0 where
-  pub tables : Lent m ls ts
+pub record Evaluable (m : ℕ) (p q : List ℕ) (y : ℕ) : Type 0 where
   pub low : Below (2 ^ m) p
   pub high : Below (2 ^ m) q
   pub least : length q ≤ length p
@@ -19,11 +16,11 @@ pub record Evaluable (m : ℕ) (ls ts p q : List ℕ) (y : ℕ) : Type 0 where
   pub element : y < 2 ^ m
 
 -- at an element that is not 0
-pub record Evaluates (m : ℕ) (ls ts p q : List ℕ) (y : ℕ) : Type 0 where
-  pub pair : Evaluable m ls ts p q y
+pub record Evaluates (m : ℕ) (p q : List ℕ) (y : ℕ) : Type 0 where
+  pub pair : Evaluable m p q y
   pub positive : 0 < y
 
 -- both
-pub record ValuesAt (m : ℕ) (p q : List ℕ) (y : ℕ) (r : Values) : Type 0 where
-  pub low : r.low ≡ eval (G m) p y
-  pub high : r.high ≡ eval (G m) q y
+pub record ValuesAt (m : ℕ) (p q : List ℕ) (y : ℕ) (r : ℕ × ℕ) : Type 0 where
+  pub low : r.0 ≡ eval (G m) p y
+  pub high : r.1 ≡ eval (G m) q y

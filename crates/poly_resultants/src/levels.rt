@@ -5,6 +5,7 @@ ghost use Rattle.poly_resultants.specs.Levels.{Maps, Mapped, Climbs, Levelled};
 use crate::descent::descend;
 use crate::map::{convert, every_other, resultant};
 use crate::trial::tried;
+use field::tables::Tables;
 use input::LIMIT;
 
 // The most digits at even places.
@@ -14,49 +15,32 @@ const HALF: usize = LIMIT / 2 + 1;
 pub const ROOM: usize = LIMIT + 2;
 
 // Makes of f its resultant, and writes A and B to p and q.
-fn map_once(
-    m: u16,
-    logs: &[u16],
-    antilogs: &[u16],
-    b: u16,
-    f: &mut [u16],
-    p: &mut [u16],
-    q: &mut [u16],
-)
-    requires { Maps m logs.now antilogs.now b f.old p.old q.old }
-    ensures { Mapped m b f.old f.new p.new q.new }
+fn map_once(tables: &Tables, b: u16, f: &mut [u16], p: &mut [u16], q: &mut [u16])
+    requires { Maps tables.now.degree b f.old p.old q.old }
+    ensures { Mapped tables.now.degree b f.old f.new p.new q.new }
 {
-    convert(m, logs, antilogs, b, f);
+    convert(tables, b, f);
     every_other(&f[..], p);
     every_other(&f[1..], q);
-    resultant(m, logs, antilogs, b, &p[..], &q[..], f);
+    resultant(tables, b, &p[..], &q[..], f);
 }
 
 // Writes the roots of f that the chain of maps takes to a number below end to the front of out. What stands in f is
 // used up. Returns how many there are.
-pub fn level(
-    m: u16,
-    logs: &[u16],
-    antilogs: &[u16],
-    chain: &[u16],
-    end: u16,
-    f: &mut [u16],
-    out: &mut [u16],
-) -> usize
-    requires { Climbs m logs.now antilogs.now chain.now end f.old out.old }
-    ensures { Levelled m chain.now end f.old result out.new }
+pub fn level(tables: &Tables, chain: &[u16], end: u16, f: &mut [u16], out: &mut [u16]) -> usize
+    requires { Climbs tables.now.degree chain.now end f.old out.old }
+    ensures { Levelled tables.now.degree chain.now end f.old result out.new }
 {
-    if chain.len() == 0 {
-        return tried(m, logs, antilogs, end, &f[..], out);
-    }
-    let b = chain[0];
+    let [b, rest @ ..] = chain else {
+        return tried(tables, end, &f[..], out);
+    };
     let n = f.len();
     let e = n / 2;
     let d = n - e;
-    let mut p = [0u16; HALF];
-    let mut q = [0u16; HALF];
-    map_once(m, logs, antilogs, b, f, &mut p[..d], &mut q[..e]);
-    let mut ys = [0u16; ROOM];
-    let k = level(m, logs, antilogs, &chain[1..], end, f, &mut ys);
-    descend(m, logs, antilogs, b, &p[..d], &q[..e], &ys[..k], out)
+    let mut p = [0; HALF];
+    let mut q = [0; HALF];
+    map_once(tables, *b, f, &mut p[..d], &mut q[..e]);
+    let mut ys = [0; ROOM];
+    let k = level(tables, rest, end, f, &mut ys);
+    descend(tables, *b, &p[..d], &q[..e], &ys[..k], out)
 }

@@ -2,39 +2,36 @@
 ghost use Rattle.std.specs.Prelude.{◌≡◌, map, ◌^◌, length};
 ghost use Rattle.algebra.specs.Polynomial.{add, mul, Below};
 ghost use Rattle.field.specs.Field.{G};
-ghost use Rattle.poly.specs.Lent.{Lent, held};
+ghost use Rattle.poly.specs.Lent.{held};
 ghost use Rattle.poly_resultants.specs.Maps.{evens, combine, digits, resultant};
 ghost use Rattle.poly_resultants.specs.Lending.{Factors, Products, Digits};
 
-use crate::elements::{squared, times};
+use field::tables::Tables;
 use input::LIMIT;
+use poly::elements::square_by_logs;
 use poly::rows::{add_row, log_row};
 
 // No polynomial has more digits at odd places.
 const HIGH: usize = LIMIT / 2;
 
 // Adds b times each element at an odd place to the one before it.
-fn combine(m: u16, logs: &[u16], antilogs: &[u16], b: u16, s: &mut [u16])
-    requires { Factors m logs.now antilogs.now b s.old }
-    ensures { s.new ≡ combine (G m) b s.old }
+fn combine(tables: &Tables, b: u16, s: &mut [u16])
+    requires { Factors tables.now.degree b s.old }
+    ensures { s.new ≡ combine (G tables.now.degree) b s.old }
 {
-    let n = s.len();
-    let mut i = 0;
-    while i + 1 < n {
-        s[i] = s[i] ^ times(m, logs, antilogs, b, s[i + 1]);
-        i += 2;
+    for k in 0..s.len() / 2 {
+        let i = 2 * k;
+        s[i] ^= tables.product(b, s[i + 1]);
     }
 }
 
 // Makes of the coefficients of f its digits, from the top.
-pub fn convert(m: u16, logs: &[u16], antilogs: &[u16], b: u16, f: &mut [u16])
-    requires { Factors m logs.now antilogs.now b f.old }
-    ensures { f.new ≡ digits (G m) b f.old }
+pub fn convert(tables: &Tables, b: u16, f: &mut [u16])
+    requires { Factors tables.now.degree b f.old }
+    ensures { f.new ≡ digits (G tables.now.degree) b f.old }
 {
-    let mut k = f.len();
-    while k > 0 {
-        combine(m, logs, antilogs, b, &mut f[k..]);
-        k -= 1;
+    for k in (0..f.len()).rev() {
+        combine(tables, b, &mut f[k + 1..]);
     }
 }
 
@@ -43,63 +40,40 @@ pub fn every_other(g: &[u16], out: &mut [u16])
     requires { length out.old ≡ length (evens g.now) }
     ensures { out.new ≡ evens g.now }
 {
-    let mut i = 0;
-    while i < out.len() {
+    for i in 0..out.len() {
         out[i] = g[2 * i];
-        i += 1;
     }
 }
 
 // Squares each element.
-fn square_all(m: u16, logs: &[u16], antilogs: &[u16], g: &mut [u16])
-    requires { Lent m logs.now antilogs.now × Below (2 ^ m) g.old }
-    ensures { g.new ≡ map (λ c. (G m).mul c c) g.old }
+fn square_all(tables: &Tables, g: &mut [u16])
+    requires { Below (2 ^ tables.now.degree) g.old }
+    ensures { g.new ≡ map (λ c. (G tables.now.degree).mul c c) g.old }
 {
-    let mut i = 0;
-    while i < g.len() {
-        g[i] = squared(m, logs, antilogs, g[i]);
-        i += 1;
+    for c in g.iter_mut() {
+        *c = square_by_logs(tables, *c);
     }
 }
 
 // Adds b p times the polynomial that the row holds to r.
-fn add_product(
-    m: u16,
-    logs: &[u16],
-    antilogs: &[u16],
-    b: u16,
-    p: &[u16],
-    row: &[u16],
-    r: &mut [u16],
-)
-    requires { Products m logs.now antilogs.now b p.now row.now r.old }
-    ensures { r.new
-        ≡ add (G m) r.old (mul (G m) (map ((G m).mul b) p.now) (held m row.now)) }
+fn add_product(tables: &Tables, b: u16, p: &[u16], row: &[u16], r: &mut [u16])
+    requires { Products tables.now.degree b p.now row.now r.old }
+    ensures { let m = tables.now.degree in r.new ≡ add (G m) r.old (mul (G m) (map ((G m).mul b) p.now) (held m row.now)) }
 {
-    let mut i = 0;
-    while i < p.len() {
-        let t = times(m, logs, antilogs, b, p[i]);
-        add_row(m, logs, antilogs, t, row, &mut r[i..]);
-        i += 1;
+    for (i, c) in p.iter().enumerate() {
+        let t = tables.product(b, *c);
+        add_row(tables, t, row, &mut r[i..]);
     }
 }
 
 // Makes of the digits g, whose digits at even places are p and those at odd places q, the resultant.
-pub fn resultant(
-    m: u16,
-    logs: &[u16],
-    antilogs: &[u16],
-    b: u16,
-    p: &[u16],
-    q: &[u16],
-    g: &mut [u16],
-)
-    requires { Digits m logs.now antilogs.now b p.now q.now g.old }
-    ensures { g.new ≡ resultant (G m) b g.old }
+pub fn resultant(tables: &Tables, b: u16, p: &[u16], q: &[u16], g: &mut [u16])
+    requires { Digits tables.now.degree b p.now q.now g.old }
+    ensures { g.new ≡ resultant (G tables.now.degree) b g.old }
 {
-    let mut row = [0u16; HIGH];
+    let mut row = [0; HIGH];
     let e = q.len();
-    log_row(m, logs, antilogs, q, &mut row[..e]);
-    square_all(m, logs, antilogs, g);
-    add_product(m, logs, antilogs, b, p, &row[..e], g);
+    log_row(tables, q, &mut row[..e]);
+    square_all(tables, g);
+    add_product(tables, b, p, &row[..e], g);
 }

@@ -17,8 +17,10 @@ use Rattle.algebra.proofs.Lengths.{length-rem, length-frobenius_mod}
 use Rattle.algebra.proofs.StaysBelow.{add-below, rem_below, frobenius_mod-below, trace_mod-below}
 use Rattle.algebra.proofs.NumberSteps.{field-run, trace-run}
 use Rattle.field.specs.Field.{G}
-use Rattle.poly_powers.specs.Powers.{Startable}
-use Rattle.poly_gcd.specs.Euclid.{Commonable, GcdIs}
+use Rattle.poly.specs.Lent.{Lent}
+use Rattle.poly_powers.specs.Asking.{Startable}
+use Rattle.poly_gcd.specs.Asking.{Commonable}
+use Rattle.poly_gcd.specs.Euclid.{GcdIs}
 use Rattle.poly.proofs.Logs.{numbers_of}
 use Rattle.poly.proofs.Divisions.{rem-short}
 use Rattle.poly_small.specs.Parting.{Cubic, GcdOf}
@@ -32,15 +34,15 @@ add-z m (x ∷ y ∷ []) e = absurd (omega arith)
 add-z m (x ∷ y ∷ z ∷ []) e = ap₂ (λ u v. u ∷ bit_xor y 1 ∷ v ∷ []) (sym (xor_zero_r x)) (sym (xor_zero_r z))
 add-z m (x ∷ y ∷ z ∷ t ∷ w) e = absurd (omega arith)
 
-module _ {m : ℕ} {ls ts p g : List ℕ} (c : Cubic m ls ts p g) where
+module _ {m : ℕ} {ls ts p g : List ℕ} (l : Lent m ls ts) (c : Cubic m p g) where
   -- the field's laws
   N : OnNumbers (G m) (2 ^ m)
-  N = numbers_of c.tables
+  N = numbers_of l
 
   -- what the gcd asks
-  gcd-asks : {t : List ℕ} → length t ≡ 3 → Below (2 ^ m) t → Commonable m ls ts p t g
-  gcd-asks l h = let three = c.three in
-      record { tables = c.tables; small-p = c.small; small-t = h; few-p = omega arith; few-t = omega arith; room = omega (arith, c.room) }
+  gcd-asks : {t : List ℕ} → length t ≡ 3 → Below (2 ^ m) t → Commonable m p t g
+  gcd-asks long h = let three = c.three in
+      record { small-p = c.small; small-t = h; few-p = omega arith; few-t = omega arith; room = omega (arith, c.room) }
 
   -- what it leaves
   gcd-out : {u t g' : List ℕ} {n : ℕ} → gcd (G m) p u ≡ gcd (G m) p t → GcdIs m p u n g' → GcdOf m p t n g'
@@ -54,7 +56,7 @@ module _ {m : ℕ} {ls ts p g : List ℕ} (c : Cubic m ls ts p g) where
 
   -- it is shorter than the cubic
   z-is : z ≡ 0 ∷ 1 ∷ 0 ∷ []
-  z-is = rem-short c.tables p (0 ∷ 1 ∷ []) (omega (arith, c.three)) ∙ ap (λ n. 0 ∷ 1 ∷ replicate (n - 2) 0) c.three
+  z-is = rem-short l p (0 ∷ 1 ∷ []) (omega (arith, c.three)) ∙ ap (λ n. 0 ∷ 1 ∷ replicate (n - 2) 0) c.three
 
   -- its coefficients are elements
   z-below : Below (2 ^ m) z
@@ -69,7 +71,7 @@ module _ {m : ℕ} {ls ts p g : List ℕ} (c : Cubic m ls ts p g) where
   with-z {w} e = add-z m w (power-long e) ∙ ap₂ (add (G m)) e (sym z-is)
 
   -- what the gcd with z^(2^m) + z asks
-  pub split-asks : {w : List ℕ} → w ≡ frobenius_mod (G m) p m z → Commonable m ls ts p (set w 1 (bit_xor (get_or w 1 0) 1)) g
+  pub split-asks : {w : List ℕ} → w ≡ frobenius_mod (G m) p m z → Commonable m p (set w 1 (bit_xor (get_or w 1 0) 1)) g
   split-asks {w} k =
       gcd-asks (length-set w 1 _ ∙ power-long k)
       (subst (Below (2 ^ m)) (sym (with-z k)) (add-below N (frobenius_mod (G m) p m z) z (frobenius_mod-below N p m z c.small z-below) z-below))
@@ -79,16 +81,16 @@ module _ {m : ℕ} {ls ts p g : List ℕ} (c : Cubic m ls ts p g) where
   split-is k i = gcd-out (ap (gcd (G m) p) (with-z k) ∙ sym (field-run N m p c.small)) i
 
   -- what a remainder by the cubic asks
-  pub power-asks : {w : List ℕ} → length w ≡ 3 → Startable m ls ts p w
-  power-asks l = let three = c.three in record { tables = c.tables; small = c.small; few = omega arith; room = omega arith }
+  pub power-asks : {w : List ℕ} → length w ≡ 3 → Startable m p w
+  power-asks long = let three = c.three in record { small = c.small; few = omega arith; room = omega arith }
 
   -- ---- the part at a level
 
   module _ {b : ℕ} {t : List ℕ} (h : b < 2 ^ m) (k : t ≡ trace_mod (G m) p m (rem (G m) p (0 ∷ b ∷ []))) where
     -- what the gcd with Tr(bz) asks
-    pub part-asks : length t ≡ 3 → Commonable m ls ts p t g
-    part-asks l =
-        gcd-asks l
+    pub part-asks : length t ≡ 3 → Commonable m p t g
+    part-asks long =
+        gcd-asks long
         (subst (Below (2 ^ m)) (sym k)
         (trace_mod-below N p m (rem (G m) p (0 ∷ b ∷ [])) c.small (rem_below N p (0 ∷ b ∷ []) c.small (N.zero-below, (h, tt)))))
 

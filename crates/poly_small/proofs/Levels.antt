@@ -30,11 +30,11 @@ pub record SeekingLevel (m : ℕ) (p g₀ g : List ℕ) (b i : ℕ) : Type 0 whe
 pub seek-level-from : (m : ℕ) (p g : List ℕ) → SeekingLevel m p g g 1 0
 seek-level-from m p g = record { long = refl; within = omega arith; power = refl; none = λ j l. absurd (not-suc-le-zero l) }
 
-module _ {m : ℕ} {ls ts p g₀ g : List ℕ} {b i : ℕ} (a : CubicPartable m ls ts p g₀) (s : SeekingLevel m p g₀ g b i) where
+module _ {m : ℕ} {p g₀ g : List ℕ} {b i : ℕ} (a : CubicPartable m p g₀) (s : SeekingLevel m p g₀ g b i) where
   -- what a turn asks
-  pub seek-level-asks : i < m → Cubic m ls ts p g × (b < 2 ^ m)
+  pub seek-level-asks : i < m → Cubic m p g × (b < 2 ^ m)
   seek-level-asks h = (
-    record { tables = a.cubic.tables; small = a.cubic.small; three = a.cubic.three; room = omega (arith, a.cubic.room, s.long) },
+    record { small = a.cubic.small; three = a.cubic.three; room = omega (arith, a.cubic.room, s.long) },
     subst (λ n. n < 2 ^ m) (sym s.power) (pow-lt h),
   )
 
@@ -64,5 +64,5 @@ module _ {m : ℕ} {ls ts p g₀ g : List ℕ} {b i : ℕ} (a : CubicPartable m 
       }
 
   -- some level parts it, so that the levels do not end
-  pub seek-level-never : {n : ℕ} {g' : List ℕ} → m ≤ i → CubicParted m p n g'
-  seek-level-never h = absurd (s.none a.level (omega (arith, a.parts.level)) a.parts)
+  pub seek-level-never : m ≤ i → ⊥
+  seek-level-never h = s.none a.level (omega (arith, a.parts.level)) a.parts

@@ -1,3 +1,4 @@
+pub mod Ascending
 pub mod LowDegrees
 pub mod Cubics
 pub mod Levels

@@ -20,8 +20,9 @@ use Rattle.algebra.specs.Field.{OnNumbers}
 use Rattle.algebra.specs.Polynomial.{Below}
 use Rattle.algebra.specs.Routines.{monic}
 use Rattle.algebra.proofs.RootList.{roots_of-none, roots_of-one, roots_of-count}
-use Rattle.field.specs.Rows.{known, poly_of, ListedRow}
+use Rattle.field.specs.Rows.{known, IsRow, ListedRow}
 use Rattle.field.proofs.Known.{listed}
+use Rattle.field.specs.declared.rows.Row.{Row}
 use Rattle.field.specs.Field.{field_of, G, roots_at}
 use Rattle.field.specs.Tables.{Halves}
 use Rattle.field.specs.Quadratics.{roots_in, roots_of_quadratic}
@@ -53,19 +54,18 @@ front-within {rs} {k} {o} f = omega (arith, f.count, ap length f.front, length-t
 -- ---- the quadratic
 
 -- what the solver asks
-pub quadratic-asks : {m poly a b : ℕ} {hs out : List ℕ} → Halvable m hs a b out → poly ≡ poly_of m
-    → ListedRow m poly × Halves (field_of m poly) hs × (a < 2 ^ m) × (b < 2 ^ m)
-quadratic-asks {m} {hs = hs} h e = (
-  record { degree = h.degree; poly = sym e },
-  subst (λ n. Halves (field_of m n) hs) (sym e) h.halves,
-  h.small-a,
-  h.small_b,
-)
+pub quadratic-asks : {m a b : ℕ} {row : Row} {hs out : List ℕ} → Halvable m hs a b out → IsRow m row
+    → ListedRow row.degree row.poly × Halves (field_of row.degree row.poly) hs × (a < 2 ^ row.degree) × (b < 2 ^ row.degree)
+quadratic-asks {m} {a} {b} {row} {hs} h r =
+    subst (λ (d : ℕ). ListedRow d row.poly × Halves (field_of d row.poly) hs × (a < 2 ^ d) × (b < 2 ^ d)) (sym r.degree)
+    (r.list, subst (λ (n : ℕ). Halves (field_of m n) hs) r.list.poly h.halves, h.small-a, h.small_b)
 
 -- the roots are the values of the answer
-pub quadratic-list : (m a b : ℕ) {poly : ℕ} {q r : Quadratic} → poly ≡ poly_of m → roots_in q ≡ roots_of_quadratic (field_of m poly) a b → q ≡ r
+pub quadratic-list : (m a b : ℕ) {row : Row} {q r : Quadratic} → IsRow m row → roots_in q ≡ roots_of_quadratic (field_of row.degree row.poly) a b → q ≡ r
     → roots_at m (b ∷ a ∷ 1 ∷ []) ≡ roots_in r
-quadratic-list m a b e h s = ap (λ n. roots_of_quadratic (field_of m n) a b) (sym e) ∙ sym h ∙ ap roots_in s
+quadratic-list m a b {row} i h s =
+    ap (λ (n : ℕ). roots_of_quadratic (field_of m n) a b) i.list.poly
+    ∙ ap (λ (d : ℕ). roots_of_quadratic (field_of d row.poly) a b) (sym i.degree) ∙ sym h ∙ ap roots_in s
 
 -- one root
 pub quadratic-one-root : {m a b : ℕ} {hs out : List ℕ} (x : ℕ) {rs : List ℕ} → Halvable m hs a b out → rs ≡ x ∷ [] → Front rs 1 (set out 0 x)

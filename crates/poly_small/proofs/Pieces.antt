@@ -29,7 +29,7 @@ use Rattle.algebra.proofs.Parting.{parting-roots}
 use Rattle.field.specs.Field.{field_at, G, roots_at}
 use Rattle.field.proofs.Instance.{squared-size}
 use Rattle.poly.specs.Lent.{Lent}
-use Rattle.poly_gcd.specs.Euclid.{Cofactorable}
+use Rattle.poly_gcd.specs.Asking.{Cofactorable}
 use Rattle.poly.proofs.Logs.{numbers_of, field_of, small_of}
 use Rattle.poly_small.specs.Roots.{Front, RootsOut, Lowly, SmallSolvable}
 use Rattle.poly_small.specs.Parting.{GcdOf, Parts, CubicPartable, CubicParted, Pieces}
@@ -41,10 +41,10 @@ field_laws {m} l = squared-size (field_at m) (field_of l)
 
 -- ---- two parts
 
-module _ {m : ℕ} {ls ts hs p g out : List ℕ} (i : Pieces m ls ts hs p g out) where
+module _ {m : ℕ} {ls ts hs p g out : List ℕ} (l : Lent m ls ts) (i : Pieces m hs p g out) where
   -- the field's laws
   N : OnNumbers (G m) (2 ^ m)
-  N = numbers_of i.given.tables
+  N = numbers_of l
 
   -- the part's coefficients are elements
   small-g : Below (2 ^ m) g
@@ -53,12 +53,11 @@ module _ {m : ℕ} {ls ts hs p g out : List ℕ} (i : Pieces m ls ts hs p g out)
   -- the part can be solved
   pub piece-low : Lowly m hs g out
   piece-low =
-      record { degree = i.given.tables.degree; halves = i.given.halves; small = small-g; low = omega (arith, i.less); room = omega (arith, i.less, i.given.room) }
+      record { degree = l.degree; halves = i.given.halves; small = small-g; low = omega (arith, i.less); room = omega (arith, i.less, i.given.room) }
 
   -- what the division asks
-  pub cofactor-asks : {h : List ℕ} → length h ≡ 3 - length g → Cofactorable m ls ts p g h
+  pub cofactor-asks : {h : List ℕ} → length h ≡ 3 - length g → Cofactorable m p g h
   cofactor-asks k = record {
-    tables = i.given.tables;
     small-p = i.given.small;
     small-g = small-g;
     few = omega (arith, i.three);
@@ -77,9 +76,9 @@ module _ {m : ℕ} {ls ts hs p g out : List ℕ} (i : Pieces m ls ts hs p g out)
   -- it can be solved
   pub rest-low : {h o : List ℕ} → h ≡ cofactor (G m) p g → 3 - length g ≤ length o → Lowly m hs h o
   rest-low {h} {o} e k =
-      let l = rest-long e in
+      let long = rest-long e in
       record {
-        degree = i.given.tables.degree;
+        degree = l.degree;
         halves = i.given.halves;
         small = subst (Below (2 ^ m)) (sym e) (cofactor-below N p g i.given.small small-g);
         low = omega (arith, i.least);
@@ -136,41 +135,41 @@ module _ {m : ℕ} {ls ts hs p g out : List ℕ} (i : Pieces m ls ts hs p g out)
 -- ---- a cubic that some level parts
 
 -- some level parts the cubic, and its roots have room
-pub record SplitCubic (m : ℕ) (ls ts hs p out : List ℕ) : Type 0 where
-  pub given : SmallSolvable m ls ts hs p out
+pub record SplitCubic (m : ℕ) (hs p out : List ℕ) : Type 0 where
+  pub given : SmallSolvable m hs p out
   pub three : length p ≡ 3
   pub level : ℕ
   pub parts : Parts m p level
 
-module _ {m : ℕ} {ls ts hs p out : List ℕ} (s : SplitCubic m ls ts hs p out) where
+module _ {m : ℕ} {ls ts hs p out : List ℕ} (l : Lent m ls ts) (s : SplitCubic m hs p out) where
   -- what the search for a level asks
-  pub split-asks : {g : List ℕ} → 3 < length g → CubicPartable m ls ts p g
+  pub split-asks : {g : List ℕ} → 3 < length g → CubicPartable m p g
   split-asks h = record {
-    cubic = record { tables = s.given.tables; small = s.given.small; three = s.three; room = h };
+    cubic = record { small = s.given.small; three = s.three; room = h };
     level = s.level;
     parts = s.parts;
   }
 
   -- the part at a level that parts it
-  pub split-piece : {n : ℕ} {g : List ℕ} → 3 < length g → CubicParted m p n g → Pieces m ls ts hs p (take n g) out
+  pub split-piece : {n : ℕ} {g : List ℕ} → 3 < length g → CubicParted m p n g → Pieces m hs p (take n g) out
   split-piece {n} {g} h d =
-      let l : length (take n g) ≡ n = length-take-le n g (omega (arith, d.less)) in
+      let long : length (take n g) ≡ n = length-take-le n g (omega (arith, d.less)) in
       record {
         given = s.given;
         three = s.three;
         least = omega (arith, d.least);
         less = omega (arith, d.less);
         with = trace_of (G m) m (2 ^ d.level);
-        small = trace_of-below (numbers_of s.given.tables) m (2 ^ d.level) d.below;
+        small = trace_of-below (numbers_of l) m (2 ^ d.level) d.below;
         is = d.low;
       }
 
 -- ---- the part that splits
 
-module _ {m : ℕ} {ls ts hs p out : List ℕ} (s : SmallSolvable m ls ts hs p out) (two : 2 < length p) {n : ℕ} {g : List ℕ} (room : 3 < length g) (d : GcdOf m p (field_poly (G m) m) n g)
+module _ {m : ℕ} {ls ts hs p out : List ℕ} (l : Lent m ls ts) (s : SmallSolvable m hs p out) (two : 2 < length p) {n : ℕ} {g : List ℕ} (room : 3 < length g) (d : GcdOf m p (field_poly (G m) m) n g)
   where
     M : OnNumbers (G m) (2 ^ m)
-    M = numbers_of s.tables
+    M = numbers_of l
 
     -- the coefficients are elements
     part_small : Below (2 ^ m) (take n g)
@@ -182,31 +181,31 @@ module _ {m : ℕ} {ls ts hs p out : List ℕ} (s : SmallSolvable m ls ts hs p o
 
     -- it has all the roots
     part-roots : roots_at m (monic (G m) (take n g)) ≡ roots_at m (monic (G m) p)
-    part-roots = ap (λ r. roots_at m (monic (G m) r)) d.low ∙ roots_of-begin M m refl M.one_below (field_laws s.tables) p s.small
+    part-roots = ap (λ r. roots_at m (monic (G m) r)) d.low ∙ roots_of-begin M m refl M.one_below (field_laws l) p s.small
 
     -- of degree at most 2
     pub split-low : n < 3 → Lowly m hs (take n g) out
     split-low h =
-        record { degree = s.tables.degree; halves = s.halves; small = part_small; low = omega (arith, part-long); room = omega (arith, part-long, s.room) }
+        record { degree = l.degree; halves = s.halves; small = part_small; low = omega (arith, part-long); room = omega (arith, part-long, s.room) }
 
     -- its roots are those of the cubic
     pub split-out : {k : ℕ} {o : List ℕ} → Front (roots_at m (monic (G m) (take n g))) k o → RootsOut m p k o
-    split-out f = front_out (take n g) s.tables.degree s.small part-roots f
+    split-out f = front_out (take n g) l.degree s.small part-roots f
 
     -- of degree 3
     whole : 3 ≤ n → take 3 g ≡ take n g
     whole h = let c = d.count in let e : 3 ≡ n = omega arith in ap (λ i. take i g) e
 
     -- then some level parts it
-    pub split-given : 3 ≤ n → SplitCubic m ls ts hs (take 3 g) out
+    pub split-given : 3 ≤ n → SplitCubic m hs (take 3 g) out
     split-given h =
         let c = d.count in
-        let l : length (take 3 g) ≡ 3 = length-take-le 3 g (omega arith) in
+        let long : length (take 3 g) ≡ 3 = length-take-le 3 g (omega arith) in
         let e : take 3 g ≡ gcd (G m) p (field_poly (G m) m) = whole h ∙ d.low in
-        let w = parting-roots M m refl refl (λ x y. refl) (small_of s.tables).degree-pos (field_laws s.tables) p s.small M.one_below (omega (arith, ap length e)) in
+        let w = parting-roots M m refl refl (λ x y. refl) (small_of l).degree-pos (field_laws l) p s.small M.one_below (omega (arith, ap length e)) in
         record {
-          given = record { tables = s.tables; halves = s.halves; small = subst (Below (2 ^ m)) (sym (whole h)) part_small; low = omega arith; room = s.room };
-          three = l;
+          given = record { halves = s.halves; small = subst (Below (2 ^ m)) (sym (whole h)) part_small; low = omega arith; room = s.room };
+          three = long;
           level = w.0;
           parts = subst (λ r. Parts m r w.0) (sym e) (record { level = w.1; least = w.2.0; less = w.2.1 });
         }
@@ -214,7 +213,7 @@ module _ {m : ℕ} {ls ts hs p out : List ℕ} (s : SmallSolvable m ls ts hs p o
     -- it has the roots of the cubic
     pub whole_out : {k : ℕ} {o : List ℕ} → 3 ≤ n → RootsOut m (take 3 g) k o → RootsOut m p k o
     whole_out {k} {o} h r =
-        let l : length (take 3 g) ≡ 3 = length-take-le 3 g (omega arith) in
+        let long : length (take 3 g) ≡ 3 = length-take-le 3 g (omega arith) in
         let e : roots_at m (monic (G m) (take 3 g)) ≡ roots_at m (monic (G m) p) =
         ap (λ u. roots_at m (monic (G m) u)) (whole h) ∙ part-roots in
         record { count = omega (arith, r.count); members = λ x. subst (λ u. Memᴰ x (take k o) ↔ Memᴰ x u) e (r.members x) }

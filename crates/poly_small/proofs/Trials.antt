@@ -5,17 +5,15 @@
 --   try-asks, try-size, try-all   what a turn asks over lent tables, where it starts, and its end
 --   lead-front                    low coefficients with 1 behind them are the monic polynomial
 --   check-asks, check-out         what the trial asks, and what it gives
---   check-none                    nothing is said where the answer is no
 --   guess-out                     the roots of a cubic, where they were guessed
 --   guess-not                     what another way then asks, where they were not
 -- Assumes nothing.
 use mathlib.Core.Path.{◌≡◌, refl, sym, ap, ◌∙◌, subst}
-use mathlib.Core.Bool.{Bool, true, false, true≢false}
 use mathlib.Core.List.{List, [], ◌∷◌, ◌++◌}
 use Prim.Native.Nat.{ℕ, zero, suc, ◌+◌, ◌-◌, ◌^◌, ◌≤◌, ◌<◌}
 use native.Mathlib.Omega.{arith}
 use lib.ListN.{length, get_or, take, drop}
-use lib.Seq.{drop-cons, drop-length, take-append-add}
+use lib.Seq.{drop-cons, drop-length, take_at, take-append-add}
 use Rattle.algebra.specs.Field.{OnNumbers}
 use Rattle.algebra.specs.Trial.{All, Ascending}
 use Rattle.algebra.specs.Polynomial.{Below, eval}
@@ -24,12 +22,11 @@ use Rattle.algebra.proofs.Trial.{all_map}
 use Rattle.algebra.proofs.StaysBelow.{monic-below}
 use Rattle.algebra.proofs.RootList.{roots_of-whole}
 use Rattle.slices.specs.Lists.{copied}
-use Rattle.slices.proofs.Lists.{copied-front}
 use Rattle.field.specs.Field.{G, roots_at}
 use Rattle.poly.specs.Lent.{Lent}
 use Rattle.poly.proofs.Logs.{numbers_of}
 use Rattle.poly_small.specs.Roots.{RootsOut, SmallSolvable}
-use Rattle.poly_small.specs.Guessing.{Triable, Guessable, Guessed}
+use Rattle.poly_small.specs.Guessing.{Triable, Guessable, GuessedIn}
 use Rattle.poly_small.proofs.LowDegrees.{front_out}
 
 -- those from i on are roots, ascending, and none is below the bound
@@ -70,20 +67,20 @@ module _ {m : ℕ} {f xs : List ℕ} where
         let w : All (λ y. (y < 2 ^ m) × (eval (G m) (monic (G m) p) y ≡ 0)) xs = subst (λ g. All (λ y. (y < 2 ^ m) × (eval (G m) g y ≡ 0)) xs) whole z in
         ap (roots_at m) whole ∙ roots_of-whole N p xs small a w (omega arith)
 
-module _ {m : ℕ} {ls ts f xs : List ℕ} (t : Triable m ls ts f xs) where
+module _ {m : ℕ} {ls ts f xs : List ℕ} (l : Lent m ls ts) (t : Triable m f xs) where
   -- the polynomial's coefficients are elements
   try-below : Below (2 ^ m) f
-  try-below = subst (Below (2 ^ m)) (sym t.whole) (monic-below (numbers_of t.tables) t.low t.small)
+  try-below = subst (Below (2 ^ m)) (sym t.whole) (monic-below (numbers_of l) t.low t.small)
 
   -- what a turn asks over lent tables
-  pub try-asks : {bound i x : ℕ} → Trying m f xs bound i → x < bound → Lent m ls ts × Below (2 ^ m) f × (x < 2 ^ m)
-  try-asks s h = (t.tables, try-below, omega (arith, s.limit))
+  pub try-asks : {bound i x : ℕ} → Trying m f xs bound i → x < bound → Below (2 ^ m) f × (x < 2 ^ m)
+  try-asks s h = (try-below, omega (arith, s.limit))
 
   pub try-size : length ls ≤ 2 ^ m
-  try-size = omega (arith, t.tables.logs.entries)
+  try-size = omega (arith, l.logs.entries)
 
   pub try-all : {bound i : ℕ} → Trying m f xs bound i → i ≡ 0 → roots_at m f ≡ xs
-  try-all s = try-end s (numbers_of t.tables) t.low t.small t.whole t.many
+  try-all s = try-end s (numbers_of l) t.low t.small t.whole t.many
 
 -- ---- low coefficients, and a list of numbers
 
@@ -105,28 +102,27 @@ lead-front : (m : ℕ) (p : List ℕ) {f : List ℕ} → length p ≤ 4 → f �
 unfolding copied
 lead-front m p h e = ap (take (length p + 1)) e ∙ take-append-add p (drop (length p) ones) 1 ∙ ap (λ t. p ++ t) (one-there (length p) h)
 
-module _ {m : ℕ} {ls ts p xs out f : List ℕ} (g : Guessable m ls ts p out) (n : length p ≡ length xs) (four : length p ≤ 4) (e : f ≡ copied p ones) where
+module _ {m : ℕ} {p xs out f : List ℕ} (g : Guessable m p out) (n : length p ≡ length xs) (four : length p ≤ 4) (e : f ≡ copied p ones) where
   -- what the trial asks
-  pub check-asks : Triable m ls ts (take (length p + 1) f) xs
-  check-asks = record { tables = g.tables; low = p; small = g.small; whole = lead-front m p four e; many = n }
+  pub check-asks : Triable m (take (length p + 1) f) xs
+  check-asks = record { low = p; small = g.small; whole = lead-front m p four e; many = n }
 
   -- what it gives
-  pub check-out : {o : List ℕ} → roots_at m (take (length p + 1) f) ≡ xs → o ≡ copied xs out → Guessed m p true o
-  check-out {o} r w =
+  pub check-out : (rest : List ℕ) {y : List ℕ} → roots_at m (take (length p + 1) f) ≡ xs → y ≡ xs → GuessedIn m p (y ++ rest) (length p)
+  check-out rest {y} r w =
       let s : roots_at m (monic (G m) p) ≡ xs = ap (roots_at m) (sym (lead-front m p four e)) ∙ r in
-      record { all = λ y. record { count = n ∙ sym (ap length s); front = ap (take (length p)) w ∙ copied-front xs out (sym n) ∙ sym s } }
-
--- nothing is said where the answer is no
-pub check-none : (m : ℕ) (p o : List ℕ) → Guessed m p false o
-check-none m p o = record { all = λ y. absurd (true≢false (sym y)) }
+      record {
+        degree = refl;
+        all = record { count = n ∙ sym (ap length s); front = take_at y rest (length p) (ap length w ∙ sym n) ∙ w ∙ sym s };
+      }
 
 -- ---- the cubic
 
-module _ {m : ℕ} {ls ts hs p out o : List ℕ} (s : SmallSolvable m ls ts hs p out) (h : 3 ≤ length p) where
+module _ {m : ℕ} {ls ts hs p out o : List ℕ} (l : Lent m ls ts) (s : SmallSolvable m hs p out) (h : 3 ≤ length p) where
   -- guessed
-  pub guess-out : {r : Bool} → Guessed m p r o → r ≡ true → RootsOut m p 3 o
-  guess-out g y = let e : length p ≡ 3 = omega (arith, s.low) in subst (λ k. RootsOut m p k o) e (front_out p s.tables.degree s.small refl (g.all y))
+  pub guess-out : {k : ℕ} → GuessedIn m p o k → RootsOut m p k o
+  guess-out g = front_out p l.degree s.small refl g.all
 
   -- not guessed
-  pub guess-not : length o ≡ length out → SmallSolvable m ls ts hs p o × (2 < length p)
-  guess-not e = (record { tables = s.tables; halves = s.halves; small = s.small; low = s.low; room = omega (arith, s.room) }, omega arith)
+  pub guess-not : length o ≡ length out → SmallSolvable m hs p o × (2 < length p)
+  guess-not e = (record { halves = s.halves; small = s.small; low = s.low; room = omega (arith, s.room) }, omega arith)

@@ -10,12 +10,10 @@ use Rattle.std.specs.Prelude.{◌≡◌, List, ℕ, ◌^◌, ◌≤◌, ◌<◌,
 use Rattle.algebra.specs.Polynomial.{Below, trace_of}
 use Rattle.algebra.specs.Routines.{gcd}
 use Rattle.field.specs.Field.{G}
-use Rattle.poly.specs.Lent.{Lent}
 use Rattle.poly_small.specs.Roots.{SmallSolvable}
 
 -- with room for the leading 1
-pub record Cubic (m : ℕ) (ls ts p g : List ℕ) : Type 0 where
-  pub tables : Lent m ls ts
+pub record Cubic (m : ℕ) (p g : List ℕ) : Type 0 where
   pub small : Below (2 ^ m) p
   pub three : length p ≡ 3
   pub room : 3 < length g
@@ -32,8 +30,8 @@ pub record Parts (m : ℕ) (p : List ℕ) (i : ℕ) : Type 0 where
   pub less : length (gcd (G m) p (trace_of (G m) m (2 ^ i))) < length p
 
 -- at a level that need not be known
-pub record CubicPartable (m : ℕ) (ls ts p g : List ℕ) : Type 0 where
-  pub cubic : Cubic m ls ts p g
+pub record CubicPartable (m : ℕ) (p g : List ℕ) : Type 0 where
+  pub cubic : Cubic m p g
   pub level : ℕ
   pub parts : Parts m p level
 
@@ -46,8 +44,8 @@ pub record CubicParted (m : ℕ) (p : List ℕ) (n : ℕ) (g : List ℕ) : Type 
   pub low : take n g ≡ gcd (G m) p (trace_of (G m) m (2 ^ level))
 
 -- with some polynomial t
-pub record Pieces (m : ℕ) (ls ts hs p g out : List ℕ) : Type 0 where
-  pub given : SmallSolvable m ls ts hs p out
+pub record Pieces (m : ℕ) (hs p g out : List ℕ) : Type 0 where
+  pub given : SmallSolvable m hs p out
   pub three : length p ≡ 3
   pub least : 0 < length g
   pub less : length g < 3

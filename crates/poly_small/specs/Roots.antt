@@ -3,7 +3,7 @@
 --   RootsOut        the first k elements of out are the roots of monic p, in any order, and no more than p has degrees
 --   Halvable        z^2 + az + b can be solved over a lent half-table
 --   Lowly           degree 0 to 2: monic p can be solved so
---   SmallSolvable   degree 0 to 3: monic p can be solved over lent tables
+--   SmallSolvable   degree 0 to 3: monic p can be solved over the half-table and the tables of the field
 -- Assumes nothing.
 use Rattle.std.specs.Prelude.{◌≡◌, ◌↔◌, true, ℕ, ◌^◌, ◌≤◌, ◌<◌, length, take}
 use mathlib.Core.List.{List, Memᴰ}
@@ -12,7 +12,6 @@ use Rattle.algebra.specs.Routines.{monic}
 use Rattle.field.specs.Rows.{known}
 use Rattle.field.specs.Field.{field_at, G, roots_at}
 use Rattle.field.specs.Tables.{Halves}
-use Rattle.poly.specs.Lent.{Lent}
 
 -- in this order
 pub record Front (rs : List ℕ) (k : ℕ) (out : List ℕ) : Type 0 where
@@ -41,8 +40,7 @@ pub record Lowly (m : ℕ) (hs p out : List ℕ) : Type 0 where
   pub room : length p ≤ length out
 
 -- room for three roots
-pub record SmallSolvable (m : ℕ) (ls ts hs p out : List ℕ) : Type 0 where
-  pub tables : Lent m ls ts
+pub record SmallSolvable (m : ℕ) (hs p out : List ℕ) : Type 0 where
   pub halves : Halves (field_at m) hs
   pub small : Below (2 ^ m) p
   pub low : length p ≤ 3

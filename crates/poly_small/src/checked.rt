@@ -1,27 +1,26 @@
 // Degrees 3 and 4 without traces: a guess whose numbers are tried. A polynomial of degree d has at most d roots, so
 // that d ascending numbers at which it is 0 are all of them, wherever they came from. Where a guess fails, who asked
 // goes another way: a polynomial need not split.
-ghost use Rattle.std.specs.Prelude.{◌≡◌, true, ◌≤◌, length};
+ghost use Rattle.std.specs.Prelude.{◌≡◌, true, ◌≤◌, length, IfSome};
 ghost use Rattle.field.specs.Field.{roots_at};
-ghost use Rattle.poly_small.specs.Guessing.{Triable, Guessable, Guessed};
+ghost use Rattle.poly_small.specs.Guessing.{Triable, Guessable, GuessedIn};
 
 use crate::guess::{four_guess, three_guess};
+use field::tables::Tables;
 use poly::values::evaluate;
 
 // Are the numbers xs, ascending, roots of the monic polynomial f, which has as many degrees? Then they are all.
-fn all_roots(m: u16, logs: &[u16], antilogs: &[u16], f: &[u16], xs: &[u16]) -> bool
-    requires { Triable m logs.now antilogs.now f.now xs.now }
-    ensures { result ≡ true → roots_at m f.now ≡ xs.now }
+fn all_roots(tables: &Tables, f: &[u16], xs: &[u16]) -> bool
+    requires { Triable tables.now.degree f.now xs.now }
+    ensures { result ≡ true → roots_at tables.now.degree f.now ≡ xs.now }
 {
-    let mut bound = logs.len();
-    let mut i = xs.len();
-    while i > 0 {
-        i -= 1;
+    let mut bound = tables.logs.len();
+    for i in (0..xs.len()).rev() {
         let x = xs[i];
         if x as usize >= bound {
             return false;
         }
-        if evaluate(m, logs, antilogs, f, x) != 0 {
+        if evaluate(tables, f, x) != 0 {
             return false;
         }
         bound = x as usize;
@@ -30,43 +29,38 @@ fn all_roots(m: u16, logs: &[u16], antilogs: &[u16], f: &[u16], xs: &[u16]) -> b
 }
 
 // Writes the numbers xs to the front of out if they are all the roots of the monic polynomial with the low
-// coefficients p, which has as many degrees. Returns whether they are.
-fn checked_roots(
-    m: u16,
-    logs: &[u16],
-    antilogs: &[u16],
-    p: &[u16],
-    xs: &[u16],
-    out: &mut [u16],
-) -> bool
-    requires { Guessable m logs.now antilogs.now p.now out.old
+// coefficients p, which has as many degrees. Returns how many they are then.
+fn checked_roots(tables: &Tables, p: &[u16], xs: &[u16], out: &mut [u16]) -> Option<usize>
+    requires { Guessable tables.now.degree p.now out.old
         × (length p.now ≡ length xs.now)
         × (length p.now ≤ 4) }
-    ensures { Guessed m p.now result out.new }
+    ensures { IfSome result (GuessedIn tables.now.degree p.now out.new) }
 {
+    let n = p.len();
     let mut f = [1u16; 5];
-    slices::copy(p, &mut f);
-    let n = p.len() + 1;
-    if all_roots(m, logs, antilogs, &f[..n], xs) {
-        slices::copy(xs, out);
-        return true;
+    f[..n].copy_from_slice(p);
+    if !all_roots(tables, &f[..n + 1], xs) {
+        return None;
     }
-    false
+    out[..n].copy_from_slice(xs);
+    Some(n)
 }
 
 // Writes the roots of the monic polynomial with the low coefficients p to the front of out, ascending, if it is of
-// degree 3 or 4 and a guess finds as many. Returns whether it does.
-pub fn guessed_roots(m: u16, logs: &[u16], antilogs: &[u16], p: &[u16], out: &mut [u16]) -> bool
-    requires { Guessable m logs.now antilogs.now p.now out.old }
-    ensures { Guessed m p.now result out.new }
+// degree 3 or 4 and a guess finds as many. Returns how many there are then.
+pub fn guessed_roots(tables: &Tables, p: &[u16], out: &mut [u16]) -> Option<usize>
+    requires { Guessable tables.now.degree p.now out.old }
+    ensures { IfSome result (GuessedIn tables.now.degree p.now out.new) }
 {
-    if p.len() == 3 {
-        let xs = three_guess(m, logs, antilogs, p[2], p[1], p[0]);
-        return checked_roots(m, logs, antilogs, p, &xs, out);
+    match p {
+        [c, b, a] => {
+            let xs = three_guess(tables.degree, tables.logs, tables.antilogs, *a, *b, *c);
+            checked_roots(tables, p, &xs, out)
+        }
+        [d, c, b, a] => {
+            let xs = four_guess(tables.degree, tables.logs, tables.antilogs, *a, *b, *c, *d);
+            checked_roots(tables, p, &xs, out)
+        }
+        _ => None,
     }
-    if p.len() == 4 {
-        let ys = four_guess(m, logs, antilogs, p[3], p[2], p[1], p[0]);
-        return checked_roots(m, logs, antilogs, p, &ys, out);
-    }
-    false
 }

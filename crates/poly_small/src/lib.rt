@@ -8,6 +8,7 @@ ghost use Rattle.poly_small.specs.Roots.{SmallSolvable, RootsOut};
 use crate::checked::guessed_roots;
 use crate::low::low_roots;
 use crate::parting::cubic_roots;
+use field::tables::Tables;
 
 pub mod checked; // degrees 3 and 4, by a guess that is tried
 pub mod guess; // the guesses
@@ -17,22 +18,15 @@ pub mod planes; // what guesses are made of
 
 // Writes the roots of the monic polynomial with the low coefficients p, at most 3 of them, to the front of out, each
 // once. Returns how many there are.
-pub fn small_roots(
-    m: u16,
-    logs: &[u16],
-    antilogs: &[u16],
-    halves: &[u16],
-    p: &[u16],
-    out: &mut [u16],
-) -> usize
-    requires { SmallSolvable m logs.now antilogs.now halves.now p.now out.old }
-    ensures { RootsOut m p.now result out.new }
+pub fn small_roots(tables: &Tables, halves: &[u16], p: &[u16], out: &mut [u16]) -> usize
+    requires { SmallSolvable tables.now.degree halves.now p.now out.old }
+    ensures { RootsOut tables.now.degree p.now result out.new }
 {
     if p.len() < 3 {
-        return low_roots(m, halves, p, out);
+        return low_roots(tables.degree, halves, p, out);
     }
-    if guessed_roots(m, logs, antilogs, p, out) {
-        return 3;
+    match guessed_roots(tables, p, out) {
+        Some(n) => n,
+        None => cubic_roots(tables, halves, p, out),
     }
-    cubic_roots(m, logs, antilogs, halves, p, out)
 }

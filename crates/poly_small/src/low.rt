@@ -4,16 +4,15 @@ ghost use Rattle.algebra.specs.Routines.{monic};
 ghost use Rattle.field.specs.Field.{G, roots_at};
 ghost use Rattle.poly_small.specs.Roots.{Halvable, Lowly, Front};
 
-use field::rows::poly_of;
-use field::solver::{Quadratic, quadratic_of};
+use field::rows::known_row;
+use field::solver::Quadratic;
 
 // Writes the roots of z^2 + az + b to the front of out. Returns how many there are.
 fn quadratic_roots(m: u16, halves: &[u16], a: u16, b: u16, out: &mut [u16]) -> usize
     requires { Halvable m halves.now a b out.old }
     ensures { Front (roots_at m (b ∷ a ∷ 1 ∷ [])) result out.new }
 {
-    let poly = poly_of(m);
-    match quadratic_of(m, poly, halves, a, b) {
+    match known_row(m).quadratic(halves, a, b) {
         Quadratic::NoRoot => 0,
         Quadratic::Double(x) => {
             out[0] = x;
@@ -33,12 +32,12 @@ pub fn low_roots(m: u16, halves: &[u16], p: &[u16], out: &mut [u16]) -> usize
     requires { Lowly m halves.now p.now out.old }
     ensures { Front (roots_at m (monic (G m) p.now)) result out.new }
 {
-    if p.len() == 0 {
-        return 0;
+    match p {
+        [] => 0,
+        [x] => {
+            out[0] = *x;
+            1
+        }
+        [b, a, ..] => quadratic_roots(m, halves, *a, *b, out),
     }
-    if p.len() == 1 {
-        out[0] = p[0];
-        return 1;
-    }
-    quadratic_roots(m, halves, p[1], p[0], out)
 }

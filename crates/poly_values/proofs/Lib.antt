@@ -1,6 +1,7 @@
 -- Why: from the bottom up.
 -- lists: tables, zeros, places of sums
 pub mod Lists
+pub mod Made
 -- the transform over an abstract field, and its image under a map
 pub mod Transform
 pub mod Image

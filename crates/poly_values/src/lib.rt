@@ -30,11 +30,21 @@ ghost use Rattle.poly_values.specs.Tables.{InBlocks, Values, vectors11, planes11
 mod tables;
 
 use crate::tables::{COLUMNS, MULTIPLIERS, SQUARES, TOP, UPPER_COLUMNS};
+use std::array;
 
 // The values of field 11 stand in as many vectors of 64 lanes, of 11 words each: as many as LEVELS levels make.
 pub const VECTORS: usize = 32;
 
-pub const PLANES: usize = 11 * VECTORS;
+pub const PLANES: usize = DIGITS * VECTORS;
+
+// The digits of an element of field 11.
+const DIGITS: usize = 11;
+
+// Pairs of digits, below the highest digit.
+const PAIRS: usize = DIGITS / 2;
+
+// An element in each of 64 lanes, a word for each digit.
+type Vector = [u64; DIGITS];
 
 const LEVELS: usize = 5;
 
@@ -46,68 +56,52 @@ const BLOCKS: usize = 2 * VECTORS;
 pub const COEFFICIENTS: usize = BLOCKS + 1;
 
 // The sum in every lane.
-fn sum(a: [u64; 11], b: [u64; 11]) -> [u64; 11]
+fn sum(a: Vector, b: Vector) -> Vector
     ensures { result ≡ sum_words 11 a b }
 {
-    [
-        a[0] ^ b[0],
-        a[1] ^ b[1],
-        a[2] ^ b[2],
-        a[3] ^ b[3],
-        a[4] ^ b[4],
-        a[5] ^ b[5],
-        a[6] ^ b[6],
-        a[7] ^ b[7],
-        a[8] ^ b[8],
-        a[9] ^ b[9],
-        a[10] ^ b[10],
-    ]
+    array::from_fn(|i| a[i] ^ b[i])
 }
 
 // Adds b to the front of t where w has a digit.
-fn add_masked(t: &mut [u64], w: u64, b: [u64; 11])
+fn add_masked(t: &mut [u64], w: u64, b: Vector)
     requires { 11 ≤ length t.old }
     ensures { t.new ≡ sum (map (bit_and w) b) t.old }
 {
-    let mut j: usize = 0;
-    while j < 11 {
+    for j in 0..DIGITS {
         t[j] = (w & b[j]) ^ t[j];
-        j += 1;
     }
 }
 
 // Adds two rows at once: v times b, and w times b one word further up. b stands between two words that are 0.
-fn add_pair(t: &mut [u64], v: u64, w: u64, b: [u64; 13])
+fn add_pair(t: &mut [u64], v: u64, w: u64, b: [u64; DIGITS + 2])
     requires { 12 ≤ length t.old }
     ensures { t.new ≡ sum (pair_words 12 v w b) t.old }
 {
-    let mut j: usize = 0;
-    while j < 12 {
+    for j in 0..DIGITS + 1 {
         t[j] = ((v & b[j + 1]) ^ (w & b[j])) ^ t[j];
-        j += 1;
     }
 }
 
 // b between two words that are 0.
-fn between_zeros(b: [u64; 11]) -> [u64; 13]
+fn between_zeros(b: Vector) -> [u64; DIGITS + 2]
     ensures { result ≡ 0 ∷ words_at 11 b 0 ++ 0 ∷ [] }
 {
-    [
-        0, b[0], b[1], b[2], b[3], b[4], b[5], b[6], b[7], b[8], b[9], b[10], 0,
-    ]
+    let mut c = [0; DIGITS + 2];
+    put_vector(&mut c, 1, b);
+    c
 }
 
 // The words of the carry-free product with the vector at the front of e, into 22 words that are 0: the row of the last
 // digit, then two rows at a time, so that every store starts at an even place and the next turn's loads find it whole.
-fn add_rows(t: &mut [u64], e: &[u64], b: [u64; 11])
+fn add_rows(t: &mut [u64], e: &[u64], b: Vector)
     requires { (t.old ≡ replicate 22 0) × (11 ≤ length e.now) }
     ensures { t.new ≡ carry_free_words (words_at 11 e.now 0) b }
 {
     let c = between_zeros(b);
-    let mut i: usize = 10;
-    add_masked(&mut t[i..], e[i], b);
-    while i > 0 {
-        i -= 2;
+    let last = DIGITS - 1;
+    add_masked(&mut t[last..], e[last], b);
+    for pair in (0..PAIRS).rev() {
+        let i = 2 * pair;
         add_pair(&mut t[i..], e[i], e[i + 1], c);
     }
 }
@@ -118,55 +112,40 @@ fn fold(t: &mut [u64])
     requires { length t.old ≡ 22 }
     ensures { take 11 t.new ≡ folded taps11 11 t.old }
 {
-    let mut k: usize = 11;
-    while k > 0 {
-        k -= 1;
-        let x = t[k + 11];
-        t[k] = t[k] ^ x;
-        t[k + 2] = t[k + 2] ^ x;
+    for k in (0..DIGITS).rev() {
+        let x = t[k + DIGITS];
+        t[k] ^= x;
+        t[k + 2] ^= x;
     }
 }
 
 // The product in every lane of the vector at the front of e and b.
-fn lane_product(e: &[u64], b: [u64; 11]) -> [u64; 11]
+fn lane_product(e: &[u64], b: Vector) -> Vector
     requires { 11 ≤ length e.now }
     ensures { result ≡ lane_product taps11 (words_at 11 e.now 0) b }
 {
-    let mut t: [u64; 22] = [0; 22];
+    let mut t = [0; 2 * DIGITS];
     add_rows(&mut t, e, b);
     fold(&mut t);
     vector(&t, 0)
 }
 
 // The vector at a place of p.
-fn vector(p: &[u64], at: usize) -> [u64; 11]
+fn vector(p: &[u64], at: usize) -> Vector
     requires { at + 11 ≤ length p.now }
     ensures { result ≡ words_at 11 p.now at }
 {
-    [
-        p[at + 0],
-        p[at + 1],
-        p[at + 2],
-        p[at + 3],
-        p[at + 4],
-        p[at + 5],
-        p[at + 6],
-        p[at + 7],
-        p[at + 8],
-        p[at + 9],
-        p[at + 10],
-    ]
+    array::from_fn(|i| p[at + i])
 }
 
 // A vector stored at a place of p.
-fn put_vector(p: &mut [u64], at: usize, v: [u64; 11])
+fn put_vector(p: &mut [u64], at: usize, v: Vector)
     requires { at + 11 ≤ length p.old }
     ensures { p.new ≡ paste p.old at v 11 }
 {
-    let mut k: usize = 0;
-    while k < 11 {
+    // kept: `copy_from_slice` here takes 5 to 11 instructions in a hundred more for a transform
+    for k in 0..DIGITS {
         p[at + k] = v[k];
-        k += 1;
     }
 }
 
@@ -189,11 +168,8 @@ fn butterflies(p: &mut [u64], g: &[u64], n: usize, up: usize)
     requires { (11 ≤ up) × (n * 11 + up ≤ length p.old) × (11 ≤ length g.now) }
     ensures { p.new ≡ butterflies_at taps11 (words_at 11 g.now 0) up n p.old }
 {
-    let mut w: usize = 0;
-    while w < n {
-        let at = w * 11;
-        butterfly(&mut p[at..], g, up);
-        w += 1;
+    for w in 0..n {
+        butterfly(&mut p[w * DIGITS..], g, up);
     }
 }
 
@@ -204,45 +180,32 @@ fn fourier(g: &[u64], p: &mut [u64], k: usize, n: usize)
 {
     if k > 0 {
         let h = n / 2;
-        let mid = h * 11;
-        let one: usize = 11;
+        let mid = h * DIGITS;
         butterflies(p, g, h, mid);
-        fourier(&g[one..], &mut p[0..mid], k - 1, h);
+        fourier(&g[DIGITS..], &mut p[0..mid], k - 1, h);
         fourier(&g[mid..], &mut p[mid..], k - 1, h);
     }
 }
 
-// Twice the element in every lane.
-fn doubled(r: [u64; 11]) -> [u64; 11]
+// Twice the element in every lane: each digit moves one up, and the highest comes back by the field's polynomial.
+fn doubled(r: Vector) -> Vector
     ensures { result ≡ doubled_words taps11 r }
 {
-    [
-        r[10],
-        r[0],
-        r[1] ^ r[10],
-        r[2],
-        r[3],
-        r[4],
-        r[5],
-        r[6],
-        r[7],
-        r[8],
-        r[9],
-    ]
+    let mut d: Vector = array::from_fn(|i| r[(i + DIGITS - 1) % DIGITS]);
+    d[2] ^= d[0];
+    d
 }
 
 // c times the element in every lane, by the digits of c, the highest first: half of them are 0 and cost nothing.
-fn multiple(c: u16, b: [u64; 11]) -> [u64; 11]
+fn multiple(c: u16, b: Vector) -> Vector
     requires { c < 2048 }
     ensures { Multiple taps11 c b result }
 {
-    let mut r: [u64; 11] = [0; 11];
+    let mut r = [0; DIGITS];
     if c == 0 {
         return r;
     }
-    let mut i: u16 = 11;
-    while i > 0 {
-        i -= 1;
+    for i in (0..DIGITS).rev() {
         let next = doubled(r);
         r = next;
         if (c >> i) % 2 == 1 {
@@ -254,32 +217,31 @@ fn multiple(c: u16, b: [u64; 11]) -> [u64; 11]
 }
 
 // The multiples of b by 0, 1, 2 and 3, one behind the other.
-fn four_multiples(b: [u64; 11]) -> [u64; 44]
+fn four_multiples(b: Vector) -> [u64; 4 * DIGITS]
     ensures { FourMultiples taps11 b result }
 {
     let d = doubled(b);
     let s = sum(d, b);
-    let mut t: [u64; 44] = [0; 44];
-    put_vector(&mut t, 11, b);
-    put_vector(&mut t, 22, d);
-    put_vector(&mut t, 33, s);
+    let mut t = [0; 4 * DIGITS];
+    put_vector(&mut t, DIGITS, b);
+    put_vector(&mut t, 2 * DIGITS, d);
+    put_vector(&mut t, 3 * DIGITS, s);
     t
 }
 
 // c times the element in every lane, two digits of c at a time by a table: no branch, for multipliers that no branch
 // foretells.
-fn multiple_by_table(c: u16, b: [u64; 11]) -> [u64; 11]
+fn multiple_by_table(c: u16, b: Vector) -> Vector
     requires { c < 2048 }
     ensures { Multiple taps11 c b result }
 {
     let t = four_multiples(b);
-    let mut i: u16 = 10;
-    let mut r = vector(&t, (c >> i) as usize * 11);
-    while i > 0 {
-        i -= 2;
+    let last = DIGITS - 1;
+    let mut r = vector(&t, (c >> last) as usize * DIGITS);
+    for pair in (0..PAIRS).rev() {
         let once = doubled(r);
         let twice = doubled(once);
-        let v = vector(&t, ((c >> i) % 4) as usize * 11);
+        let v = vector(&t, ((c >> (2 * pair)) % 4) as usize * DIGITS);
         let next = sum(twice, v);
         r = next;
     }
@@ -287,50 +249,33 @@ fn multiple_by_table(c: u16, b: [u64; 11]) -> [u64; 11]
 }
 
 // The element c in every lane.
-fn spread(c: u16) -> [u64; 11]
+fn spread(c: u16) -> Vector
     ensures { result ≡ spread_words 11 c }
 {
-    let f: u64 = 18446744073709551615;
     let v = c as u64;
-    [
-        v / 1 % 2 * f,
-        v / 2 % 2 * f,
-        v / 4 % 2 * f,
-        v / 8 % 2 * f,
-        v / 16 % 2 * f,
-        v / 32 % 2 * f,
-        v / 64 % 2 * f,
-        v / 128 % 2 * f,
-        v / 256 % 2 * f,
-        v / 512 % 2 * f,
-        v / 1024 % 2 * f,
-    ]
+    array::from_fn(|i| (v >> i) % 2 * u64::MAX)
 }
 
 // The element in lane l, by its digits, the highest first.
-fn lane_of(v: [u64; 11], l: u64) -> u16
+fn lane_of(v: Vector, l: u64) -> u16
     requires { l < 64 }
     ensures { result ≡ lane l v }
 {
     let mut r: u16 = 0;
-    let mut i: usize = 11;
-    while i > 0 {
-        i -= 1;
+    for i in (0..DIGITS).rev() {
         r = r * 2 + ((v[i] >> l) % 2) as u16;
     }
     r
 }
 
 // The sum of the vectors of g, each times its coefficient of f.
-fn mixed(g: &[u64], f: &[u16]) -> [u64; 11]
+fn mixed(g: &[u64], f: &[u16]) -> Vector
     requires { Below 2048 f.now × (length f.now * 11 ≤ length g.now) }
     ensures { Mixed taps11 f.now g.now result }
 {
-    let mut r: [u64; 11] = [0; 11];
-    let mut j = f.len();
-    while j > 0 {
-        j -= 1;
-        let t = vector(g, j * 11);
+    let mut r = [0; DIGITS];
+    for j in (0..f.len()).rev() {
+        let t = vector(g, j * DIGITS);
         let m = multiple_by_table(f[j], t);
         let next = sum(m, r);
         r = next;
@@ -339,42 +284,42 @@ fn mixed(g: &[u64], f: &[u16]) -> [u64; 11]
 }
 
 // The multipliers of field 11.
-fn multipliers11() -> [u64; 341]
-    ensures { TreeTable taps11 steps11 result }
+fn multipliers11() -> &'static [u64; DIGITS * (VECTORS - 1)]
+    ensures { TreeTable taps11 steps11 result.now }
 {
-    MULTIPLIERS
+    &MULTIPLIERS
 }
 
 // The vanishing map of its steps.
-fn top11() -> [u64; 11]
+fn top11() -> Vector
     ensures { TopTable taps11 steps11 result }
 {
     TOP
 }
 
 // Its square.
-fn squares11() -> [u64; 11]
+fn squares11() -> Vector
     ensures { SquareTable taps11 steps11 result }
 {
     SQUARES
 }
 
 // The columns of z^0 to z^32.
-fn columns11() -> [u64; 11 * ONE_BLOCK]
-    ensures { FirstColumns taps11 steps11 blocks11 vectors11 result }
+fn columns11() -> &'static [u64; DIGITS * ONE_BLOCK]
+    ensures { FirstColumns taps11 steps11 blocks11 vectors11 result.now }
 {
-    COLUMNS
+    &COLUMNS
 }
 
 // The columns of z^33 to z^64, the last of which has a 1 behind its blocks.
-fn upper_columns11() -> [u64; PLANES]
-    ensures { ColumnTable taps11 steps11 blocks11 vectors11 vectors11 1 result }
+fn upper_columns11() -> &'static [u64; PLANES]
+    ensures { ColumnTable taps11 steps11 blocks11 vectors11 vectors11 1 result.now }
 {
-    UPPER_COLUMNS
+    &UPPER_COLUMNS
 }
 
 // The butterfly of two coefficients x and y, into the vectors at places i and j.
-fn first(p: &mut [u64], e: [u64; 11], x: u16, y: u16, i: usize, j: usize)
+fn first(p: &mut [u64], e: Vector, x: u16, y: u16, i: usize, j: usize)
     requires { (x < 2048) × (y < 2048) × (i < j) × (j * 11 + 11 ≤ length p.old) }
     ensures { First taps11 e x y i j p.old p.new }
 {
@@ -383,19 +328,17 @@ fn first(p: &mut [u64], e: [u64; 11], x: u16, y: u16, i: usize, j: usize)
     let a = spread(x);
     let s = sum(a, m);
     let t = sum(s, b);
-    put_vector(p, i * 11, s);
-    put_vector(p, j * 11, t);
+    put_vector(p, i * DIGITS, s);
+    put_vector(p, j * DIGITS, t);
 }
 
 // The butterflies of the coefficients that stand h apart, but for the first.
-fn firsts(p: &mut [u64], e: [u64; 11], a: &[u16], h: usize)
+fn firsts(p: &mut [u64], e: Vector, a: &[u16], h: usize)
     requires { Below 2048 a.now × (h + h ≡ length a.now) × ((h + h) * 11 ≡ length p.old) × (1 ≤ h) }
     ensures { Firsts taps11 e a.now h h p.old p.new }
 {
-    let mut w: usize = 1;
-    while w < h {
+    for w in 1..h {
         first(p, e, a[w], a[h + w], w, h + w);
-        w += 1;
     }
 }
 
@@ -404,15 +347,14 @@ fn run_halves(g: &[u64], p: &mut [u64], k: usize, h: usize)
     requires { (h ≡ 2 ^ k) × ((h + h) * 11 ≡ length p.old) × ((h + h) * 11 ≤ length g.now + 11) }
     ensures { p.new ≡ halves_at taps11 k h g.now p.old }
 {
-    let mid = h * 11;
-    let one: usize = 11;
-    fourier(&g[one..], &mut p[0..mid], k, h);
+    let mid = h * DIGITS;
+    fourier(&g[DIGITS..], &mut p[0..mid], k, h);
     fourier(&g[mid..], &mut p[mid..], k, h);
 }
 
 // The transform of 2 h coefficients, x in the place of the first: their butterflies, then the transforms of the
 // halves.
-fn full(g: &[u64], x: [u64; 11], a: &[u16], p: &mut [u64], k: usize, h: usize)
+fn full(g: &[u64], x: Vector, a: &[u16], p: &mut [u64], k: usize, h: usize)
     requires { (h ≡ 2 ^ k) × RowStartable taps11 (k + 1) (h + h) g.now a.now p.old }
     ensures { RowStarted taps11 (k + 1) g.now x a.now p.old p.new }
 {
@@ -424,29 +366,27 @@ fn full(g: &[u64], x: [u64; 11], a: &[u16], p: &mut [u64], k: usize, h: usize)
     let b = spread(y);
     let t = sum(s, b);
     put_vector(p, 0, s);
-    put_vector(p, h * 11, t);
+    put_vector(p, h * DIGITS, t);
     run_halves(g, p, k, h);
 }
 
 // The transform of n = 2^k coefficients, x in the place of the first. Where nothing but one coefficient stands above
 // the half, it only changes the first coefficient of each half.
-fn start(g: &[u64], x: [u64; 11], a: &[u16], p: &mut [u64], k: usize, n: usize)
+fn start(g: &[u64], x: Vector, a: &[u16], p: &mut [u64], k: usize, n: usize)
     requires { RowStartable taps11 k n g.now a.now p.old }
     ensures { RowStarted taps11 k g.now x a.now p.old p.new }
 {
     if k > 0 {
         let h = n / 2;
-        let above = h + 1;
-        if slices::all_zero(&a[above..]) {
-            let mid = h * 11;
-            let one: usize = 11;
+        if slices::all_zero(&a[h + 1..]) {
+            let mid = h * DIGITS;
             let e = vector(g, 0);
             let y = a[h];
             let c = multiple(y, e);
             let s = sum(x, c);
             let b = spread(y);
             let t = sum(s, b);
-            start(&g[one..], s, &a[..h], &mut p[0..mid], k - 1, h);
+            start(&g[DIGITS..], s, &a[..h], &mut p[0..mid], k - 1, h);
             start(&g[mid..], t, &a[..h], &mut p[mid..], k - 1, h);
         } else {
             full(g, x, a, p, k - 1, h);
@@ -457,14 +397,12 @@ fn start(g: &[u64], x: [u64; 11], a: &[u16], p: &mut [u64], k: usize, n: usize)
 }
 
 // The lanes of v, one after the other, in a.
-fn read_lanes(v: [u64; 11], a: &mut [u16])
+fn read_lanes(v: Vector, a: &mut [u16])
     requires { length a.old ≤ 64 }
     ensures { a.new ≡ lanes 0 (length a.old) v }
 {
-    let mut i: usize = 0;
-    while i < a.len() {
-        a[i] = lane_of(v, i as u64);
-        i += 1;
+    for (i, x) in a.iter_mut().enumerate() {
+        *x = lane_of(v, i as u64);
     }
 }
 
@@ -476,24 +414,22 @@ fn one_block(f: &[u16], p: &mut [u64])
     ensures { Values taps11 f.now p.new vectors11 }
 {
     let columns = columns11();
-    let v = mixed(&columns, f);
-    let mut a = [0u16; ONE_BLOCK];
-    let n = f.len();
-    read_lanes(v, &mut a[..n]);
+    let v = mixed(columns, f);
+    let mut a = [0; ONE_BLOCK];
+    read_lanes(v, &mut a[..f.len()]);
     let top = top11();
     let b = spread(a[0]);
     let c = multiple(a[VECTORS], top);
     let x = sum(b, c);
     let g = multipliers11();
-    let last = VECTORS;
-    start(&g, x, &a[..last], p, LEVELS, VECTORS);
+    start(g, x, &a[..VECTORS], p, LEVELS, VECTORS);
 }
 
 // The coefficient of z^i: 0 behind the last.
 fn coefficient(f: &[u16], i: usize) -> u16
     ensures { result ≡ get_or f.now i 0 }
 {
-    if i < f.len() { f[i] } else { 0 }
+    f.get(i).copied().unwrap_or(0)
 }
 
 // More than ONE_BLOCK coefficients in the basis: two blocks, and the one more, which is that of z^64 itself.
@@ -502,30 +438,26 @@ fn in_blocks(f: &[u16]) -> [u16; COEFFICIENTS]
     ensures { InBlocks taps11 steps11 blocks11 f.now result }
 {
     let lower = columns11();
-    let end = ONE_BLOCK;
-    let s = mixed(&lower, &f[..end]);
+    let s = mixed(lower, &f[..ONE_BLOCK]);
     let upper = upper_columns11();
-    let t = mixed(&upper, &f[end..]);
+    let t = mixed(upper, &f[ONE_BLOCK..]);
     let v = sum(s, t);
-    let mut a = [0u16; COEFFICIENTS];
-    let n = BLOCKS;
-    read_lanes(v, &mut a[..n]);
+    let mut a = [0; COEFFICIENTS];
+    read_lanes(v, &mut a[..BLOCKS]);
     a[BLOCKS] = coefficient(f, BLOCKS);
     a
 }
 
 // The row of two blocks of h coefficients, the upper one times b.
-fn two_rows(p: &mut [u64], b: [u64; 11], a: &[u16], h: usize)
+fn two_rows(p: &mut [u64], b: Vector, a: &[u16], h: usize)
     requires { Below 2048 a.now × (h + h ≤ length a.now) × (h * 11 ≡ length p.old) }
     ensures { TwoBlocks taps11 b a.now h h p.old p.new }
 {
-    let mut w: usize = 0;
-    while w < h {
+    for w in 0..h {
         let s = spread(a[w]);
         let m = multiple(a[h + w], b);
         let t = sum(s, m);
-        put_vector(p, w * 11, t);
-        w += 1;
+        put_vector(p, w * DIGITS, t);
     }
 }
 
@@ -544,7 +476,7 @@ fn two_blocks(f: &[u16], p: &mut [u64])
     let x = sum(y, m);
     put_vector(p, 0, x);
     let g = multipliers11();
-    fourier(&g, p, LEVELS, VECTORS);
+    fourier(g, p, LEVELS, VECTORS);
 }
 
 // The values of f at every element of field 11, on bit planes: VECTORS vectors of 11 words, lane l of vector w for the
@@ -566,7 +498,6 @@ pub fn occupied11(p: &[u64], w: usize) -> u64
     requires { w * 11 + 11 ≤ length p.now }
     ensures { result ≡ occupied (words_at 11 p.now (w * 11)) }
 {
-    let v = vector(p, w * 11);
-    v[0] | (v[1]
-        | (v[2] | (v[3] | (v[4] | (v[5] | (v[6] | (v[7] | (v[8] | (v[9] | (v[10] | 0))))))))))
+    let v = vector(p, w * DIGITS);
+    v.iter().rev().fold(0, |rest, word| word | rest)
 }

@@ -3,91 +3,68 @@
 // there is input past the limit, is said there too.
 #![tactic(auto)]
 
-ghost use Rattle.std.specs.Prelude.{◌≤◌, length};
+ghost use Rattle.std.specs.Prelude.{◌≤◌, length, IfOk, IfSome};
 ghost use Rattle.job_records.specs.Reading.{Stands};
 ghost use Rattle.job_lines.specs.Printing.{Ahead};
 
-use job_lines::Next;
-use job_records::{Ending, Read};
-use job_text::LINE;
+use job_records::Read;
+use job_records::held::Reader;
+use job_streams::{Program, Told};
 
-// Places past the end of any file: reading is over, and a line could not be printed.
-const OVER: usize = usize::MAX - 1;
-
-const FAILED: usize = usize::MAX;
-
-// Prints the line of what was read; where reading goes on, or a number past the end of any file.
-fn print_turn(rt: &HostRuntime, read: Read, bytes: &[u8], k: u32) -> usize
+// Prints the line of what was read, and gives the place where reading goes on; none where it is over.
+fn print_turn(program: &Program, read: Read, bytes: &[u8], k: u32) -> Result<Option<usize>, Told>
     requires { Stands read bytes.now }
-    ensures { Ahead read bytes.now result }
+    ensures { IfOk result (λ next. IfSome next (λ at. Ahead read bytes.now at)) }
 {
-    let mut out = [0u8; LINE];
-    let turn = job_lines::take_turn(read, bytes, k, &mut out);
-    let len = turn.len;
-    if !job_streams::print(rt, b"roots", &out[..len]) {
-        return FAILED;
-    }
-    let next = turn.next;
-    match next {
-        Next::On(at) => at,
-        Next::Over => OVER,
-    }
+    let turn = job_lines::take_turn(read, bytes, k);
+    program.print(turn.line.as_str().as_bytes())?;
+    Ok(turn.next)
 }
 
-// Prints the line of each record, by a reader that is made once and moved on; FAILED where a line could not be
-// printed, else a number behind the last record.
-fn run(rt: &HostRuntime, file: &[u8]) -> usize
+// Prints the line of each record, by a reader that is made once and moved on; false where reading stopped before the
+// end of the file.
+fn print_records(program: &Program, file: &[u8]) -> Result<bool, Told>
     requires { length file.now ≤ 65536 }
-    ensures { length file.now ≤ result }
 {
-    let mut reader = job_records::held::new(file, 0);
-    let mut at = 0;
+    let mut reader = Reader::new(file, 0);
     let mut k = 1;
-    while at < file.len() {
-        let read = job_records::held::next(reader);
-        let bytes = job_records::held::bytes(reader, read);
-        at = print_turn(rt, read, bytes, k);
-        reader = job_records::held::moved(reader, at);
+    while reader.at < file.len() {
+        let read = reader.next();
+        let Some(at) = print_turn(program, read, reader.bytes(read), k)? else {
+            return Ok(false);
+        };
+        reader = reader.moved(at);
         k += 1;
     }
-    at
-}
-
-// Says where reading stopped.
-fn tell_stop(rt: &HostRuntime, file: &[u8]) {
-    match job_records::read_through(file) {
-        Ending::Whole => {}
-        Ending::Halted(stop) => {
-            let refusal = stop.refusal;
-            job_streams::tell_stop(
-                rt,
-                b"roots",
-                stop.record_number,
-                stop.at,
-                refusals::number(refusal),
-            );
-        }
-    }
+    Ok(true)
 }
 
 // Prints the lines of what was read, and says what was not.
-fn print_lines(rt: &HostRuntime, file: &[u8])
+fn print_lines(program: &Program, file: &[u8]) -> Result<(), Told>
     requires { length file.now ≤ 65536 }
 {
-    let place = run(rt, file);
-    if place == FAILED {
-        return;
+    let whole = print_records(program, file)?;
+    if !whole {
+        if let Err(stop) = job_records::read_through(file) {
+            program.tell_stop(stop);
+        }
     }
-    if place == OVER {
-        tell_stop(rt, file);
-    }
-    job_streams::tell_behind(rt, b"roots", file.len());
+    program.tell_behind(file.len());
+    Ok(())
+}
+
+// Reads standard input into the room and prints its lines.
+fn run(program: &Program, room: &mut [u8]) -> Result<(), Told> {
+    let n = program.read_all(room)?;
+    print_lines(program, &room[..n])
 }
 
 fn main(rt: HostRuntime) {
-    if !job_streams::starts(
-        &rt,
-        b"roots",
+    let program = Program {
+        rt: &rt,
+        name: b"roots",
+    };
+    if !program.starts(
         b"roots <jobs.lr",
         b"Prints a line for each record of a job file: its number, 0 or the number of its refusal, and where it is\n\
 accepted how many roots, the steps and the roots.\n",
@@ -95,10 +72,5 @@ accepted how many roots, the steps and the roots.\n",
         return;
     }
     let mut buffer = job_streams::large_buffer();
-    let came = job_streams::read_all(&rt, b"roots", &mut buffer);
-    let n = came.bytes;
-    if came.failed {
-        return;
-    }
-    print_lines(&rt, &buffer[..n]);
+    let _ = run(&program, &mut buffer);
 }

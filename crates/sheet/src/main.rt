@@ -8,114 +8,74 @@ ghost use Rattle.algebra.specs.Trial.{All};
 ghost use Rattle.job_sheet.specs.Text.{FitsLine};
 
 use field::rows::{FIELDS, ROWS};
-use job_records::Ending;
-use job_sheet::text::{APART_LINE, FIELD_LINE};
 use job_sheet::{FieldLine, Sheet};
+use job_streams::{Program, Told};
 
-// Prints the line of the field of degree m; false where that fails, which is told.
-fn print_field(rt: &HostRuntime, m: u16, line: FieldLine) -> bool
+// Prints the line of the field of degree m. What fails is told.
+fn print_field(program: &Program, m: u16, line: FieldLine) -> Result<(), Told>
     requires { FitsLine line }
 {
-    let mut out = [0u8; FIELD_LINE];
-    let n = job_sheet::text::field_line(m, line, &mut out);
-    job_streams::print(rt, b"sheet", &out[..n])
+    let text = job_sheet::text::field_line(m, line);
+    program.print(text.as_str().as_bytes())
 }
 
-// Prints the line of each field, ascending; false where that fails, which is told.
-fn print_fields(rt: &HostRuntime, lines: [FieldLine; FIELDS]) -> bool
+// Prints the line of each field, ascending. What fails is told.
+fn print_fields(program: &Program, lines: [FieldLine; FIELDS]) -> Result<(), Told>
     requires { All FitsLine lines }
 {
     for i in 0..FIELDS {
-        if !print_field(rt, ROWS[i].degree, lines[i]) {
-            return false;
-        }
+        print_field(program, ROWS[i].degree, lines[i])?;
     }
-    true
+    Ok(())
 }
 
-// Prints how many outcomes were 1, 11 and 12; false where that fails, which is told.
-fn print_apart(rt: &HostRuntime, unknown: u64, mark: u64, short: u64) -> bool {
-    let mut out = [0u8; APART_LINE];
-    let n = job_sheet::text::apart_line(unknown, mark, short, &mut out);
-    job_streams::print(rt, b"sheet", &out[..n])
+// Prints how many outcomes were 1, 11 and 12. What fails is told.
+fn print_apart(program: &Program, sheet: Sheet) -> Result<(), Told> {
+    let text = job_sheet::text::apart_line(sheet.unknown, sheet.mark, sheet.short);
+    program.print(text.as_str().as_bytes())
 }
 
-// Prints the lines of a sheet; false where one could not be printed.
-fn print_lines(rt: &HostRuntime, sheet: Sheet) -> bool
+// Prints the lines of a sheet. What fails is told.
+fn print_lines(program: &Program, sheet: Sheet) -> Result<(), Told>
     requires { All FitsLine sheet.lines }
 {
-    let lines = sheet.lines;
-    if !job_streams::print(
-        rt,
-        b"sheet",
-        b"field accepted 2 3 4 5 6 roots steps record its-steps its-limit\n",
-    ) {
-        return false;
-    }
-    if !print_fields(rt, lines) {
-        return false;
-    }
-    print_apart(rt, sheet.unknown, sheet.mark, sheet.short)
-}
-
-// Did reading stop, under 11 or 12?
-fn has_stopped(sheet: Sheet) -> bool {
-    if sheet.mark > 0 {
-        return true;
-    }
-    sheet.short > 0
-}
-
-// Says where reading stopped.
-fn tell_stop(rt: &HostRuntime, file: &[u8]) {
-    match job_records::read_through(file) {
-        Ending::Whole => {}
-        Ending::Halted(stop) => {
-            let refusal = stop.refusal;
-            job_streams::tell_stop(
-                rt,
-                b"sheet",
-                stop.record_number,
-                stop.at,
-                refusals::number(refusal),
-            );
-        }
-    }
+    program.print(b"field accepted 2 3 4 5 6 roots steps record its-steps its-limit\n")?;
+    print_fields(program, sheet.lines)?;
+    print_apart(program, sheet)
 }
 
 // Prints the sheet of what was read, and says what was not read.
-fn print_sheet(rt: &HostRuntime, file: &[u8])
+fn print_sheet(program: &Program, file: &[u8]) -> Result<(), Told>
     requires { length file.now ≤ 65536 }
 {
     let sheet = job_sheet::sheet_of(file);
-    if !print_lines(rt, sheet) {
-        return;
+    print_lines(program, sheet)?;
+    if sheet.mark > 0 || sheet.short > 0 {
+        if let Err(stop) = job_records::read_through(file) {
+            program.tell_stop(stop);
+        }
     }
-    if has_stopped(sheet) {
-        tell_stop(rt, file);
-    }
-    job_streams::tell_behind(rt, b"sheet", file.len());
+    program.tell_behind(file.len());
+    Ok(())
 }
 
 // Reads standard input into the room and prints its sheet.
-fn run(rt: &HostRuntime, room: &mut [u8]) {
-    let came = job_streams::read_all(rt, b"sheet", room);
-    let n = came.bytes;
-    if came.failed {
-        return;
-    }
-    print_sheet(rt, &room[..n]);
+fn run(program: &Program, room: &mut [u8]) -> Result<(), Told> {
+    let n = program.read_all(room)?;
+    print_sheet(program, &room[..n])
 }
 
 fn main(rt: HostRuntime) {
-    if !job_streams::starts(
-        &rt,
-        b"sheet",
+    let program = Program {
+        rt: &rt,
+        name: b"sheet",
+    };
+    if !program.starts(
         b"sheet <jobs.lr",
         b"Prints for each field how many records of a job file are accepted and refused, and their roots and steps.\n",
     ) {
         return;
     }
     let mut buffer = job_streams::large_buffer();
-    run(&rt, &mut buffer);
+    let _ = run(&program, &mut buffer);
 }

@@ -3,15 +3,15 @@
 --   residue-asks, residue-is
 --                    `residue`: what the power asks, and what is left
 --   SplitOff         k coefficients are those of the part that splits
---   split-fits, split-asks, split-some, long-out, split-room, split-degree, room-long, split-residual, split-powered,
---   front_fits, front_long, split-turnable, split-is
+--   split-asks, split-some, long-out, split-degree, room-long, split-residual, split-powered, front_fits, front_long,
+--   split-turnable, split-is
 --                    what each routine asks, and what is left
 -- Assumes nothing.
 use mathlib.Core.Path.{◌≡◌, refl, sym, ap, ap₂, ◌∙◌, subst}
 use mathlib.Core.Bool.{Bool, true, false}
 use mathlib.Core.Option.{none, some}
 use mathlib.Core.List.{List, [], ◌∷◌, ◌++◌, map-append}
-use Prim.Native.Nat.{ℕ, zero, suc, ◌-◌, ◌*◌, ◌^◌, ◌≤◌, ◌<◌}
+use Prim.Native.Nat.{ℕ, zero, suc, ◌-◌, ◌*◌, ◌^◌, ◌≤◌, ◌<◌, max}
 use native.Mathlib.Nat.{le_trans, mul-le-mul_left}
 use native.Mathlib.Decide.{dec_lt}
 use native.Mathlib.Omega.{arith}
@@ -41,8 +41,10 @@ use Rattle.field.specs.Field.{field_at, G, roots_at}
 use Rattle.field.proofs.Instance.{squared-size}
 use Rattle.poly.specs.Lent.{Lent}
 use Rattle.poly.specs.Monic.{monic_low, MadeMonic}
-use Rattle.poly_powers.specs.Powers.{Startable, power_rows}
-use Rattle.poly_gcd.specs.Euclid.{Turnable, GcdIs}
+use Rattle.poly_powers.specs.Powers.{power_rows}
+use Rattle.poly_powers.specs.Asking.{Startable}
+use Rattle.poly_gcd.specs.Euclid.{GcdIs}
+use Rattle.poly_gcd.specs.Asking.{Turnable}
 use Rattle.poly.proofs.Logs.{field_of, numbers_of}
 use Rattle.input.specs.Limit.{limit}
 use Rattle.table_begin.specs.SplitPart.{Residual, Residue, Powered, Beginnable}
@@ -96,16 +98,16 @@ add-z m [] h = absurd (omega arith)
 add-z m (x ∷ []) h = absurd (omega arith)
 add-z m (x ∷ y ∷ f) h = ap₂ (λ a b. a ∷ bit_xor y 1 ∷ b) (sym (xor_zero_r x)) (sym (add_none m f))
 
-module _ {m : ℕ} {ls ts p b rows : List ℕ} (g : Residual m ls ts p b rows) where
+module _ {m : ℕ} {ls ts p b rows : List ℕ} (lent : Lent m ls ts) (g : Residual m p b rows) where
   -- what the power asks
-  pub residue-asks : Startable m ls ts p (take (length p) b)
-  residue-asks = record { tables = g.tables; small = g.small; few = g.few; room = length-take-le (length p) b g.room }
+  pub residue-asks : Startable m p (take (length p) b)
+  residue-asks = record { small = g.small; few = g.few; room = length-take-le (length p) b g.room }
 
   -- what is left
   pub residue-is : {w : List ℕ} → w ≡ frobenius_mod (G m) p m (rem (G m) p (0 ∷ 1 ∷ []))
       → Residue m p (set (w ++ drop (length p) b) 1 (bit_xor (get_or (w ++ drop (length p) b) 1 0) 1))
   residue-is {w} d =
-      let N : OnNumbers (G m) (2 ^ m) = numbers_of g.tables in
+      let N : OnNumbers (G m) (2 ^ m) = numbers_of lent in
       let z : List ℕ = 0 ∷ 1 ∷ [] in
       let n : ℕ = length b - length p in
       let zs : Below (2 ^ m) z = (N.zero-below, (N.one_below, tt)) in
@@ -129,7 +131,7 @@ pub record SplitOff (m : ℕ) (cs : List ℕ) (k : ℕ) (out : List ℕ) : Type 
   pub fewer : k < length cs
   pub low : take k out ≡ monic_roots (G m) (roots_at m cs)
 
-module _ {m : ℕ} {cs ls ts table rows : List ℕ} (g : Beginnable m cs ls ts table rows) {out : List ℕ} (e : out ≡ copied cs (replicate (suc limit) 0)) where
+module _ {m : ℕ} {cs ls ts table rows : List ℕ} (lent : Lent m ls ts) (g : Beginnable m cs table rows) {out : List ℕ} (e : out ≡ copied cs (replicate (suc limit) 0)) where
   -- there is room for all coefficients
   room : length cs ≤ suc limit
   room = omega (arith, g.polynomial.few)
@@ -142,13 +144,9 @@ module _ {m : ℕ} {cs ls ts table rows : List ℕ} (g : Beginnable m cs ls ts t
   copy-long : length out ≡ suc limit
   copy-long = ap length e ∙ length-copied cs (replicate (suc limit) 0) room
 
-  -- and within the room
-  pub split-fits : length cs ≤ length out
-  split-fits = omega (arith, copy-long, room)
-
   -- what making monic asks
-  pub split-asks : Lent m ls ts × Below (2 ^ m) (take (length cs) out)
-  split-asks = (g.tables, subst (Below (2 ^ m)) (sym copy-front) g.polynomial.small)
+  pub split-asks : Below (2 ^ m) (take (length cs) out)
+  split-asks = subst (Below (2 ^ m)) (sym copy-front) g.polynomial.small
 
   module _ {j : ℕ} {y : List ℕ} (d : MadeMonic m (take (length cs) out) j y) where
     -- they were made monic
@@ -173,7 +171,7 @@ module _ {m : ℕ} {cs ls ts table rows : List ℕ} (g : Beginnable m cs ls ts t
         go (no n) =
             let none_left : norm (G m) (length cs) cs ≡ none = normed ∙ ap (λ i. monic_low i y) (let z : j ≡ 0 = omega arith in z) in
             let zeros : all_zero cs ≡ true =
-            (all_below-exactly 1 cs).1 (below-from 1 cs (λ i l. let z : get_or cs i 0 ≡ 0 = norm-none (numbers_of g.tables) cs g.polynomial.small none_left i in omega arith)) in
+            (all_below-exactly 1 cs).1 (below-from 1 cs (λ i l. let z : get_or cs i 0 ≡ 0 = norm-none (numbers_of lent) cs g.polynomial.small none_left i in omega arith)) in
             absurd (let b : ◌≡◌ {A = Bool} true false = sym zeros ∙ g.polynomial.nonzero in let o : ◌≡◌ {A = ℕ} 0 1 = cc in let x : ⊥ = omega arith in x)
 
     -- the low coefficients of the monic polynomial, where they stand
@@ -198,32 +196,35 @@ module _ {m : ℕ} {cs ls ts table rows : List ℕ} (g : Beginnable m cs ls ts t
 
     -- and they are elements
     small-p : Below (2 ^ m) p
-    small-p = norm-below (numbers_of g.tables) (length cs) cs g.polynomial.small lead
-
-    -- they stand within the slice
-    pub split-room : j - 1 ≤ length (y ++ drop (length cs) out)
-    split-room = omega (arith, long-out, within, room)
+    small-p = norm-below (numbers_of lent) (length cs) cs g.polynomial.small lead
 
     -- its degree is at most the limit
     pub split-degree : j - 1 ≤ limit
     split-degree = omega (arith, within, split-some, g.polynomial.few)
 
     -- what the power asks, in room for n coefficients
-    module _ {n : ℕ} (two : 2 ≤ n) (least : j - 1 ≤ n) (most : n ≤ limit) where
+    module _ {n : ℕ} (is : n ≡ max (j - 1) 2) where
+      -- for those of z too
+      two : 2 ≤ n
+      two = omega (arith, is)
+
+      -- within the limit
+      most : n ≤ limit
+      most = omega (arith, is, split-degree)
+
       -- it is there
       pub room-long : length (take n (replicate {A = ℕ} limit 0)) ≡ n
       room-long = length-take-le n (replicate limit 0) most
 
-      pub split-residual : Residual m ls ts (take (j - 1) (y ++ drop (length cs) out)) (take n (replicate limit 0)) rows
+      pub split-residual : Residual m (take (j - 1) (y ++ drop (length cs) out)) (take n (replicate limit 0)) rows
       unfolding p
       split-residual =
           let few : length p ≤ limit = omega (arith, long-p, split-degree) in
           record {
-            tables = g.tables;
             small = small-p;
             few = few;
-            room = omega (arith, long-p, room-long);
-            two = omega (arith, room-long);
+            room = omega (arith, is, long-p, room-long);
+            two = omega (arith, two, room-long);
             zeros = take-zeros n limit most ∙ ap (λ k. replicate k 0) (sym room-long);
             room-rows = le_trans (mul-le-mul_left m few) g.room-rows;
           }
@@ -240,14 +241,13 @@ module _ {m : ℕ} {cs ls ts table rows : List ℕ} (g : Beginnable m cs ls ts t
         front_long = ap length front ∙ h ∙ room-long
 
         -- what the greatest common divisor asks
-        pub split-turnable : Turnable m ls ts (y ++ drop (length cs) out) (j - 1) (take n (b ++ z)) n
+        pub split-turnable : Turnable m (y ++ drop (length cs) out) (j - 1) (take n (b ++ z)) n
         unfolding p
         split-turnable = record {
-          tables = g.tables;
           few = split-degree;
           room-a = omega (arith, long-out, within, split-some, room);
           room-b = omega (arith, front_long);
-          within = omega (arith, front_long);
+          within = omega (arith, is, front_long);
           small-a = small-p;
           small_b = take_below (2 ^ m) n (take n (b ++ z)) (subst (Below (2 ^ m)) (sym front) r.small);
         }
@@ -256,12 +256,12 @@ module _ {m : ℕ} {cs ls ts table rows : List ℕ} (g : Beginnable m cs ls ts t
         pub split-is : {k : ℕ} {a : List ℕ} → length a ≡ length (y ++ drop (length cs) out) → GcdIs m (take (j - 1) (y ++ drop (length cs) out)) (take n (take n (b ++ z))) k a → SplitOff m cs k a
         unfolding p
         split-is {k} {a} l i =
-            let N : OnNumbers (G m) (2 ^ m) = numbers_of g.tables in
+            let N : OnNumbers (G m) (2 ^ m) = numbers_of lent in
             let roots : List ℕ = roots_at m cs in
             let fewer : k < length cs = omega (arith, i.count, long-p, within, split-some) in
             let low : take k a ≡ monic_roots (G m) roots =
             i.low ∙ ap (gcd (G m) p) (take_all n (take n (b ++ z)) (omega (arith, front_long)) ∙ front) ∙ r.same
-            ∙ split-part N m refl N.one_below (squared-size (field_at m) (field_of g.tables)) cs g.polynomial.small lead in
+            ∙ split-part N m refl N.one_below (squared-size (field_at m) (field_of lent)) cs g.polynomial.small lead in
             record {
               count = sym (length-take-le k a (omega (arith, room, long-out))) ∙ ap length low ∙ length-monic_roots (G m) roots;
               fewer = fewer;

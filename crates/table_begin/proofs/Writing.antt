@@ -36,7 +36,7 @@ pub split-long : {m k : ℕ} {cs out : List ℕ} → SplitOff m cs k out → len
 split-long {m} {k} {cs} s = ap length s.low ∙ length-monic_roots (G m) (roots_at m cs) ∙ sym s.count
 
 -- and fits in
-pub split-few : {m k : ℕ} {cs ls ts table out rows : List ℕ} → Beginnable m cs ls ts table rows → SplitOff m cs k out → length (take k out) ≤ limit
+pub split-few : {m k : ℕ} {cs table out rows : List ℕ} → Beginnable m cs table rows → SplitOff m cs k out → length (take k out) ≤ limit
 split-few g s = omega (arith, split-long s, s.fewer, g.polynomial.few)
 
 -- what is left in the table

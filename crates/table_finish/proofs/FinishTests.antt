@@ -14,7 +14,6 @@ use Rattle.refusals.specs.Order.Passed.{none}
 use Rattle.refusals.specs.Admitting.{Admits}
 use Rattle.refusals.specs.declared.Refusal.{Refusal}
 use Rattle.refusals.specs.declared.Refusal.TheVariants.{Room, NotDone}
-use Rattle.refusals.specs.declared.Admission.TheVariants.{In, Out}
 use Rattle.refusals.proofs.Order.{holds, fails, passes, failed, others}
 use Rattle.refusals.proofs.Order as order
 use Rattle.input.specs.Limit.{limit}
@@ -25,21 +24,18 @@ use Rattle.table_rules.proofs.Sizes.{size-exactly, sound-size}
 use Rattle.table_slots.specs.Slots.{cutoff_of, Heads}
 use Rattle.table_slots.specs.Walk.{sought_in}
 use Rattle.table_slots.specs.declared.Head.{Head}
-use Rattle.table_slots.specs.declared.Spot.{Spot}
-use Rattle.table_slots.specs.declared.Spot.TheVariants.{At, Nowhere}
+use Rattle.std.specs.Prelude.{Option, Some, None, Ok, Err}
 use Rattle.table_slots.proofs.Finding.{seek-done, seek-at}
 use Rattle.table_slots.specs.Verdicts.{Fit, Checks}
 use Rattle.table_slots.specs.Verdicts.Checks.{short, unsound}
-use Rattle.table_slots.specs.declared.check.Checked.TheVariants.{Unfit}
-use Rattle.table_finish.specs.Calls.{finish_tests, finish_outcome, finish_memory, told_finished}
+use Rattle.table_finish.specs.Calls.{finish_tests, finish_outcome, finish_memory}
 use Rattle.table_finish.specs.Finishing.{Lendable, ListedIn}
-use Rattle.table_finish.specs.declared.Finished.TheVariants.{Listed}
 
 -- ---- the returns of `admit`
 
 module _ (l list : List ℕ) where
   -- refusal 7, for the list
-  pub admit-room : length list < limit → Admits (finish_tests l list) (Out Room)
+  pub admit-room : length list < limit → Admits (finish_tests l list) (Err Room)
   admit-room h = holds (go (not (is_table_size (length l))) (lt-ltb (length list) limit h))
     where
       go : (a : Bool) {b : Bool} → b ≡ true → (a || b) ≡ true
@@ -60,7 +56,7 @@ module _ (l list : List ℕ) where
         go false = refl
 
     -- the refusal that the check found
-    pub admit-unfit : {k : Refusal} → Checks l (Unfit k) → Admits (finish_tests l list) (Out k)
+    pub admit-unfit : {k : Refusal} → Checks l (Err k) → Admits (finish_tests l list) (Err k)
     admit-unfit (short n) = holds (first (ap not n))
     admit-unfit (unsound e u) = fails (first (ap not e)) (holds (ap not u))
 
@@ -69,18 +65,18 @@ module _ (l list : List ℕ) where
       long-enough : not (is_table_size (length l)) ≡ false
       long-enough = ap not ((size-exactly (length l)).1 (sound-size l g.sound))
 
-      module _ {h : Head} (k : Heads l h) {f : Spot} (e : f ≡ sought_in h.cutoff l) where
+      module _ {h : Head} (k : Heads l h) {f : Option ℕ} (e : f ≡ sought_in h.cutoff l) where
         -- at the cutoff of the slots
         sought : f ≡ sought_in (cutoff_of l) l
         sought = e ∙ ap (λ c. sought_in c l) k.cutoff
 
         -- refusal 10: there is a factor above the cutoff
-        pub admit-more : {o : ℕ} → f ≡ At o → Admits (finish_tests l list) (Out NotDone)
+        pub admit-more : {o : ℕ} → f ≡ Some o → Admits (finish_tests l list) (Err NotDone)
         admit-more a =
             fails (first long-enough) (fails (ap not g.sound) (holds (ap not (seek-at l g.sound sought a).more)))
 
         -- no refusal
-        pub admit-done : f ≡ Nowhere → Admits (finish_tests l list) In
+        pub admit-done : f ≡ None → Admits (finish_tests l list) (Ok tt)
         admit-done n = passes (first long-enough) (passes (ap not g.sound) (passes (ap not (seek-done l g.sound sought n)) none))
 
 -- ---- from there to what finish promises
@@ -108,5 +104,5 @@ module _ (l list : List ℕ) where
 
   -- the list is made
   pub listed-is : {k : ℕ} {list' : List ℕ} → Passed (finish_tests l list) → ListedIn l list k list'
-      → (told_finished (Listed k) ≡ finish_outcome l list) × (list' ≡ finish_memory l list)
+      → ((0, k ∷ []) ≡ finish_outcome l list) × (list' ≡ finish_memory l list)
   listed-is p h = (ap (λ n. (0, n ∷ [])) h.count ∙ sym (order.accepted _ p), h.slots ∙ sym (order.written _ _ p))

@@ -14,7 +14,7 @@ use mathlib.Core.Logic.{◌↔◌, ◌⊎◌, inl, inr, ⊎_elim}
 use mathlib.Core.Bool.{Bool, true, false, not, ◌||◌, and-eq-true_iff}
 use mathlib.Core.List.Memᴰ
 use mathlib.Core.List.{List, [], ◌∷◌, ◌++◌, append_assoc, Memᴰ}
-use Prim.Native.Nat.{ℕ, ◌+◌, ◌-◌, ◌^◌, ◌≤◌, ◌<◌}
+use Prim.Native.Nat.{ℕ, ◌+◌, ◌^◌, ◌≤◌, ◌<◌}
 use native.Mathlib.Omega.{arith}
 use borrow.Author.Tests.{ltb-false}
 use lib.Dec.{T}
@@ -27,7 +27,6 @@ use Rattle.algebra.proofs.RootList.{roots_of-member}
 use Rattle.field.specs.Rows.{known}
 use Rattle.slices.specs.Ordered.{Merged}
 use Rattle.slices.proofs.Ordered.{merged-none, merged-append, merged-count, merged-kept}
-use Rattle.poly.specs.Lent.{Lent}
 use Rattle.poly_small.specs.Roots.{RootsOut}
 use Rattle.input.specs.Cutoff.{highest_cutoff}
 use Rattle.input.specs.Limit.{limit}
@@ -44,11 +43,11 @@ use Rattle.field.specs.Tables.{Halves}
 use Rattle.table_rules.specs.Sizes.{limit_by}
 use Rattle.table_slots.specs.Slots.{width_of, cutoff_of, count_of, degree_at, factor_at, next_at, StandsWhole, Heads}
 use Rattle.table_slots.specs.declared.Head.{Head}
-use Rattle.table_finish.specs.Finishing.{Mergeable, RootsIn, Lendable, LendableAt, Listable, ListedIn}
+use Rattle.table_finish.specs.Finishing.{Mergeable, RootsIn, Lendable, Listable, ListedIn}
 
 -- ---- one factor
 
-module _ {m : ℕ} {ls ts hs p roots : List ℕ} {n : ℕ} (g : Mergeable m ls ts hs p roots n) where
+module _ {m : ℕ} {hs p roots : List ℕ} {n : ℕ} (g : Mergeable m hs p roots n) where
   module _ {k : ℕ} {out : List ℕ} (e : length out ≡ 3) (o : RootsOut m p k out) where
     -- as many as it says
     pub roots-long : length (take k out) ≡ k
@@ -111,13 +110,13 @@ either false b = (λ t. inr t, λ o. ⊎_elim (λ t. absurd t) (λ t. t) o)
 abbrev pub Zero : ℕ → List Factor → ℕ → Type 0
 Zero m fs x = (x < 2 ^ m) × T (some_zero (G m) fs x)
 
--- the numbers of `seen` have been merged, and what lies ahead has the others
-pub record Finishing (m c : ℕ) (fs : List Factor) (l list₀ list : List ℕ) (left at k : ℕ) : Type 0 where
+-- behind i of n factors the numbers of `seen` have been merged, and what lies ahead has the others
+pub record Finishing (m c : ℕ) (fs : List Factor) (l list₀ list : List ℕ) (n i at k : ℕ) : Type 0 where
   pub ahead : List Factor
   pub pre : List ℕ
   pub after : List ℕ
   pub seen : List ℕ
-  pub count : left ≡ length ahead
+  pub count : i + length ahead ≡ n
   pub slots : l ≡ pre ++ (blocks ahead ++ after)
   pub place : at ≡ length pre
   pub long : length list ≡ length list₀
@@ -158,18 +157,14 @@ module _ {l list : List ℕ} (g : Lendable l list) where
   head-there = omega (arith, table-long)
 
   -- the head names it
-  pub named : {h : Head} → Heads l h → LendableAt h.m l list
-  named k = record { given = g; width = k.width; field = ap known k.width ∙ table-known }
+  pub named : {h : Head} → Heads l h → known h.m ≡ true
+  named k = ap known k.width ∙ table-known
 
--- the tables of a degree are those of the table's field
-pub listable : {m : ℕ} {ls ts hs l list : List ℕ} → LendableAt m l list × Lent m ls ts × Halves (field_at m) hs → Listable ls ts hs l list
-listable {ls = ls} {ts} {hs} a = record {
-  given = a.0.given;
-  tables = subst (λ (w : ℕ). Lent w ls ts) a.0.width a.1;
-  halves = subst (λ (w : ℕ). Halves (field_at w) hs) a.0.width a.2;
-}
+  -- and with its tables it can be finished
+  pub listable : {h : Head} → Heads l h → {m : ℕ} → m ≡ h.m → {hs : List ℕ} → Halves (field_at h.m) hs → Listable m hs l list
+  listable k e {hs} t = record { given = g; width = e ∙ k.width; halves = subst (λ (w : ℕ). Halves (field_at w) hs) (sym e) t }
 
-module _ {ls ts hs l list : List ℕ} (g : Listable ls ts hs l list) where
+module _ {m : ℕ} {hs l list : List ℕ} (g : Listable m hs l list) where
   -- the table that the slots hold
   abbrev t : Table
   t = decode by_factor l
@@ -199,13 +194,13 @@ module _ {ls ts hs l list : List ℕ} (g : Listable ls ts hs l list) where
   all-low = g.given.done
 
   -- at the start all lies ahead
-  pub finish-from : {n : ℕ} → n ≡ count_of l → Finishing (width_of l) (cutoff_of l) t.factors l list list n head_slots 0
-  finish-from e = record {
+  pub finish-from : {n : ℕ} → n ≡ count_of l → Finishing (width_of l) (cutoff_of l) t.factors l list list n 0 head_slots 0
+  finish-from {n} e = record {
     ahead = t.factors;
     pre = t.width ∷ t.cutoff ∷ length t.factors ∷ t.taken ∷ [];
     after = replicate (spare (slots_for (limit_by l)) t) 0;
     seen = [];
-    count = e ∙ ap count_of apart;
+    count = let c : n ≡ length t.factors = e ∙ ap count_of apart in omega (arith, c);
     slots = apart;
     place = refl;
     long = refl;
@@ -219,12 +214,12 @@ module _ {ls ts hs l list : List ℕ} (g : Listable ls ts hs l list) where
 
   -- ---- a turn
 
-  module _ {list' : List ℕ} {left at k : ℕ} (f : Finishing (width_of l) (cutoff_of l) t.factors l list list' left at k) where
+  module _ {list' : List ℕ} {n i at k : ℕ} (f : Finishing (width_of l) (cutoff_of l) t.factors l list list' n i at k) where
     -- no more are listed than were merged
     k-few : k ≤ length f.seen
     k-few = omega (arith, merged-count f.merged (omega arith))
 
-    module _ (more : 0 < left) where
+    module _ (more : i < n) where
       -- the factor in front
       pub record FactorHere : Type 0 where
         pub first : Factor
@@ -288,26 +283,25 @@ module _ {ls ts hs l list : List ℕ} (g : Listable ls ts hs l list) where
       sum-split = ap degree_sum factor-here.split
 
       -- what a turn asks
-      pub turn-asks : {m : ℕ} {q : List ℕ} → m ≡ width_of l → q ≡ factor_at l at → Mergeable m ls ts hs q list' k
-      turn-asks i o =
+      pub turn-asks : {q : List ℕ} → q ≡ factor_at l at → Mergeable m hs q list' k
+      turn-asks o =
           let d = degree-low in
           let s = sum-split in
           let e = o ∙ front-is in
           record {
-            tables = rw i g.tables;
-            halves = rw i g.halves;
-            small = rw (i, e) all-ahead.0.coefficients;
+            halves = g.halves;
+            small = rw (g.width, e) all-ahead.0.coefficients;
             low = omega (arith, ap length e);
             room = omega (arith, ap length e, k-few, f.few, f.room, f.long);
           }
 
       -- a turn: its roots are merged
-      pub finish-on : {i : ℕ} {q : List ℕ} {j next : ℕ} {list'' : List ℕ} → i ≡ width_of l → q ≡ factor_at l at → RootsIn i q k list' j list''
-          → length list'' ≡ length list' → next ≡ next_at l at → Finishing (width_of l) (cutoff_of l) t.factors l list list'' (left - 1) next j
-      finish-on {i} {q} {j} {next} {list''} w o r₀ h n =
+      pub finish-on : {q : List ℕ} {j next : ℕ} {list'' : List ℕ} → q ≡ factor_at l at → RootsIn m q k list' j list''
+          → length list'' ≡ length list' → next ≡ next_at l at → Finishing (width_of l) (cutoff_of l) t.factors l list list'' n (i + 1) next j
+      finish-on {q} {j} {next} {list''} o r₀ h x =
           let m : ℕ = width_of l in
           let e = o ∙ front-is in
-          let r : RootsIn m q k list' j list'' = subst (λ (x : ℕ). RootsIn x q k list' j list'') w r₀ in
+          let r : RootsIn m q k list' j list'' = subst (λ (x : ℕ). RootsIn x q k list' j list'') g.width r₀ in
           let s = sum-split in
           let old = f.exact in
           record {
@@ -336,7 +330,7 @@ module _ {ls ts hs l list : List ℕ} (g : Listable ls ts hs l list) where
           }
 
     -- at the end nothing lies ahead
-    pub finish-end : left ≤ 0 → ListedIn l list k list'
+    pub finish-end : n ≤ i → ListedIn l list k list'
     unfolding decode slots_roots
     finish-end h =
         let m : ℕ = width_of l in

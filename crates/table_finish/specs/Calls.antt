@@ -2,19 +2,17 @@
 --   finish_tests     its tests in their order, each behind its number
 --   finish_outcome   its outcome: the number of roots
 --   finish_memory    the list afterwards: the roots fill its front
---   told_finished    the number and the value of its answer
 --   Finishes        THE CONTRACT: the answers and lists that finish admits
 -- Assumes nothing.
-use Rattle.std.specs.Prelude.{Bool, not, ◌||◌, List, [], ◌∷◌, ℕ, ltb, length}
+use Rattle.std.specs.Prelude.{Bool, not, ◌||◌, Result, List, [], ◌∷◌, ℕ, ltb, length}
 use Rattle.refusals.specs.Order.{outcome, memory, Answers}
-use Rattle.refusals.specs.Numbers.{number_of}
+use Rattle.refusals.specs.Admitting.{told}
+use Rattle.refusals.specs.declared.Refusal.{Refusal}
 use Rattle.slices.specs.Lists.{copied}
 use Rattle.input.specs.Limit.{limit}
 use Rattle.table_rules.specs.Layout.{by_factor}
 use Rattle.table_rules.specs.Sizes.{is_table_size, is_sound}
 use Rattle.table_rules.specs.Splitting.{slots_done, slots_roots}
-use Rattle.table_finish.specs.declared.Finished.{Finished}
-use Rattle.table_finish.specs.declared.Finished.TheVariants.{Listed, NotFinished}
 
 abbrev pub finish_tests : List ℕ → List ℕ → List (ℕ × Bool)
 finish_tests table list =
@@ -27,12 +25,8 @@ finish_outcome table list = outcome (finish_tests table list) (length (slots_roo
 abbrev pub finish_memory : List ℕ → List ℕ → List ℕ
 finish_memory table list = memory (finish_tests table list) (copied (slots_roots by_factor table) list) list
 
-abbrev pub told_finished : Finished → ℕ × List ℕ
-told_finished (Listed s) = (0, s ∷ [])
-told_finished (NotFinished k) = (number_of k, [])
-
 -- the contract: an answer, and the lent list afterwards
-abbrev pub Finishes : List ℕ → List ℕ → Finished → List ℕ → Type 0
+abbrev pub Finishes : List ℕ → List ℕ → Result ℕ Refusal → List ℕ → Type 0
 Finishes table list r after =
     Answers (finish_tests table list) (length (slots_roots by_factor table) ∷ [])
-    (copied (slots_roots by_factor table) list) list (told_finished r) after
+    (copied (slots_roots by_factor table) list) list (told (λ s. s ∷ []) r) after

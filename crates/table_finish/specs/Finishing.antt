@@ -2,8 +2,7 @@
 --   Mergeable   a factor of degree at most the highest cutoff can be solved, and its roots have room behind n others
 --   RootsIn     the roots of monic p were merged into the first n elements of a list
 --   Lendable    a sound table that is done, and a list with room for its roots
---   LendableAt  the same, and the table's field is that of the known degree m
---   Listable    the same with the tables of its field lent
+--   Listable    the same with the quadratic table of its field
 --   ListedIn    the list that finish makes stands in front, and k elements are in it
 -- Assumes nothing.
 use Rattle.std.specs.Prelude.{◌≡◌, ◌↔◌, true, ℕ, ◌+◌, ◌^◌, ◌≤◌, length}
@@ -12,10 +11,8 @@ use Rattle.algebra.specs.Polynomial.{Below}
 use Rattle.algebra.specs.Routines.{monic}
 use Rattle.slices.specs.Lists.{copied}
 use Rattle.slices.specs.Ordered.{Merged}
-use Rattle.field.specs.Rows.{known}
 use Rattle.field.specs.Field.{field_at, G, roots_at}
 use Rattle.field.specs.Tables.{Halves}
-use Rattle.poly.specs.Lent.{Lent}
 use Rattle.input.specs.Cutoff.{highest_cutoff}
 use Rattle.input.specs.Limit.{limit}
 use Rattle.table_rules.specs.Layout.{by_factor}
@@ -24,8 +21,7 @@ use Rattle.table_rules.specs.Sizes.{is_sound}
 use Rattle.table_slots.specs.Slots.{width_of}
 
 -- room for as many roots as its degree
-pub record Mergeable (m : ℕ) (ls ts hs p roots : List ℕ) (n : ℕ) : Type 0 where
-  pub tables : Lent m ls ts
+pub record Mergeable (m : ℕ) (hs p roots : List ℕ) (n : ℕ) : Type 0 where
   pub halves : Halves (field_at m) hs
   pub small : Below (2 ^ m) p
   pub low : length p ≤ highest_cutoff
@@ -44,17 +40,11 @@ pub record Lendable (table roots : List ℕ) : Type 0 where
   pub done : slots_done by_factor table ≡ true
   pub room : limit ≤ length roots
 
--- its field is that of degree m
-pub record LendableAt (m : ℕ) (table roots : List ℕ) : Type 0 where
+-- of degree m
+pub record Listable (m : ℕ) (hs table roots : List ℕ) : Type 0 where
   pub given : Lendable table roots
   pub width : m ≡ width_of table
-  pub field : known m ≡ true
-
--- the tables of its field
-pub record Listable (ls ts hs table roots : List ℕ) : Type 0 where
-  pub given : Lendable table roots
-  pub tables : Lent (width_of table) ls ts
-  pub halves : Halves (field_at (width_of table)) hs
+  pub halves : Halves (field_at m) hs
 
 -- the count, and every slot of the list
 pub record ListedIn (table roots : List ℕ) (k : ℕ) (roots' : List ℕ) : Type 0 where

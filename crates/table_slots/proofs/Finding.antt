@@ -24,15 +24,14 @@ use Rattle.table_rules.proofs.Soundness.{Valid, sound-valid, sound-encoded}
 use Rattle.table_rules.proofs.Places.{level-at, encode-around}
 use Rattle.table_slots.specs.Slots.{cutoff_of, level_at}
 use Rattle.table_slots.specs.Walk.{seek, sought_in}
-use Rattle.table_slots.specs.declared.Spot.{Spot}
-use Rattle.table_slots.specs.declared.Spot.TheVariants.{At, Nowhere}
+use Rattle.std.specs.Prelude.{Option, Some, None}
 
 -- ---- the place
 
 -- a factor above c is the place, and another is passed
 module _ (c : ℕ) (s : List ℕ) (n at : ℕ) (h : at + 1 < length s) {d : ℕ} (e : get_or s (at + 1) 0 ≡ d) where
   -- the place is here
-  seek-here : ltb c d ≡ true → seek c s (suc n) at ≡ At at
+  seek-here : ltb c d ≡ true → seek c s (suc n) at ≡ Some at
   unfolding seek
   seek-here t = rw (lt-leb (length s) (at + 1) h, e, t)
 
@@ -60,7 +59,7 @@ module _ (e : Factor) (fs : List Factor) (pre z : List ℕ) where
 
 -- the place is behind the slots of the factors before
 seek-of : (c : ℕ) (fs : List Factor) (pre z : List ℕ)
-    → seek c (pre ++ (blocks fs ++ z)) (length fs) (length pre) ≡ cond (done c fs) Nowhere (At (length pre + length (blocks (take (first_above c fs) fs))))
+    → seek c (pre ++ (blocks fs ++ z)) (length fs) (length pre) ≡ cond (done c fs) None (Some (length pre + length (blocks (take (first_above c fs) fs))))
 unfolding seek done first_above blocks
 seek-of c [] pre z = refl
 seek-of c (e ∷ fs) pre z = go (above c e) refl (seek-of c fs (pre ++ slots_of e) z)
@@ -76,14 +75,14 @@ seek-of c (e ∷ fs) pre z = go (above c e) refl (seek-of c fs (pre ++ slots_of 
 
     go : (b : Bool) → above c e ≡ b
         → seek c ((pre ++ slots_of e) ++ (blocks fs ++ z)) (length fs) (length (pre ++ slots_of e))
-        ≡ cond (done c fs) Nowhere (At (length (pre ++ slots_of e) + length (blocks before)))
-        → seek c s (suc (length fs)) (length pre) ≡ cond (not b && done c fs) Nowhere (At (length pre + length (blocks (take (cond b 0 (suc (first_above c fs))) (e ∷ fs)))))
-    go true t ih = seek-here c s (length fs) (length pre) (long e fs pre z) (degree e fs pre z) t ∙ ap At (omega arith)
+        ≡ cond (done c fs) None (Some (length (pre ++ slots_of e) + length (blocks before)))
+        → seek c s (suc (length fs)) (length pre) ≡ cond (not b && done c fs) None (Some (length pre + length (blocks (take (cond b 0 (suc (first_above c fs))) (e ∷ fs)))))
+    go true t ih = seek-here c s (length fs) (length pre) (long e fs pre z) (degree e fs pre z) t ∙ ap Some (omega arith)
     go false t ih =
         let l : length (pre ++ slots_of e) ≡ at = length-append pre (slots_of e) ∙ omega arith in
         let k : length (pre ++ slots_of e) + length (blocks before) ≡ length pre + length (blocks (e ∷ before)) = omega (arith, length-append e.1 (blocks before)) in
         seek-past c s (length fs) (length pre) (long e fs pre z) (degree e fs pre z) t
-        ∙ ap₂ (λ u j. seek c u (length fs) j) (again e fs pre z) (sym l) ∙ ih ∙ ap (λ j. cond (done c fs) Nowhere (At j)) k
+        ∙ ap₂ (λ u j. seek c u (length fs) j) (again e fs pre z) (sym l) ∙ ih ∙ ap (λ j. cond (done c fs) None (Some j)) k
 
 -- ---- a sound table
 
@@ -100,24 +99,24 @@ module _ (l : List ℕ) (s : is_sound l ≡ true) where
   encoded : encode by_factor (slots_for (limit_by l)) t ≡ l
   encoded = sound-encoded by_factor-lawful known (limit_by l) l s
 
-  module _ {f : Spot} (e : f ≡ sought_in (cutoff_of l) l) where
+  module _ {f : Option ℕ} (e : f ≡ sought_in (cutoff_of l) l) where
     -- what is answered
-    sought : f ≡ cond (is_done t) Nowhere (At (place t))
+    sought : f ≡ cond (is_done t) None (Some (place t))
     unfolding encode
     sought =
         let j : length (t.width ∷ t.cutoff ∷ length t.factors ∷ t.taken ∷ []) + length (blocks (take (first_above t.cutoff t.factors) t.factors)) ≡ place t = omega arith in
         e ∙ ap (λ u. sought_in (cutoff_of u) u) (sym encoded)
         ∙ seek-of t.cutoff t.factors (t.width ∷ t.cutoff ∷ length t.factors ∷ t.taken ∷ []) (replicate (spare (slots_for (limit_by l)) t) 0)
-        ∙ ap (λ k. cond (is_done t) Nowhere (At k)) j
+        ∙ ap (λ k. cond (is_done t) None (Some k)) j
 
     -- nothing is found where it is done
-    pub seek-done : f ≡ Nowhere → slots_done by_factor l ≡ true
+    pub seek-done : f ≡ None → slots_done by_factor l ≡ true
     unfolding slots_done
     seek-done n = go (is_done t) (sym n ∙ sought)
       where
-        go : (b : Bool) → Nowhere ≡ cond b Nowhere (At (place t)) → b ≡ true
+        go : (b : Bool) → None ≡ cond b None (Some (place t)) → b ≡ true
         go true q = refl
-        go false q = let x : ◌≡◌ {A = ℕ} 0 1 = cc in absurd (omega arith)
+        go false q = absurd cc
 
     -- the first factor above the cutoff stands there
     pub record Standing (at : ℕ) : Type 0 where
@@ -127,12 +126,12 @@ module _ (l : List ℕ) (s : is_sound l ≡ true) where
       pub within : at < length l
 
     -- what is found is its place
-    pub seek-at : {at : ℕ} → f ≡ At at → Standing at
+    pub seek-at : {at : ℕ} → f ≡ Some at → Standing at
     unfolding slots_done
     seek-at {at} a = go (is_done t) refl (sym a ∙ sought)
       where
-        go : (b : Bool) → is_done t ≡ b → At at ≡ cond b Nowhere (At (place t)) → Standing at
-        go true d q = let x : ◌≡◌ {A = ℕ} 0 1 = cc in absurd (omega arith)
+        go : (b : Bool) → is_done t ≡ b → Some at ≡ cond b None (Some (place t)) → Standing at
+        go true d q = absurd cc
         go false d q =
             let same : at ≡ place t = cc in
             let around = encode-around t valid d (slots_for (limit_by l)) in

@@ -1,12 +1,12 @@
 -- The verdict at each return of `check` and `judge`.
---   check_sound, check-unsound   a sum is answered for sound tables alone
+--   checked                      a sum is answered for sound tables alone
 --   head-there                   a sound table has a head
 --   sum-small                    the sum of degrees is at most the limit
 --   place-within                 the place of the factor to split is one of the slots
 --   fit_of                       what a check that finds nothing tells
 --   judge-over, judge-level, judge-steps, judge-split   each return of `judge_sound`
 -- Assumes nothing.
-use mathlib.Core.Path.{◌≡◌, refl, sym, ap, ◌∙◌}
+use mathlib.Core.Path.{◌≡◌, refl, ap, ◌∙◌}
 use mathlib.Core.Bool.{Bool, true, false, cond}
 use mathlib.Core.List.{List}
 use Prim.Native.Nat.{ℕ, suc, ◌*◌, ◌/◌, ◌≤◌, ◌<◌}
@@ -14,8 +14,7 @@ use native.Mathlib.Omega.{arith}
 use borrow.Author.Tests.{le-leb, lt-leb}
 use lib.ListN.{length}
 use Rattle.field.specs.Rows.{known}
-use Rattle.refusals.specs.declared.Refusal.TheVariants.{Stuck}
-use Rattle.refusals.specs.declared.Refusal.TheVariants as refusals
+use Rattle.refusals.specs.declared.Refusal.TheVariants.{Unsound, Stuck}
 use Rattle.input.specs.Limit.{limit}
 use Rattle.table_rules.specs.Layout.{degree_sum, by_factor}
 use Rattle.table_rules.specs.Table.{Table, head_slots, limit_of, decode}
@@ -29,39 +28,25 @@ use Rattle.table_rules.proofs.Keeping.{stuck-order}
 use Rattle.table_slots.specs.Slots.{cutoff_of, level_at, Heads}
 use Rattle.table_slots.specs.Walk.{sought_in, summed}
 use Rattle.table_slots.specs.declared.Head.{Head}
-use Rattle.table_slots.specs.declared.Sum.{Sum}
-use Rattle.table_slots.specs.declared.Sum.TheVariants as sums
-use Rattle.table_slots.specs.declared.Spot.{Spot}
-use Rattle.table_slots.specs.declared.Spot.TheVariants.{At, Nowhere}
+use Rattle.std.specs.Prelude.{Option, Some, None, Ok, Err, ok_or}
 use Rattle.table_slots.proofs.Finding.{Standing, seek-done, seek-at}
 use Rattle.table_slots.specs.Verdicts.{Fit, Checks, Judged}
 use Rattle.table_slots.specs.Verdicts.Checks.{unsound, fits}
 use Rattle.table_slots.specs.Verdicts.Judged.{stuck, over, split}
-use Rattle.table_slots.specs.declared.check.Checked.TheVariants.{Unfit, Sound}
-use Rattle.table_slots.specs.declared.check.Verdict.TheVariants.{Refused, Over, Split}
 
 module _ (l : List ℕ) where
   -- the table that the slots hold
   abbrev t : Table
   t = decode by_factor l
 
-  -- a sum is answered for sound tables
-  pub check_sound : {r : Sum} {s : ℕ} → r ≡ summed l → r ≡ sums.Of s → Checks l (Sound s)
+  -- a sum is answered for sound tables alone
+  pub checked : {r : Option ℕ} → is_table_size (length l) ≡ true → r ≡ summed l → Checks l (ok_or r Unsound)
   unfolding summed
-  check_sound {r} {s} e o = go (is_sound l) refl (sym o ∙ e)
+  checked h e = rw e (go (is_sound l) refl)
     where
-      go : (b : Bool) → is_sound l ≡ b → sums.Of s ≡ cond b (sums.Of (degree_sum t.factors)) sums.Unsound → Checks l (Sound s)
-      go true k q = fits {s = s} (record { sound = k; sum = cc })
-      go false k q = let x : ◌≡◌ {A = ℕ} 0 1 = cc in absurd (omega arith)
-
-  -- and none for others
-  pub check-unsound : {r : Sum} → is_table_size (length l) ≡ true → r ≡ summed l → r ≡ sums.Unsound → Checks l (Unfit refusals.Unsound)
-  unfolding summed
-  check-unsound h e u = unsound h (go (is_sound l) (sym u ∙ e))
-    where
-      go : (b : Bool) → sums.Unsound ≡ cond b (sums.Of (degree_sum t.factors)) sums.Unsound → b ≡ false
-      go true q = let x : ◌≡◌ {A = ℕ} 0 1 = cc in absurd (omega arith)
-      go false q = refl
+      go : (b : Bool) → is_sound l ≡ b → Checks l (ok_or (cond b (Some (degree_sum t.factors)) None) Unsound)
+      go true k = fits (record { sound = k; sum = refl })
+      go false k = unsound h k
 
   module _ {sum : ℕ} (g : Fit l sum) where
     -- what the slots hold is valid
@@ -76,16 +61,16 @@ module _ (l : List ℕ) where
     pub sum-small : sum ≤ limit
     sum-small = omega (arith, limit-most (length l), g.sum, valid.sum)
 
-    module _ {h : Head} (k : Heads l h) {f : Spot} (e : f ≡ sought_in h.cutoff l) where
+    module _ {h : Head} (k : Heads l h) {f : Option ℕ} (e : f ≡ sought_in h.cutoff l) where
       -- at the cutoff of the slots
       sought : f ≡ sought_in (cutoff_of l) l
       sought = e ∙ ap (λ c. sought_in c l) k.cutoff
 
       -- nothing to split
-      pub judge-over : f ≡ Nowhere → Judged l Over
+      pub judge-over : f ≡ None → Judged l (Ok None)
       judge-over n = over g.sound (seek-done l g.sound sought n)
 
-      module _ {at : ℕ} (a : f ≡ At at) where
+      module _ {at : ℕ} (a : f ≡ Some at) where
         -- the factor to split stands there
         spot : Standing l g.sound sought at
         spot = seek-at l g.sound sought a
@@ -110,14 +95,14 @@ module _ (l : List ℕ) where
         limit_is = rw (k.width, k.cutoff, g.sum) refl
 
         -- its level is m
-        pub judge-level : {i : ℕ} → i ≡ level_at l at → h.m ≤ i → Judged l (Refused Stuck)
+        pub judge-level : {i : ℕ} → i ≡ level_at l at → h.m ≤ i → Judged l (Err Stuck)
         unfolding decode
         judge-level i m =
             let j : t.width ≤ (first_factor t).0 = omega (arith, spot.level, i, k.width) in
             stuck g.sound (nine true (stuck-order valid ∙ rw (open-still, le-leb t.width (first_factor t).0 j)))
 
         -- the steps are at their limit
-        pub judge-steps : {i : ℕ} → i ≡ level_at l at → i < h.m → h.m * (sum / suc h.cutoff) ≤ h.steps → Judged l (Refused Stuck)
+        pub judge-steps : {i : ℕ} → i ≡ level_at l at → i < h.m → h.m * (sum / suc h.cutoff) ≤ h.steps → Judged l (Err Stuck)
         unfolding decode
         judge-steps i m n =
             let x : (first_factor t).0 < t.width = omega (arith, spot.level, i, k.width) in
@@ -125,7 +110,7 @@ module _ (l : List ℕ) where
             stuck g.sound (nine true (stuck-order valid ∙ rw (open-still, lt-leb t.width (first_factor t).0 x, le-leb (limit_of t) t.taken j)))
 
         -- neither: it is split
-        pub judge-split : {i : ℕ} → i ≡ level_at l at → i < h.m → h.steps < h.m * (sum / suc h.cutoff) → Judged l (Split at)
+        pub judge-split : {i : ℕ} → i ≡ level_at l at → i < h.m → h.steps < h.m * (sum / suc h.cutoff) → Judged l (Ok (Some at))
         unfolding decode
         judge-split i m n =
             let x : (first_factor t).0 < t.width = omega (arith, spot.level, i, k.width) in
@@ -138,5 +123,5 @@ module _ (l : List ℕ) where
             })
 
 -- what a check that finds nothing tells
-pub fit_of : {l : List ℕ} {s : ℕ} → Checks l (Sound s) → Fit l s
+pub fit_of : {l : List ℕ} {s : ℕ} → Checks l (Ok s) → Fit l s
 fit_of (fits g) = g

@@ -12,8 +12,6 @@ use native.Mathlib.Omega.{arith}
 use lib.ListN.{length, take, drop, replicate, length-drop}
 use Rattle.field.specs.Rows.{known, IsRow, row_at}
 use Rattle.field.specs.declared.rows.Row.{Row}
-use Rattle.field.specs.declared.rows.FoundRow.{FoundRow}
-use Rattle.field.specs.declared.rows.FoundRow.TheVariants.{At, Unknown}
 use Rattle.field.proofs.Known.{row-known, row-unknown}
 use Rattle.input.specs.Cutoff.{highest_cutoff}
 use Rattle.input.specs.Limit.{limit}
@@ -27,8 +25,7 @@ use Rattle.table_rules.specs.Places.{spare}
 use Rattle.table_rules.specs.Sizes.{limit_by, is_sound}
 use Rattle.table_slots.specs.Slots.{width_of, cutoff_of, count_of, taken_of}
 use Rattle.table_slots.specs.Walk.{tally, summed}
-use Rattle.table_slots.specs.declared.Sum.{Sum}
-use Rattle.table_slots.specs.declared.Sum.TheVariants.{Of, Unsound}
+use Rattle.std.specs.Prelude.{Option, Some, None}
 use Rattle.table_slots.proofs.Passes.{rest}
 
 module _ (l : List ℕ) where
@@ -41,11 +38,11 @@ module _ (l : List ℕ) where
   stated-degrees = stated_sum (read_blocks (count_of l) (drop head_slots l))
 
   -- a table that is not sound
-  deny : (ScanPassed known (limit_by l) l → ⊥) → Unsound ≡ summed l
+  deny : (ScanPassed known (limit_by l) l → ⊥) → None ≡ summed l
   unfolding summed
   deny n = go (is_sound l) refl
     where
-      go : (b : Bool) → is_sound l ≡ b → Unsound ≡ cond b (Of (degree_sum t.factors)) Unsound
+      go : (b : Bool) → is_sound l ≡ b → None ≡ cond b (Some (degree_sum t.factors)) None
       go true e = absurd (n ((sound-by-pass known (limit_by l) l).0 e))
       go false e = refl
 
@@ -57,18 +54,18 @@ module _ (l : List ℕ) where
       ∙ ap stated_sum (by_factor-lawful.read-write t.factors (replicate (spare (slots_for (limit_by l)) t) 0)) ∙ stated-sum t.factors
 
   -- the field is not known
-  pub deny-field : {r : FoundRow} → r ≡ row_at (width_of l) → r ≡ Unknown → Unsound ≡ summed l
+  pub deny-field : {r : Option Row} → r ≡ row_at (width_of l) → r ≡ None → None ≡ summed l
   deny-field e u = deny (λ s. true≢false (sym s.field ∙ row-unknown (width_of l) (sym e ∙ u)))
 
   -- the cutoff is 0
-  pub deny-low : cutoff_of l < 1 → Unsound ≡ summed l
+  pub deny-low : cutoff_of l < 1 → None ≡ summed l
   deny-low h = deny (λ s. omega (arith, s.cutoff-least))
 
   -- the cutoff is above the highest
-  pub deny-high : highest_cutoff < cutoff_of l → Unsound ≡ summed l
+  pub deny-high : highest_cutoff < cutoff_of l → None ≡ summed l
   deny-high h = deny (λ s. omega (arith, s.cutoff-most))
 
-  module _ {f : FoundRow} (e : f ≡ row_at (width_of l)) {row : Row} (at : f ≡ At row) where
+  module _ {f : Option Row} (e : f ≡ row_at (width_of l)) {row : Row} (at : f ≡ Some row) where
     -- the row is that of slot 0
     is_row : IsRow (width_of l) row
     is_row = row-known (width_of l) (sym e ∙ at)
@@ -78,29 +75,28 @@ module _ (l : List ℕ) where
         → (row.size ≡ 2 ^ width_of l) × (suc factor_slots * lim ≤ length (take (length l - head_slots) (drop head_slots l)))
     walk-asks k h = (is_row.size, omega (arith, ap length (rest l head_slots), length-drop head_slots l))
 
-    module _ {lim : ℕ} (under : lim ≡ limit_by l) {r : Sum}
+    module _ {lim : ℕ} (under : lim ≡ limit_by l) {r : Option ℕ}
         (w : r ≡ tally (width_of l) lim (count_of l) (take (length l - head_slots) (drop head_slots l))) where
       -- what `walk` answers: the sum where the pass finds nothing against the rules
-      walked : r ≡ cond (fair_blocks (width_of l) (limit_by l) (count_of l) (drop head_slots l)) (Of stated-degrees) Unsound
+      walked : r ≡ cond (fair_blocks (width_of l) (limit_by l) (count_of l) (drop head_slots l)) (Some stated-degrees) None
       unfolding tally
       walked = w ∙ ap (λ n. tally (width_of l) n (count_of l) (take (length l - head_slots) (drop head_slots l))) under
           ∙ ap (tally (width_of l) (limit_by l) (count_of l)) (rest l head_slots)
 
       -- the pass found a rule broken
-      pub deny-walk : r ≡ Unsound → Unsound ≡ summed l
+      pub deny-walk : r ≡ None → None ≡ summed l
       deny-walk u = deny (λ s.
-          let q : r ≡ Of stated-degrees = walked ∙ ap (λ b. cond b (Of stated-degrees) Unsound) s.pass in
-          let x : ◌≡◌ {A = ℕ} 0 1 = cc in
-          omega arith)
+          let q : r ≡ Some stated-degrees = walked ∙ ap (λ b. cond b (Some stated-degrees) None) s.pass in
+          cc)
 
-      module _ {sum : ℕ} (o : r ≡ Of sum) where
+      module _ {sum : ℕ} (o : r ≡ Some sum) where
         -- the pass found none broken, and gave the sum of what is stated
         found : (fair_blocks (width_of l) (limit_by l) (count_of l) (drop head_slots l) ≡ true) × (sum ≡ stated-degrees)
         found = go (fair_blocks (width_of l) (limit_by l) (count_of l) (drop head_slots l)) (sym o ∙ walked)
           where
-            go : (b : Bool) → Of sum ≡ cond b (Of stated-degrees) Unsound → (b ≡ true) × (sum ≡ stated-degrees)
+            go : (b : Bool) → Some sum ≡ cond b (Some stated-degrees) None → (b ≡ true) × (sum ≡ stated-degrees)
             go true q = (refl, cc)
-            go false q = let x : ◌≡◌ {A = ℕ} 0 1 = cc in absurd (omega arith)
+            go false q = absurd cc
 
         -- the sum is at most the limit
         pub few : sum ≤ limit
@@ -111,11 +107,11 @@ module _ (l : List ℕ) where
         limit_is = ap (λ z. width_of l * (z / suc (cutoff_of l))) found.1
 
         -- slot 3 is above its limit
-        pub deny-steps : width_of l * (sum / suc (cutoff_of l)) < taken_of l → Unsound ≡ summed l
+        pub deny-steps : width_of l * (sum / suc (cutoff_of l)) < taken_of l → None ≡ summed l
         deny-steps h = deny (λ s. omega (arith, s.steps, limit_is))
 
         -- no test fails
-        pub accept : length l ≡ slots_for (limit_by l) → 1 ≤ cutoff_of l → cutoff_of l ≤ highest_cutoff → taken_of l ≤ width_of l * (sum / suc (cutoff_of l)) → Of sum ≡ summed l
+        pub accept : length l ≡ slots_for (limit_by l) → 1 ≤ cutoff_of l → cutoff_of l ≤ highest_cutoff → taken_of l ≤ width_of l * (sum / suc (cutoff_of l)) → Some sum ≡ summed l
         unfolding summed
         accept h low high lim =
             let s : is_sound l ≡ true =
@@ -127,4 +123,4 @@ module _ (l : List ℕ) where
               pass = found.0;
               steps = omega (arith, limit_is);
             }) in
-            rw s (ap Of (found.1 ∙ degrees-stated s))
+            rw s (ap Some (found.1 ∙ degrees-stated s))

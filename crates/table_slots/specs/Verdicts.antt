@@ -8,7 +8,7 @@
 --   Judged      what a verdict tells: the refusal that is given, that the table is done, or where the factor to split
 --               stands
 -- Assumes nothing.
-use Rattle.std.specs.Prelude.{◌≡◌, Bool, true, false, not, List, ◌∷◌, ℕ, length}
+use Rattle.std.specs.Prelude.{◌≡◌, Bool, true, false, not, Option, Some, None, Result, Ok, Err, List, ◌∷◌, ℕ, length}
 use Rattle.refusals.specs.declared.Refusal.{Refusal}
 use Rattle.refusals.specs.declared.Refusal.TheVariants.{Room, Unsound, Stuck}
 use Rattle.table_rules.specs.Layout.{degree_sum, by_factor}
@@ -16,10 +16,6 @@ use Rattle.table_rules.specs.Table.{decode}
 use Rattle.table_rules.specs.Splitting.{slots_done, slots_stuck}
 use Rattle.table_rules.specs.Places.{place}
 use Rattle.table_rules.specs.Sizes.{is_table_size, is_sound}
-use Rattle.table_slots.specs.declared.check.Checked.{Checked}
-use Rattle.table_slots.specs.declared.check.Checked.TheVariants.{Unfit, Sound}
-use Rattle.table_slots.specs.declared.check.Verdict.{Verdict}
-use Rattle.table_slots.specs.declared.check.Verdict.TheVariants.{Refused, Over, Split}
 
 abbrev pub table_tests : List ℕ → List (ℕ × Bool) → List (ℕ × Bool)
 table_tests l more = (7, not (is_table_size (length l))) ∷ (8, not (is_sound l)) ∷ more
@@ -29,10 +25,10 @@ pub record Fit (l : List ℕ) (s : ℕ) : Type 0 where
   pub sum : s ≡ degree_sum (decode by_factor l).factors
 
 -- the length is tested first
-pub data Checks (l : List ℕ) : Checked → Type 0 where
-  short : is_table_size (length l) ≡ false → Checks l (Unfit Room)
-  unsound : is_table_size (length l) ≡ true → is_sound l ≡ false → Checks l (Unfit Unsound)
-  fits : {s : ℕ} → Fit l s → Checks l (Sound s)
+pub data Checks (l : List ℕ) : Result ℕ Refusal → Type 0 where
+  short : is_table_size (length l) ≡ false → Checks l (Err Room)
+  unsound : is_table_size (length l) ≡ true → is_sound l ≡ false → Checks l (Err Unsound)
+  fits : {s : ℕ} → Fit l s → Checks l (Ok s)
 
 -- the place of a step
 pub record Chosen (l : List ℕ) (o : ℕ) : Type 0 where
@@ -42,8 +38,8 @@ pub record Chosen (l : List ℕ) (o : ℕ) : Type 0 where
   pub at : o ≡ place (decode by_factor l)
 
 -- 9 is tested on a sound table
-pub data Judged (l : List ℕ) : Verdict → Type 0 where
-  unfit : {k : Refusal} → Checks l (Unfit k) → Judged l (Refused k)
-  stuck : is_sound l ≡ true → slots_stuck by_factor l ≡ true → Judged l (Refused Stuck)
-  over : is_sound l ≡ true → slots_done by_factor l ≡ true → Judged l Over
-  split : {o : ℕ} → Chosen l o → Judged l (Split o)
+pub data Judged (l : List ℕ) : Result (Option ℕ) Refusal → Type 0 where
+  unfit : {k : Refusal} → Checks l (Err k) → Judged l (Err k)
+  stuck : is_sound l ≡ true → slots_stuck by_factor l ≡ true → Judged l (Err Stuck)
+  over : is_sound l ≡ true → slots_done by_factor l ≡ true → Judged l (Ok None)
+  split : {o : ℕ} → Chosen l o → Judged l (Ok (Some o))

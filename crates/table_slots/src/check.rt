@@ -1,62 +1,31 @@
 // What is decided of a work table before anything is written: whether it is sound (docs/RULES.md section 4.5), and
 // what a step finds in it.
-ghost use Rattle.table_slots.specs.Verdicts.{Checks, Fit, Judged};
+ghost use Rattle.table_slots.specs.Verdicts.{Checks, Judged};
 
-use crate::{Spot, Sum, degrees, first_above, head_of, is_table_size, level_at, step_limit};
+use crate::{degrees, first_above, head_of, is_table_size, level_at, step_limit};
 use refusals::Refusal;
 
-// What slots are: turned away, or those of a sound table, with the sum of its degrees.
-#[derive(Drop)]
-pub enum Checked {
-    Unfit(Refusal),
-    Sound(usize),
-}
-
-// What a step finds before it writes: a refusal, nothing to split, or the place of the factor to split.
-#[derive(Drop)]
-pub enum Verdict {
-    Refused(Refusal),
-    Over,
-    Split(usize),
-}
-
-// Refusals 7 and 8, or the sum of the degrees.
-pub fn check(table: &[u16]) -> Checked
+// Of the slots of a sound table: the sum of its degrees. Refusals 7 and 8.
+pub fn check(table: &[u16]) -> Result<usize, Refusal>
     ensures { Checks table.now result }
 {
     if !is_table_size(table.len()) {
-        return Checked::Unfit(Refusal::Room);
+        return Err(Refusal::Room);
     }
-    match degrees(table) {
-        Sum::Of(sum) => Checked::Sound(sum),
-        Sum::Unsound => Checked::Unfit(Refusal::Unsound),
-    }
+    degrees(table).ok_or(Refusal::Unsound)
 }
 
-// Of a sound table: refusal 9, nothing to split, or the place of the factor to split.
-fn judge_sound(table: &[u16], sum: usize) -> Verdict
-    requires { Fit table.now sum }
+// The place of the factor to split, or nothing to split. Refusals 7, 8 and 9.
+pub fn judge(table: &[u16]) -> Result<Option<usize>, Refusal>
     ensures { Judged table.now result }
 {
+    let sum = check(table)?;
     let h = head_of(table);
-    let Spot::At(o) = first_above(table, h.cutoff) else {
-        return Verdict::Over;
+    let Some(o) = first_above(table, h.cutoff) else {
+        return Ok(None);
     };
-    if h.m <= level_at(table, o) {
-        return Verdict::Refused(Refusal::Stuck);
+    if h.m <= level_at(table, o) || step_limit(h.m, h.cutoff, sum) <= h.steps as usize {
+        return Err(Refusal::Stuck);
     }
-    if step_limit(h.m, h.cutoff, sum) <= h.steps as usize {
-        return Verdict::Refused(Refusal::Stuck);
-    }
-    Verdict::Split(o)
-}
-
-// Refusals 7, 8 and 9, nothing to split, or the place of the factor to split.
-pub fn judge(table: &[u16]) -> Verdict
-    ensures { Judged table.now result }
-{
-    match check(table) {
-        Checked::Unfit(k) => Verdict::Refused(k),
-        Checked::Sound(sum) => judge_sound(table, sum),
-    }
+    Ok(Some(o))
 }

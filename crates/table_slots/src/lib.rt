@@ -14,7 +14,7 @@ ghost use Rattle.table_slots.specs.Slots.{Heads, StandsWhole, level_at, factor_a
 ghost use Rattle.table_slots.specs.Slots.{Appended, Replaceable, replaced_at};
 ghost use Rattle.table_slots.specs.Walk.{front_slots, tally, sought_in, summed};
 
-use field::rows::{FoundRow, row_of};
+use field::rows::row_of;
 use input::{HIGHEST_CUTOFF, LIMIT};
 
 pub mod check; // what is decided of a table before anything is written
@@ -51,10 +51,7 @@ pub const TWO_FACTORS: usize = 2 * LOW + LIMIT;
 pub fn is_table_size(n: usize) -> bool
     ensures { result ≡ is_table_size n }
 {
-    if n == STORED_SLOTS {
-        return true;
-    }
-    n == SLOTS
+    n == STORED_SLOTS || n == SLOTS
 }
 
 // The limit that a table of n slots is under.
@@ -69,26 +66,12 @@ fn limit_for(n: usize) -> usize
 }
 
 // What the head says.
-#[derive(Drop)]
+#[derive(Clone, Copy)]
 pub struct Head {
     pub m: u16,
     pub cutoff: u16,
     pub factors: u16,
     pub steps: u16,
-}
-
-// Where a factor stands.
-#[derive(Drop)]
-pub enum Spot {
-    At(usize),
-    Nowhere,
-}
-
-// The sum of the degrees, where the slots are sound.
-#[derive(Drop)]
-pub enum Sum {
-    Of(usize),
-    Unsound,
 }
 
 // The head of a table.
@@ -131,24 +114,19 @@ pub fn low_at(table: &[u16], o: usize) -> &[u16]
 }
 
 // The place of the first factor whose degree is above c.
-pub fn first_above(table: &[u16], c: u16) -> Spot
+pub fn first_above(table: &[u16], c: u16) -> Option<usize>
     requires { head_slots ≤ length table.now }
     ensures { result ≡ sought_in c table.now }
 {
-    let mut left = table[FACTORS];
     let mut at = FIRST;
-    while left > 0 {
-        if table.len() <= at + DEGREE {
-            return Spot::Nowhere;
-        }
-        let d = table[at + DEGREE];
+    for _ in 0..table[FACTORS] {
+        let d = *table.get(at + DEGREE)?;
         if c < d {
-            return Spot::At(at);
+            return Some(at);
         }
         at += d as usize + LOW;
-        left -= 1;
     }
-    Spot::Nowhere
+    None
 }
 
 // Writes the slots of a factor to w at `at`, and nothing where it is constant. Returns the place behind them.
@@ -197,52 +175,38 @@ pub fn replace(table: &mut [u16], o: usize, parts: &[u16])
     table[STEPS] = taken;
 }
 
-// The slots that the factor at the front of s takes, or 0 where none stands there that fits.
-fn front_slots(s: &[u16], m: u16, size: u16, room: usize) -> usize
+// The slots that the factor at the front of s takes, where one stands there that fits.
+fn front_slots(s: &[u16], m: u16, size: u16, room: usize) -> Option<usize>
     requires { (size ≡ 2 ^ m) × (room ≤ length s.now - factor_slots) }
     ensures { result ≡ front_slots m room s.now }
 {
-    if s.len() < LOW {
-        return 0;
+    let [level, degree, coefficients @ ..] = s else {
+        return None;
+    };
+    let d = *degree as usize;
+    if m < *level || d < 1 || room < d || !slices::all_below(&coefficients[..d], size) {
+        return None;
     }
-    if m < s[0] {
-        return 0;
-    }
-    let d = s[DEGREE] as usize;
-    if d < 1 {
-        return 0;
-    }
-    if room < d {
-        return 0;
-    }
-    let e = d + LOW;
-    if slices::all_below(&s[LOW..e], size) {
-        return e;
-    }
-    0
+    Some(d + LOW)
 }
 
 // The sum of the degrees of `count` factors in s, if they fit and zeros follow.
-fn walk(s: &[u16], m: u16, size: u16, count: u16, limit: usize) -> Sum
+fn walk(s: &[u16], m: u16, size: u16, count: u16, limit: usize) -> Option<usize>
     requires { (size ≡ 2 ^ m) × (suc factor_slots * limit ≤ length s.now) }
     ensures { result ≡ tally m limit count s.now }
 {
-    let mut left = count;
     let mut sum = 0;
     let mut at = 0;
-    while left > 0 {
-        let n = front_slots(&s[at..], m, size, limit - sum);
-        if n == 0 {
-            return Sum::Unsound;
-        }
+    for _ in 0..count {
+        let n = front_slots(&s[at..], m, size, limit - sum)?;
         sum += n - LOW;
         at += n;
-        left -= 1;
     }
     if slices::all_zero(&s[at..]) {
-        return Sum::Of(sum);
+        Some(sum)
+    } else {
+        None
     }
-    Sum::Unsound
 }
 
 // At most as many steps may have been taken.
@@ -254,28 +218,21 @@ pub fn step_limit(m: u16, c: u16, sum: usize) -> usize
 }
 
 // The sum of the degrees of a sound table: all rules in one pass over its slots.
-pub fn degrees(table: &[u16]) -> Sum
+pub fn degrees(table: &[u16]) -> Option<usize>
     requires { length table.now ≡ slots_for (limit_by table.now) }
     ensures { result ≡ summed table.now }
 {
     let m = table[WIDTH];
     let c = table[CUTOFF];
-    let FoundRow::At(row) = row_of(m) else {
-        return Sum::Unsound;
-    };
-    if c < 1 {
-        return Sum::Unsound;
-    }
-    if HIGHEST_CUTOFF < c {
-        return Sum::Unsound;
+    let row = row_of(m)?;
+    if c < 1 || HIGHEST_CUTOFF < c {
+        return None;
     }
     let limit = limit_for(table.len());
-    let Sum::Of(sum) = walk(&table[FIRST..], m, row.size, table[FACTORS], limit) else {
-        return Sum::Unsound;
-    };
+    let sum = walk(&table[FIRST..], m, row.size, table[FACTORS], limit)?;
     let taken = table[STEPS];
     if step_limit(m, c, sum) < taken as usize {
-        return Sum::Unsound;
+        return None;
     }
-    Sum::Of(sum)
+    Some(sum)
 }

@@ -24,6 +24,7 @@ use Rattle.algebra.proofs.StaysBelow.{power_below, rem_below, trace_mod-below}
 use Rattle.algebra.proofs.NumberSteps.{trace-run}
 use Rattle.field.specs.Field.{field_at, G}
 use Rattle.field.proofs.Logarithms.{antilogs-power}
+use Rattle.poly.specs.Lent.{Lent}
 use Rattle.poly_gcd.specs.Euclid.{GcdIs}
 use Rattle.poly.proofs.Logs.{field_of, numbers_of}
 use Rattle.table_rules.specs.Splitting.{halving_at}
@@ -33,10 +34,10 @@ use Rattle.table_step.specs.Parting.{Splittable, Partable}
 degree-less : (m : ℕ) → known m ≡ true → m < 2 ^ m
 degree-less m k = by_row (λ n p. n < 2 ^ n) (lit< tt) (lit< tt) (lit< tt) (listed m k)
 
-module _ {m : ℕ} {ls ts p : List ℕ} {i : ℕ} (s : Splittable m ls ts p i) where
+module _ {m : ℕ} {ls ts p : List ℕ} {i : ℕ} (lent : Lent m ls ts) (s : Splittable m p i) where
   -- twice the level indexes the antilog table, and its entry there is a^i
   level-entry : (2 * i < length ts) × (get_or ts (2 * i) 0 ≡ power (G m) 2 i)
-  level-entry = antilogs-power (field_at m) s.tables.antilogs i (omega (arith, s.level, degree-less m s.tables.degree))
+  level-entry = antilogs-power (field_at m) lent.antilogs i (omega (arith, s.level, degree-less m lent.degree))
 
   pub level-fits : 2 * i < length ts
   level-fits = level-entry.0
@@ -46,7 +47,7 @@ module _ {m : ℕ} {ls ts p : List ℕ} {i : ℕ} (s : Splittable m ls ts p i) w
 
   -- a^i is an element
   power_small : power (G m) 2 i < 2 ^ m
-  power_small = power_below (numbers_of s.tables) 2 i (field_of s.tables).two
+  power_small = power_below (numbers_of lent) 2 i (field_of lent).two
 
   -- so is the entry
   pub level-small : get_or ts (2 * i) 0 < 2 ^ m
@@ -73,12 +74,12 @@ module _ {m : ℕ} {ls ts p : List ℕ} {i : ℕ} (s : Splittable m ls ts p i) w
   -- its coefficients are elements
   pub trace-small : Below (2 ^ m) trace
   trace-small =
-      let n = numbers_of s.tables in
+      let n = numbers_of lent in
       trace_mod-below n p m start s.small (rem_below n p (0 ∷ power (G m) 2 i ∷ []) s.small (omega (arith, power_small), (power_small, tt)))
 
   -- and it stands for Tr(a^i z)
   pub traced-same : gcd (G m) p trace ≡ (halving_at m).low i p
-  traced-same = sym (trace-run (numbers_of s.tables) m (power (G m) 2 i) power_small p s.small)
+  traced-same = sym (trace-run (numbers_of lent) m (power (G m) 2 i) power_small p s.small)
 
 -- ---- the first part
 
@@ -87,7 +88,7 @@ pub record IsCommon (m i : ℕ) (p : List ℕ) (r : ℕ) (g : List ℕ) : Type 0
   pub degree : r ≡ length ((halving_at m).low i p)
   pub low : take r g ≡ (halving_at m).low i p
 
-module _ {m : ℕ} {ls ts p : List ℕ} {i : ℕ} {t : List ℕ} (s : Partable m ls ts p i t) where
+module _ {m : ℕ} {p : List ℕ} {i : ℕ} {t : List ℕ} (s : Partable m p i t) where
   -- what the greatest common divisor with t leaves is the first part
   pub common-is : {r : ℕ} {g : List ℕ} → GcdIs m p t r g → length p < length g → IsCommon m i p r g
   common-is {r} {g} q h =

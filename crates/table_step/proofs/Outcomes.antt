@@ -17,18 +17,18 @@ use Rattle.table_rules.specs.Layout.{by_factor}
 use Rattle.table_rules.specs.Splitting.{slots_done, slots_stuck, slots_stepped}
 use Rattle.table_rules.specs.Sizes.{is_table_size, is_sound}
 use Rattle.table_rules.proofs.Sizes.{size-exactly, sound-size}
-use Rattle.table_step.specs.Calls.{step_tests, step_outcome, step_memory, told_stepped}
+use Rattle.table_step.specs.Calls.{step_tests, step_outcome, step_memory, stepped_values}
 use Rattle.table_slots.specs.Verdicts.{Checks, Chosen, Judged}
 use Rattle.table_slots.specs.Verdicts.Checks.{short, unsound}
 use Rattle.table_slots.specs.Verdicts.Judged.{unfit, stuck, over, split}
 use Rattle.table_step.specs.declared.Stepped.{Stepped}
-use Rattle.table_step.specs.declared.Stepped.TheVariants.{Taken, Done, NotStepped}
-use Rattle.table_slots.specs.declared.check.Checked.TheVariants.{Unfit}
-use Rattle.table_slots.specs.declared.check.Verdict.TheVariants.{Refused, Over, Split}
+use Rattle.table_step.specs.declared.Stepped.TheVariants.{Taken, Done}
+use Rattle.refusals.specs.Admitting.{told}
+use Rattle.std.specs.Prelude.{Result, Some, None, Ok, Err}
 
 -- what a step promises of its answer and of the slots that it leaves
-abbrev Promise : List ℕ → Stepped → List ℕ → Type 0
-Promise l r l' = (told_stepped r ≡ step_outcome l) × (l' ≡ step_memory l)
+abbrev Promise : List ℕ → Result Stepped Refusal → List ℕ → Type 0
+Promise l r l' = (told stepped_values r ≡ step_outcome l) × (l' ≡ step_memory l)
 
 -- a step that passes its tests, by whether the table is done
 passed-memory : (l : List ℕ) (b : Bool) → slots_done by_factor l ≡ b → cond (slots_done by_factor l) l (slots_stepped by_factor l) ≡ cond b l (slots_stepped by_factor l)
@@ -42,7 +42,7 @@ module _ (l : List ℕ) where
   sound-first s = ap not ((size-exactly (length l)).1 (sound-size l s))
 
   -- the test that a check found to hold
-  check-given : {k : Refusal} → Checks l (Unfit k) → Given (number_of k) (step_tests l)
+  check-given : {k : Refusal} → Checks l (Err k) → Given (number_of k) (step_tests l)
   check-given (short n) = holds (ap not n)
   check-given (unsound e u) = fails (ap not e) (holds (ap not u))
 
@@ -56,19 +56,19 @@ module _ (l : List ℕ) where
   done-free d = rw d
 
 -- a refusal
-refused-by : {l : List ℕ} {k : Refusal} → Judged l (Refused k) → Given (number_of k) (step_tests l)
+refused-by : {l : List ℕ} {k : Refusal} → Judged l (Err k) → Given (number_of k) (step_tests l)
 refused-by {l} (unfit c) = check-given l c
 refused-by {l} (stuck s f) = fails (sound-first l s) (fails (ap not s) (holds f))
 
 -- it writes nothing
-pub step-refused : {l : List ℕ} {k : Refusal} → Judged l (Refused k) → Promise l (NotStepped k) l
+pub step-refused : {l : List ℕ} {k : Refusal} → Judged l (Err k) → Promise l (Err k) l
 step-refused {l} j = (
   sym (order.refused (cond (slots_done by_factor l) 1 0 ∷ []) (refused-by j)),
   sym (order.unwritten (cond (slots_done by_factor l) l (slots_stepped by_factor l)) l (refused-by j)),
 )
 
 -- nothing to split
-pub step-over : {l : List ℕ} → Judged l Over → Promise l Done l
+pub step-over : {l : List ℕ} → Judged l (Ok None) → Promise l (Ok Done) l
 step-over {l} (over s d) =
     let p = step-passes l s (done-free l d) in (
       sym (order.accepted (cond (slots_done by_factor l) 1 0 ∷ []) p ∙ ap (λ b. (0, cond b 1 0 ∷ [])) d),
@@ -76,11 +76,11 @@ step-over {l} (over s d) =
     )
 
 -- a verdict to split
-pub chosen_of : {l : List ℕ} {o : ℕ} → Judged l (Split o) → Chosen l o
+pub chosen_of : {l : List ℕ} {o : ℕ} → Judged l (Ok (Some o)) → Chosen l o
 chosen_of (split c) = c
 
 -- a step that is taken
-pub step-taken : {l l' : List ℕ} {o : ℕ} → Chosen l o → l' ≡ slots_stepped by_factor l → Promise l Taken l'
+pub step-taken : {l l' : List ℕ} {o : ℕ} → Chosen l o → l' ≡ slots_stepped by_factor l → Promise l (Ok Taken) l'
 step-taken {l} c e =
     let p = step-passes l c.sound c.free in (
       sym (order.accepted (cond (slots_done by_factor l) 1 0 ∷ []) p ∙ ap (λ b. (0, cond b 1 0 ∷ [])) c.more),

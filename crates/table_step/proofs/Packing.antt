@@ -3,6 +3,7 @@
 --   rest-asks, first-room, parted      what `parts_of` takes and leaves
 -- Assumes nothing.
 use mathlib.Core.Path.{◌≡◌, sym, ap, ap₂, subst, ◌∙◌}
+use mathlib.Core.Bool.{true}
 use mathlib.Core.List.{List, ◌++◌}
 use Prim.Native.Nat.{ℕ, ◌+◌, ◌-◌, ◌^◌, ◌≤◌}
 use native.Mathlib.Numerals.{add-one}
@@ -12,6 +13,7 @@ use lib.Seq.{take_at, length-take-le}
 use Rattle.algebra.specs.Polynomial.{Below}
 use Rattle.algebra.specs.Routines.{cofactor}
 use Rattle.algebra.proofs.Lengths.{length-cofactor}
+use Rattle.field.specs.Rows.{known}
 use Rattle.field.specs.Field.{G}
 use Rattle.slices.proofs.Lists.{pasted-front}
 use Rattle.input.proofs.Fields.{known-field}
@@ -22,23 +24,22 @@ use Rattle.table_rules.proofs.Layouts.{blocks-append}
 use Rattle.table_rules.proofs.Keeping.{LosslessHalving, trace-halves}
 use Rattle.table_slots.specs.Slots.{Appended}
 use Rattle.table_slots.proofs.Appending.{some-slots}
-use Rattle.poly_gcd.specs.Euclid.{Cofactorable}
+use Rattle.poly_gcd.specs.Asking.{Cofactorable}
 use Rattle.table_step.specs.Parting.{Splittable, Parted}
 use Rattle.table_step.proofs.Commons.{IsCommon}
 
-module _ {m : ℕ} {ls ts p : List ℕ} {i : ℕ} (s : Splittable m ls ts p i) {k : ℕ} {g : List ℕ} (c : IsCommon m i p k g) where
+module _ {m : ℕ} {p : List ℕ} {i : ℕ} (field : known m ≡ true) (s : Splittable m p i) {k : ℕ} {g : List ℕ} (c : IsCommon m i p k g) where
   -- the two parts have, together, the factor's degree
   halves : LosslessHalving (halving_at m) m i p
-  halves = trace-halves (known-field m s.tables.degree) i p s.small
+  halves = trace-halves (known-field m field) i p s.small
 
   -- the first has at most that
   pub degree-within : k ≤ length p
   degree-within = omega (arith, c.degree, halves.sum)
 
   -- what the division may take for granted
-  pub rest-asks : {h : List ℕ} → length h ≡ length p - k → Cofactorable m ls ts p (take k g) h
+  pub rest-asks : {h : List ℕ} → length h ≡ length p - k → Cofactorable m p (take k g) h
   rest-asks e = record {
-    tables = s.tables;
     small-p = s.small;
     small-g = subst (Below (2 ^ m)) (sym c.low) halves.low;
     few = s.few;

@@ -2,10 +2,10 @@
 --   SlotsRead, slots_read                      where the factor stands;  head-there, level-there, stands  so that it
 --                                              can be read
 --   factor-is, level-is, level-below-width   it is the first above the cutoff
---   named, steppable                  the head names the field, whose tables are lent
+--   named                             the head names the field
 --   split-asks, part-asks             it can be split, and by what is lent;  trace-within, trace-ready  as by the
 --                                     trace sum modulo it
---   SlotSizes, slot-sizes, new-fits            how many slots the parts take
+--   SlotSizes, slot-sizes                      how many slots the parts take
 --   replace-asks, replaced            it can give way to its parts, and the slots are then those of a step
 -- Assumes nothing.
 use mathlib.Core.Path.{◌≡◌, refl, sym, ap, ap₂, subst, ◌∙◌}
@@ -35,11 +35,11 @@ use Rattle.table_rules.proofs.Soundness.{Valid, sound-valid, sound-encoded, coun
 use Rattle.table_rules.proofs.Keeping.{Free, free, LosslessHalving, trace-halves, step-slots}
 use Rattle.table_rules.specs.Places.{beyond, leading, place, slots_of, spare}
 use Rattle.table_rules.proofs.Places.{encode-around, level-at, degree-at, coefficients-at, first-fair, room, parts-few, parts-some, length-new, step-spliced}
-use Rattle.table_rules.specs.Sizes.{limit_by, two_factors}
+use Rattle.table_rules.specs.Sizes.{limit_by}
 use Rattle.table_slots.specs.Slots.{width_of, count_of, taken_of, Heads, level_at, degree_at, factor_at, next_at, StandsWhole, Replaceable, replaced_at}
 use Rattle.table_slots.specs.declared.Head.{Head}
 use Rattle.table_slots.specs.Verdicts.{Chosen}
-use Rattle.table_step.specs.Parting.{Splittable, Partable, Parted, ChosenAt, Steppable, StepReady}
+use Rattle.table_step.specs.Parting.{Splittable, Partable, Parted, StepReady}
 use Rattle.table_step.proofs.Commons.{traced-long, trace-small, traced-same}
 
 -- no degree is above their sum, and a list that is not done has an entry
@@ -54,10 +54,6 @@ some-factor : (c : ℕ) (l : List Factor) → done c l ≡ false → 1 ≤ lengt
 unfolding done
 some-factor c [] d = absurd (true≢false d)
 some-factor c (e ∷ l) d = omega arith
-
--- the tables of a degree are those of the table's field
-pub steppable : {m o : ℕ} {l ls ts : List ℕ} → ChosenAt m l o × Lent m ls ts → Steppable l ls ts o
-steppable {ls = ls} {ts} a = record { chosen = a.0.chosen; tables = subst (λ (w : ℕ). Lent w ls ts) a.0.width a.1 }
 
 -- where the factor to split stands
 pub record SlotsRead (l : List ℕ) (o : ℕ) : Type 0 where
@@ -161,61 +157,54 @@ module _ (l : List ℕ) {o : ℕ} (c : Chosen l o) where
   factor-long = ap length factor-is ∙ sym degree-is
 
   -- the field that the head names is known
-  pub named : {h : Head} → Heads l h → ChosenAt h.m l o
-  named k = record { chosen = c; width = k.width; field = ap known k.width ∙ is_known }
+  pub named : {h : Head} → Heads l h → known h.m ≡ true
+  named k = ap known k.width ∙ is_known
 
   -- what is read by the names of its parts
-  module _ {h : Head} (k : Heads l h) {i : ℕ} (e : i ≡ level_at l o) {p : List ℕ} (q : p ≡ factor_at l o) where
+  module _ {m : ℕ} (width : m ≡ width_of l) {i : ℕ} (e : i ≡ level_at l o) {p : List ℕ} (q : p ≡ factor_at l o) where
     -- it is at most as long as the limit
     pub read-few : length p ≤ limit
     read-few = let r = slots_read in omega (arith, ap length q, factor-long, r.few)
 
     -- it can be split
-    pub split-asks : {ls ts : List ℕ} → Lent (width_of l) ls ts → Splittable h.m ls ts p i
+    pub split-asks : Splittable m p i
     unfolding decode
-    split-asks a = record {
-      tables = rw k.width a;
-      small = rw (k.width, q ∙ factor-is) (first-fair t valid open-still).coefficients;
+    split-asks = record {
+      small = rw (width, q ∙ factor-is) (first-fair t valid open-still).coefficients;
       few = read-few;
-      level = omega (arith, e, k.width, level-is, is_free.level);
+      level = omega (arith, e, width, level-is, is_free.level);
     }
 
     -- and can be parted by what is lent
-    pub part-asks : {ls ts u : List ℕ} → StepReady l ls ts o u → Partable h.m ls ts p i u
-    part-asks r = record {
-      splittable = split-asks r.tables;
-      small = rw k.width r.small;
-      few = r.few;
-      same = rw (k.width, e, q) r.same;
-    }
+    pub part-asks : {u : List ℕ} → StepReady m l o u → Partable m p i u
+    part-asks r = record { splittable = split-asks; small = r.small; few = r.few; same = rw (e, q) r.same }
 
-    module _ {ls ts u : List ℕ} (a : Lent (width_of l) ls ts) (z : List ℕ) (g : u ≡ trace_mod (G h.m) p h.m (rem (G h.m) p (0 ∷ power (G h.m) 2 i ∷ []))) where
+    module _ {ls ts u : List ℕ} (a : Lent m ls ts) (z : List ℕ) (g : u ≡ trace_mod (G m) p m (rem (G m) p (0 ∷ power (G m) 2 i ∷ []))) where
       -- the trace sum modulo the factor is as long
       traced-fits : length u ≡ length p
-      traced-fits = traced-long (split-asks a) g
+      traced-fits = traced-long a split-asks g
 
       -- it is within its room
       pub trace-within : length p ≤ length (u ++ z)
       trace-within = omega (arith, length-append u z, traced-fits)
 
       -- and parts the factor, at the front of its room
-      pub trace-ready : StepReady l ls ts o (take (length p) (u ++ z))
+      pub trace-ready : StepReady m l o (take (length p) (u ++ z))
       trace-ready =
-          let s = split-asks a in
           let f : take (length p) (u ++ z) ≡ u = take_at u z (length p) traced-fits in
           record {
             chosen = c;
-            tables = a;
-            small = subst (λ (m : ℕ). Below (2 ^ m) (take (length p) (u ++ z))) k.width (subst (Below (2 ^ h.m)) (sym (f ∙ g)) (trace-small s));
+            width = width;
+            small = subst (Below (2 ^ m)) (sym (f ∙ g)) (trace-small a split-asks);
             few = omega (arith, ap length f, traced-fits, read-few);
-            same = ap (gcd (G (width_of l)) (factor_at l o)) (f ∙ g) ∙ at_slots (traced-same s);
+            same = ap (gcd (G m) (factor_at l o)) (f ∙ g) ∙ at_slots (traced-same a split-asks);
           }
         where
           -- the same by the names of the slots
-          at_slots : gcd (G h.m) p (trace_mod (G h.m) p h.m (rem (G h.m) p (0 ∷ power (G h.m) 2 i ∷ []))) ≡ (halving_at h.m).low i p
-              → gcd (G (width_of l)) (factor_at l o) (trace_mod (G h.m) p h.m (rem (G h.m) p (0 ∷ power (G h.m) 2 i ∷ [])))
-              ≡ (halving_at (width_of l)).low (level_at l o) (factor_at l o)
-          at_slots x = rw (sym k.width, sym e, sym q) x
+          at_slots : gcd (G m) p (trace_mod (G m) p m (rem (G m) p (0 ∷ power (G m) 2 i ∷ []))) ≡ (halving_at m).low i p
+              → gcd (G m) (factor_at l o) (trace_mod (G m) p m (rem (G m) p (0 ∷ power (G m) 2 i ∷ [])))
+              ≡ (halving_at m).low (level_at l o) (factor_at l o)
+          at_slots x = rw (sym e, sym q) x
 
   -- the parts of the factor that the code reads are those of the factor
   abbrev H : Halving ℕ
@@ -225,11 +214,11 @@ module _ (l : List ℕ) {o : ℕ} (c : Chosen l o) where
   halves : (i : ℕ) (p : List ℕ) → Below (2 ^ t.width) p → LosslessHalving H t.width i p
   halves = trace-halves (known-field t.width valid.field)
 
-  module _ {h : Head} (k : Heads l h) {i : ℕ} (e : i ≡ level_at l o) {p : List ℕ} (g : p ≡ factor_at l o) {q : ℕ} {w : List ℕ} (r : Parted h.m i p q w) where
+  module _ {m : ℕ} (width : m ≡ width_of l) {i : ℕ} (e : i ≡ level_at l o) {p : List ℕ} (g : p ≡ factor_at l o) {q : ℕ} {w : List ℕ} (r : Parted m i p q w) where
     -- the parts that were written
-    parts_are : blocks (parts (halving_at h.m) (i, p)) ≡ blocks (parts H P)
+    parts_are : blocks (parts (halving_at m) (i, p)) ≡ blocks (parts H P)
     unfolding decode
-    parts_are = rw (k.width, e ∙ level-is, g ∙ factor-is) refl
+    parts_are = rw (width, e ∙ level-is, g ∙ factor-is) refl
 
     -- the new slots are those of the parts
     new_is : take q w ≡ blocks (parts H P)
@@ -254,10 +243,6 @@ module _ (l : List ℕ) {o : ℕ} (c : Chosen l o) where
       least = omega (arith, new-long, parts-some H t.width halves P (first-fair t valid open-still));
       most = omega (arith, new-long, parts-few H P);
     }
-
-    -- they fit in the room of two factors
-    pub new-fits : q ≤ two_factors
-    new-fits = let z = slot-sizes in let s = slots_read in omega (arith, z.most, s.few)
 
     -- the factor can give way to them
     pub replace-asks : Replaceable l o (take q w)

@@ -2,17 +2,18 @@
 --   step_tests     its tests in their order, each behind its number
 --   step_outcome   its outcome: the value is 1 where the table is done
 --   step_memory    the table afterwards
---   told_stepped   the number and the value of its answer
+--   stepped_values    the value of its answer
 --   Steps         THE CONTRACT: the answers and tables that a step admits
 -- Assumes nothing.
-use Rattle.std.specs.Prelude.{Bool, cond, List, [], ◌∷◌, ℕ}
+use Rattle.std.specs.Prelude.{Bool, cond, Result, List, [], ◌∷◌, ℕ}
 use Rattle.refusals.specs.Order.{outcome, memory, Answers}
-use Rattle.refusals.specs.Numbers.{number_of}
+use Rattle.refusals.specs.Admitting.{told}
+use Rattle.refusals.specs.declared.Refusal.{Refusal}
 use Rattle.table_rules.specs.Layout.{by_factor}
 use Rattle.table_rules.specs.Splitting.{slots_done, slots_stuck, slots_stepped}
 use Rattle.table_slots.specs.Verdicts.{table_tests}
 use Rattle.table_step.specs.declared.Stepped.{Stepped}
-use Rattle.table_step.specs.declared.Stepped.TheVariants.{Taken, Done, NotStepped}
+use Rattle.table_step.specs.declared.Stepped.TheVariants.{Taken, Done}
 
 abbrev pub step_tests : List ℕ → List (ℕ × Bool)
 step_tests table = table_tests table ((9, slots_stuck by_factor table) ∷ [])
@@ -23,14 +24,13 @@ step_outcome table = outcome (step_tests table) (cond (slots_done by_factor tabl
 abbrev pub step_memory : List ℕ → List ℕ
 step_memory table = memory (step_tests table) (cond (slots_done by_factor table) table (slots_stepped by_factor table)) table
 
-abbrev pub told_stepped : Stepped → ℕ × List ℕ
-told_stepped Taken = (0, 0 ∷ [])
-told_stepped Done = (0, 1 ∷ [])
-told_stepped (NotStepped k) = (number_of k, [])
+abbrev pub stepped_values : Stepped → List ℕ
+stepped_values Taken = 0 ∷ []
+stepped_values Done = 1 ∷ []
 
 -- the contract: an answer, and the lent table afterwards
-abbrev pub Steps : List ℕ → Stepped → List ℕ → Type 0
+abbrev pub Steps : List ℕ → Result Stepped Refusal → List ℕ → Type 0
 Steps table r after =
     Answers (step_tests table) (cond (slots_done by_factor table) 1 0 ∷ [])
     (cond (slots_done by_factor table) table (slots_stepped by_factor table)) table
-    (told_stepped r) after
+    (told stepped_values r) after

@@ -6,20 +6,20 @@ use Rattle.claim_maker.proofs.Uniting.{unite-constant, unite-less, unite-on, uni
 use Rattle.claim_maker.proofs.+unite.Goals as goal
 
 pub returns-then-n-eq0 : goal.returns-then-n-eq0
-returns-then-n-eq0 t c = unite-constant c.requires c.if-n-eq0.true c.inverse_by_logs.ensures c.clear.ensures c.clear-then-n-eq0.ensures
+returns-then-n-eq0 t c = unite-constant c.args.tables.now.lent c.requires c.if-n-eq0.true c.inverse.ensures c.clear.ensures c.clear-then-n-eq0.ensures
 
 pub unite-requires : goal.unite-requires
 unite-requires t c = (
-  omega (arith, unite-less c.requires c.if-n-eq0.false c.reduce.ensures c.reduce.auto.a c.top-j.ensures, c.decreases),
-  unite-on c.requires c.if-n-eq0.false c.reduce.ensures c.reduce.auto.a c.top-j.ensures,
+  omega (arith, unite-less c.args.tables.now.lent c.requires c.if-n-eq0.false c.reduce.ensures c.reduce.auto.a c.top-j.ensures, c.decreases),
+  unite-on c.args.tables.now.lent c.requires c.if-n-eq0.false c.reduce.ensures c.reduce.auto.a c.top-j.ensures,
 )
 
 pub add_product-requires : goal.add_product-requires
 add_product-requires t c =
-    unite-adds c.requires c.if-n-eq0.false c.reduce.ensures c.reduce.auto.a c.top-j.ensures c.unite.ensures c.unite.auto.y c.unite.auto.x c.unite.new.b
+    unite-adds c.args.tables.now.lent c.requires c.if-n-eq0.false c.reduce.ensures c.reduce.auto.a c.top-j.ensures c.unite.ensures c.unite.auto.y c.unite.auto.x c.unite.new.b
     c.unite.auto.b
 
 pub returns : goal.returns
 returns t c =
-    unite-is c.requires c.if-n-eq0.false c.reduce.ensures c.reduce.auto.a c.top-j.ensures c.unite.ensures c.unite.auto.y c.unite.auto.x c.unite.new.b
+    unite-is c.args.tables.now.lent c.requires c.if-n-eq0.false c.reduce.ensures c.reduce.auto.a c.top-j.ensures c.unite.ensures c.unite.auto.y c.unite.auto.x c.unite.new.b
     c.unite.auto.b c.add_product.ensures

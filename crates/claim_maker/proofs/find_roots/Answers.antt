@@ -12,6 +12,15 @@ use Rattle.claim_maker.proofs.find_roots.Goals as goal
 pub begin_lent-n-requires : goal.begin_lent-n-requires
 begin_lent-n-requires c = solve-begins c.requires.0 refl c.requires.1
 
+pub run_table-requires : goal.run_table-requires
+run_table-requires c = find_runs c.requires.0 c.begin_lent-n.ensures.0 c.begin_lent-n.ensures.1
+
+pub finish_lent-requires : goal.finish_lent-requires
+finish_lent-requires c = find-lists c.requires.0 c.begin_lent-n.ensures.0 c.begin_lent-n.ensures.1 c.run_table.ensures
+
+pub returns : goal.returns
+returns c = let h = find-fits c.requires.0 c.begin_lent-n.ensures.0 c.begin_lent-n.ensures.1 in let r = c.requires.1 in find-is c.requires.0 c.begin_lent-n.ensures.0 c.begin_lent-n.ensures.1 c.run_table.ensures _ refl (search rules) c.finish_lent.ensures.count c.finish_lent.ensures.slots
+
 pub overflow_mul-e : goal.overflow_mul-e
 overflow_mul-e c = let h = find-fits c.requires.0 c.begin_lent-n.ensures.0 c.begin_lent-n.ensures.1 in omega arith
 
@@ -20,12 +29,3 @@ slice_bounds-run_table-end c = let h = find-fits c.requires.0 c.begin_lent-n.ens
 
 pub slice_bounds-run_table-end-2 : goal.slice_bounds-run_table-end-2
 slice_bounds-run_table-end-2 c = let h = find-fits c.requires.0 c.begin_lent-n.ensures.0 c.begin_lent-n.ensures.1 in let r = c.requires.1 in sym (length-take-le _ _ (search rules))
-
-pub run_table-requires : goal.run_table-requires
-run_table-requires c = find_runs c.requires.0 c.begin_lent-n.ensures.0 c.begin_lent-n.ensures.1 refl
-
-pub finish_lent-requires : goal.finish_lent-requires
-finish_lent-requires c = find-lists c.requires.0 c.begin_lent-n.ensures.0 c.begin_lent-n.ensures.1 c.run_table.ensures
-
-pub returns : goal.returns
-returns c = let h = find-fits c.requires.0 c.begin_lent-n.ensures.0 c.begin_lent-n.ensures.1 in let r = c.requires.1 in find-is c.requires.0 c.begin_lent-n.ensures.0 c.begin_lent-n.ensures.1 c.run_table.ensures _ refl (search rules) c.finish_lent.ensures.count c.finish_lent.ensures.slots

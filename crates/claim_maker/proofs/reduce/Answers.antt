@@ -3,32 +3,20 @@
 use mathlib.Core.Path.{sym, ◌∙◌}
 use native.Mathlib.Omega.{arith}
 use lib.Seq.{length-take-le}
-use Rattle.claim_maker.proofs.Uniting.{reduce-low, reduce-inverts, reduce-rows, reduce-row, reduce-divides, reduce-scales, reduce-is}
+use Rattle.claim_maker.proofs.Uniting.{reduce-low, reduce-inverts, reduce-rows, reduce-divides, reduce-scales, reduce-is}
 use Rattle.claim_maker.proofs.reduce.Goals as goal
 
-pub inverse_by_logs-c-requires : goal.inverse_by_logs-c-requires
-inverse_by_logs-c-requires c = reduce-inverts c.requires
-
-pub slice_bounds-scaled_row-end : goal.slice_bounds-scaled_row-end
-slice_bounds-scaled_row-end c = sym (length-take-le _ _ (reduce-low c.requires))
-
-pub slice_bounds-scaled_row-end-2 : goal.slice_bounds-scaled_row-end-2
-slice_bounds-scaled_row-end-2 c = sym (length-take-le _ _ (omega (arith, c.requires.few)))
+pub inverse-c-requires : goal.inverse-c-requires
+inverse-c-requires c = reduce-inverts c.args.tables.now.lent c.requires
 
 pub scaled_row-requires : goal.scaled_row-requires
-scaled_row-requires c = (reduce-rows c.requires c.inverse_by_logs-c.ensures, length-take-le _ _ (reduce-low c.requires) ∙ sym (length-take-le _ _ (omega (arith, c.requires.few))))
-
-pub slice_bounds-row-end-2 : goal.slice_bounds-row-end-2
-slice_bounds-row-end-2 c = reduce-row c.requires c.inverse_by_logs-c.ensures c.scaled_row.ensures _
-
-pub slice_bounds-divide-end : goal.slice_bounds-divide-end
-slice_bounds-divide-end c = sym (length-take-le _ _ (reduce-row c.requires c.inverse_by_logs-c.ensures c.scaled_row.ensures _))
+scaled_row-requires c = (reduce-rows c.args.tables.now.lent c.requires c.inverse-c.ensures, length-take-le _ _ (reduce-low c.args.tables.now.lent c.requires) ∙ sym (length-take-le _ _ (omega (arith, c.requires.few))))
 
 pub divide-requires : goal.divide-requires
-divide-requires c = reduce-divides c.requires c.inverse_by_logs-c.ensures c.scaled_row.ensures _
+divide-requires c = reduce-divides c.args.tables.now.lent c.requires c.inverse-c.ensures c.scaled_row.ensures _
 
 pub scale-requires : goal.scale-requires
-scale-requires c = reduce-scales c.requires c.inverse_by_logs-c.ensures c.scaled_row.ensures _ c.divide.ensures
+scale-requires c = reduce-scales c.args.tables.now.lent c.requires c.inverse-c.ensures c.scaled_row.ensures _ c.divide.ensures
 
 pub returns : goal.returns
-returns c = reduce-is c.requires c.inverse_by_logs-c.ensures c.scaled_row.ensures _ c.divide.ensures c.scale.ensures
+returns c = reduce-is c.args.tables.now.lent c.requires c.inverse-c.ensures c.scaled_row.ensures _ c.divide.ensures c.scale.ensures

@@ -10,17 +10,11 @@ loop-k-init c = rows-from c.requires
 pub bounds-p-k : goal.bounds-p-k
 bounds-p-k c = omega (arith, c.loop-k.invariant.within)
 
-pub slice_bounds-add_row-start : goal.slice_bounds-add_row-start
-slice_bounds-add_row-start c = omega (arith, c.loop-k.invariant.within, c.loop-k.invariant.long, c.loop-k.invariant.given.room)
-
 pub add_row-requires : goal.add_row-requires
 add_row-requires c = rows-asks c.loop-k.invariant (omega arith)
 
 pub loop-k-preserved : goal.loop-k-preserved
 loop-k-preserved c = rows_on c.loop-k.invariant (omega arith) c.add_row.ensures
-
-pub shape_of-sum : goal.shape_of-sum
-shape_of-sum c = c.loop-k.invariant.long
 
 pub returns : goal.returns
 returns c = rows_end c.loop-k.invariant (omega arith)

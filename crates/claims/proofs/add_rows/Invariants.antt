@@ -4,7 +4,4 @@ use Rattle.claims.proofs.Adding.{AddingRows}
 use Rattle.claims.proofs.add_rows.Given as goal
 
 abbrev pub invariant-loop-k : goal.invariant-loop-k
-invariant-loop-k l = AddingRows l.m l.logs l.antilogs l.p l.row l.initial.sum l.sum l.k
-
-abbrev pub decreases-loop-k : goal.decreases-loop-k
-decreases-loop-k l = l.k
+invariant-loop-k l = AddingRows l.tables.degree l.p l.row l.initial.sum l.sum l.k

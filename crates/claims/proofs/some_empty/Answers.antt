@@ -1,17 +1,17 @@
--- `claims::some_empty` meets its contract: the first list that is empty, or none.
+-- `claims::some_empty` meets its contract.
 -- Assumes nothing.
-use borrow.Author.Tests.{eq-eqb, ne_eqb}
-use Rattle.claims.proofs.Asking.{found, passed, last}
+use mathlib.Core.Path.{◌∙◌}
+use mathlib.Core.List.{[], ◌∷◌}
+use borrow.Author.Tests.{tests}
+use lib.Dec.{eqb}
+use lib.ListN.{length}
+use Rattle.std.proofs.Common.{rules}
+use Rattle.std.proofs.lemmas.Iterator.{YieldsList-from_slice}
+use Rattle.std.proofs.lemmas.Iterator.Search.{any_from_yields_List}
+use Rattle.claims.proofs.Asking.{some-any}
 use Rattle.claims.proofs.some_empty.Goals as goal
 
-pub returns-then-f-eq0 : goal.returns-then-f-eq0
-returns-then-f-eq0 c = found _ _ _ (eq-eqb _ _ c.if-f-eq0.true)
-
-pub returns-then-h-eq0 : goal.returns-then-h-eq0
-returns-then-h-eq0 c = passed _ _ _ (ne_eqb _ _ c.if-f-eq0.false) (found _ _ _ (eq-eqb _ _ c.if-h-eq0.true))
-
-pub returns-then-u-eq0 : goal.returns-then-u-eq0
-returns-then-u-eq0 c = passed _ _ _ (ne_eqb _ _ c.if-f-eq0.false) (passed _ _ _ (ne_eqb _ _ c.if-h-eq0.false) (found _ _ _ (eq-eqb _ _ c.if-u-eq0.true)))
-
 pub returns : goal.returns
-returns c = passed _ _ _ (ne_eqb _ _ c.if-f-eq0.false) (passed _ _ _ (ne_eqb _ _ c.if-h-eq0.false) (passed _ _ _ (ne_eqb _ _ c.if-u-eq0.false) (last _ _)))
+returns c =
+    any_from_yields_List (λ p. eqb (length p.now) 0) _ _ _ c.any.ensures.ran (YieldsList-from_slice (c.args.f ∷ c.args.claim.now.h ∷ c.args.claim.now.u ∷ c.args.claim.now.v ∷ []) (cc)) (λ x b q k. search (rules, tests))
+    ∙ some-any (λ p. eqb (length p) 0) (c.args.f ∷ c.args.claim.now.h ∷ c.args.claim.now.u ∷ c.args.claim.now.v ∷ [])

@@ -1,32 +1,16 @@
--- `claims::some_large` meets its contract: the first list that has an element too large, or none.
+-- `claims::some_large` meets its contract.
 -- Assumes nothing.
-use mathlib.Core.Path.{◌≡◌, ap, sym, ◌∙◌}
-use mathlib.Core.Bool.{Bool, not}
-use Rattle.claims.proofs.Asking.{found, passed, last}
+use mathlib.Core.Path.{◌∙◌}
+use mathlib.Core.List.{[], ◌∷◌}
+use borrow.Author.Tests.{tests}
+use Rattle.std.proofs.Common.{rules}
+use Rattle.std.proofs.lemmas.Iterator.{YieldsList-from_slice}
+use Rattle.std.proofs.lemmas.Iterator.Search.{any_from_yields_List}
+use Rattle.slices.specs.Bounded.{any_from}
+use Rattle.claims.proofs.Asking.{some-any}
 use Rattle.claims.proofs.some_large.Goals as goal
-
--- the test of a list by the call that makes it
-asked : {a b t : Bool} → a ≡ b → a ≡ t → not b ≡ not t
-asked e h = ap not (sym e ∙ h)
-
-pub returns-then-not-all_below : goal.returns-then-not-all_below
-returns-then-not-all_below c = found _ _ _ (asked c.all_below.ensures c.if-not-all_below.true)
-
-pub returns-then-not-all_below-2 : goal.returns-then-not-all_below-2
-returns-then-not-all_below-2 c = passed _ _ _ (asked c.all_below.ensures c.if-not-all_below.false) (found _ _ _ (asked c.all_below-2.ensures c.if-not-all_below-2.true))
-
-pub returns-then-not-all_below-3 : goal.returns-then-not-all_below-3
-returns-then-not-all_below-3 c =
-    passed _ _ _ (asked c.all_below.ensures c.if-not-all_below.false) (passed _ _ _ (asked c.all_below-2.ensures c.if-not-all_below-2.false)
-    (found _ _ _ (asked c.all_below-3.ensures c.if-not-all_below-3.true)))
-
-pub returns-then-not-all_below-4 : goal.returns-then-not-all_below-4
-returns-then-not-all_below-4 c =
-    passed _ _ _ (asked c.all_below.ensures c.if-not-all_below.false) (passed _ _ _ (asked c.all_below-2.ensures c.if-not-all_below-2.false)
-    (passed _ _ _ (asked c.all_below-3.ensures c.if-not-all_below-3.false) (found _ _ _ (asked c.all_below-4.ensures c.if-not-all_below-4.true))))
 
 pub returns : goal.returns
 returns c =
-    passed _ _ _ (asked c.all_below.ensures c.if-not-all_below.false) (passed _ _ _ (asked c.all_below-2.ensures c.if-not-all_below-2.false)
-    (passed _ _ _ (asked c.all_below-3.ensures c.if-not-all_below-3.false) (passed _ _ _ (asked c.all_below-4.ensures c.if-not-all_below-4.false)
-    (ap not c.all_below-5.ensures ∙ last _ _))))
+    any_from_yields_List (λ p. any_from c.args.bound p.now) _ _ _ c.any.ensures.ran (YieldsList-from_slice (c.args.claim.now.roots ∷ c.args.f ∷ c.args.claim.now.h ∷ c.args.claim.now.u ∷ c.args.claim.now.v ∷ []) (cc)) (λ x b q k. search (rules, tests))
+    ∙ some-any (any_from c.args.bound) (c.args.claim.now.roots ∷ c.args.f ∷ c.args.claim.now.h ∷ c.args.claim.now.u ∷ c.args.claim.now.v ∷ [])

@@ -1,17 +1,19 @@
--- `claims::some_long` meets its contract: the first list that is too long, or none.
+-- `claims::some_long` meets its contract.
 -- Assumes nothing.
-use borrow.Author.Tests.{lt-ltb, le-ltb}
-use Rattle.claims.proofs.Asking.{found, passed, last}
+use mathlib.Core.Path.{◌∙◌}
+use mathlib.Core.List.{[], ◌∷◌}
+use Prim.Native.Nat.{suc}
+use borrow.Author.Tests.{tests}
+use lib.Dec.{ltb}
+use lib.ListN.{length}
+use Rattle.std.proofs.Common.{rules}
+use Rattle.std.proofs.lemmas.Iterator.{YieldsList-from_slice}
+use Rattle.std.proofs.lemmas.Iterator.Search.{any_from_yields_List}
+use Rattle.input.specs.Limit.{limit}
+use Rattle.claims.proofs.Asking.{some-any}
 use Rattle.claims.proofs.some_long.Goals as goal
 
-pub returns-then-f-gt-COEFFICIENTS : goal.returns-then-f-gt-COEFFICIENTS
-returns-then-f-gt-COEFFICIENTS c = found _ _ _ (lt-ltb _ _ c.if-f-gt-COEFFICIENTS.true)
-
-pub returns-then-h-gt-COEFFICIENTS : goal.returns-then-h-gt-COEFFICIENTS
-returns-then-h-gt-COEFFICIENTS c = passed _ _ _ (le-ltb _ _ c.if-f-gt-COEFFICIENTS.false) (found _ _ _ (lt-ltb _ _ c.if-h-gt-COEFFICIENTS.true))
-
-pub returns-then-u-gt-COEFFICIENTS : goal.returns-then-u-gt-COEFFICIENTS
-returns-then-u-gt-COEFFICIENTS c = passed _ _ _ (le-ltb _ _ c.if-f-gt-COEFFICIENTS.false) (passed _ _ _ (le-ltb _ _ c.if-h-gt-COEFFICIENTS.false) (found _ _ _ (lt-ltb _ _ c.if-u-gt-COEFFICIENTS.true)))
-
 pub returns : goal.returns
-returns c = passed _ _ _ (le-ltb _ _ c.if-f-gt-COEFFICIENTS.false) (passed _ _ _ (le-ltb _ _ c.if-h-gt-COEFFICIENTS.false) (passed _ _ _ (le-ltb _ _ c.if-u-gt-COEFFICIENTS.false) (last _ _)))
+returns c =
+    any_from_yields_List (λ p. ltb (suc limit) (length p.now)) _ _ _ c.any.ensures.ran (YieldsList-from_slice (c.args.f ∷ c.args.claim.now.h ∷ c.args.claim.now.u ∷ c.args.claim.now.v ∷ []) (cc)) (λ x b q k. search (rules, tests))
+    ∙ some-any (λ p. ltb (suc limit) (length p)) (c.args.f ∷ c.args.claim.now.h ∷ c.args.claim.now.u ∷ c.args.claim.now.v ∷ [])

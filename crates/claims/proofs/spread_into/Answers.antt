@@ -1,4 +1,4 @@
--- `claims::spread_into` meets its contract. The loop's invariant: the roots so far stand at the front.
+-- `claims::spread_into` meets its contract: the roots before this one are spread.
 -- Assumes nothing.
 use mathlib.Core.Path.{refl}
 use native.Mathlib.Omega.{arith}
@@ -15,10 +15,7 @@ pub slice_bounds-fill-end : goal.slice_bounds-fill-end
 slice_bounds-fill-end c = omega (arith, spread-fits c.loop-i.invariant c.loop-i-test.true)
 
 pub loop-i-preserved : goal.loop-i-preserved
-loop-i-preserved c = spread-on c.loop-i.invariant (omega arith) refl c.fill.ensures
-
-pub shape_of-list : goal.shape_of-list
-shape_of-list c = c.loop-i.invariant.long
+loop-i-preserved c = spread-on c.loop-i.invariant (omega arith) refl (c.fill.ensures.after (λ y e. e))
 
 pub returns : goal.returns
 returns c = spread_end c.loop-i.invariant (omega arith)

@@ -1,11 +1,7 @@
--- `corrector::flip` meets its contract.
--- Assumes nothing.
-use Prim.Native.Nat.{◌-◌}
-use Rattle.corrector.proofs.Walking.{Flipping}
+-- `corrector::flip`: the bits at the places below the index are flipped.
+use Rattle.std.proofs.Common.{◌≡◌, take}
+use Rattle.corrector.specs.Places.{flip_all}
 use Rattle.corrector.proofs.flip.Given as goal
 
-abbrev pub invariant-loop-i : goal.invariant-loop-i
-invariant-loop-i l = Flipping l.at l.initial.word l.n l.word l.i
-
-abbrev pub decreases-loop-i : goal.decreases-loop-i
-decreases-loop-i l = l.n - l.i
+abbrev pub invariant-loop-place : goal.invariant-loop-place
+invariant-loop-place l = l.word ≡ flip_all (take l.place-index l.places) l.initial.word

@@ -1,11 +1,7 @@
--- `corrector::power_sum` meets its contract.
--- Assumes nothing.
-use Prim.Native.Nat.{◌-◌}
-use Rattle.corrector.proofs.Walking.{SummingPlaces}
+-- `corrector::power_sum`: the sum over the places below the index.
+use Rattle.std.proofs.Common.{◌≡◌, take}
+use Rattle.corrector.specs.Places.{sum_at}
 use Rattle.corrector.proofs.power_sum.Given as goal
 
-abbrev pub invariant-loop-i : goal.invariant-loop-i
-invariant-loop-i l = SummingPlaces l.at l.k l.n l.sum l.i
-
-abbrev pub decreases-loop-i : goal.decreases-loop-i
-decreases-loop-i l = l.n - l.i
+abbrev pub invariant-loop-place : goal.invariant-loop-place
+invariant-loop-place l = l.sum ≡ sum_at (take l.place-index l.places) l.k

@@ -1,15 +1,10 @@
 -- `corrector::roots_of` meets its contract: each engine leaves the roots in front.
 -- Assumes nothing.
-use borrow.Author.Rules.{rules}
+use Rattle.corrector.proofs.Finding.{front-listed, front-copied}
 use Rattle.corrector.proofs.roots_of.Goals as goal
 
-pub low_roots-requires : goal.low_roots-requires
-low_roots-requires c =
-    let a = c in
-    (a.requires.0, a.requires.1, c.top-n.ensures, search rules, search rules)
-
-pub returns-then-n-le-DIRECT : goal.returns-then-n-le-DIRECT
-returns-then-n-le-DIRECT c = c.low_roots.ensures
+pub returns-in-Some : goal.returns-in-Some
+returns-in-Some c = front-listed (c.direct_roots.ensures.found _ c.in-Some.is)
 
 pub returns : goal.returns
-returns c = c.resulted_roots.ensures
+returns c = let v = c.find_in.ensures in front-copied _ v.count v.slots

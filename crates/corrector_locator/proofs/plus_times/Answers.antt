@@ -10,13 +10,13 @@ use Rattle.corrector_locator.proofs.plus_times.Goals as goal
 pub loop-i-init : goal.loop-i-init
 loop-i-init c = (omega arith, omega arith, fill-from _ _ (plus_times-long _ _ _ (omega arith)))
 
-pub product-requires : goal.product-requires
-product-requires c = let a = c in (a.requires.0, a.requires.1, a.requires.2 _)
+pub product11-requires : goal.product11-requires
+product11-requires c = (c.requires.0, c.requires.1 _)
 
 pub loop-i-preserved : goal.loop-i-preserved
 loop-i-preserved c =
     let v = c.loop-i.invariant in
-    (v.0, v.1, fill_on v.2 (omega arith) (ap₂ bit_xor (fill-next v.2 (omega arith)) c.product.ensures ∙ sym (plus_times-at _ _ _ _ (v.0 ∙ sym v.1) (omega arith))))
+    (v.0, v.1, fill_on v.2 (omega arith) (ap₂ bit_xor (fill-next v.2 (omega arith)) c.product11.ensures ∙ sym (plus_times-at _ _ _ _ (v.0 ∙ sym v.1) (omega arith))))
 
 pub returns : goal.returns
 returns c = fill_end c.loop-i.invariant.2 (omega arith)

@@ -7,16 +7,15 @@ use Rattle.corrector_locator.proofs.product_at.Goals as goal
 pub loop-i-init : goal.loop-i-init
 loop-i-init c = (omega arith, convolve-start _ _ _)
 
-pub product-d-requires : goal.product-d-requires
-product-d-requires c = let a = c in (a.requires.0, a.requires.1 _, a.requires.2 _)
+pub product11-d-requires : goal.product11-d-requires
+product11-d-requires c = (c.requires.0 _, c.requires.1 _)
 
 pub loop-i-preserved : goal.loop-i-preserved
 loop-i-preserved c =
     let v = c.loop-i.invariant in
-    (v.0, convolve-turn _ v.1 (omega arith) c.if-i-k.true c.product-d.ensures)
+    let e = c.min-i-end.ensures in
+    (v.0, convolve-turn _ v.1 (omega arith) (omega arith) c.product11-d.ensures)
 
-pub returns-else-i-k : goal.returns-else-i-k
-returns-else-i-k c = c.loop-i.invariant.1.all c.if-i-k.false
-
-pub returns-after-loop-i : goal.returns-after-loop-i
-returns-after-loop-i c = convolve-end c.loop-i.invariant.1 (omega arith)
+pub returns : goal.returns
+returns c =
+    let v = c.loop-i.invariant in let e = c.min-i-end.ensures in convolve-end v.1 (omega arith)

@@ -1,21 +1,13 @@
--- `corrector_stream::end_of` meets its contract. The loop's invariant: from byte k on there are zeros alone.
+-- `corrector_stream::end_of` meets its contract: what the last byte that is not 0 tells.
 -- Assumes nothing.
-use native.Mathlib.Omega.{arith}
-use Rattle.corrector_stream.proofs.Ends.{ending-from, ending-on, ending-found, ending-other, ending-none}
+use Rattle.corrector_stream.proofs.Ends.{ending-found, ending-other, ending-none}
 use Rattle.corrector_stream.proofs.end_of.Goals as goal
 
-pub loop-k-init : goal.loop-k-init
-loop-k-init c = ending-from _
+pub returns-in_err-k : goal.returns-in_err-k
+returns-in_err-k c = rw c.from_residual.ensures (ending-none c.in_err-k.ensures)
 
-pub returns-then-x : goal.returns-then-x
-returns-then-x c = ending-found c.loop-k.invariant (omega arith) c.if-x.true
-
-pub returns-then-x-ne0 : goal.returns-then-x-ne0
-returns-then-x-ne0 c =
-    ending-other c.loop-k.invariant (omega arith) c.if-x.false c.if-x-ne0.true
-
-pub loop-k-preserved : goal.loop-k-preserved
-loop-k-preserved c = ending-on c.loop-k.invariant (omega arith) (omega arith)
+pub returns-then-b-k : goal.returns-then-b-k
+returns-then-b-k c = ending-other _ c.in_ok-k.ensures.0 c.if-b-k.true c.in_ok-k.ensures.1
 
 pub returns : goal.returns
-returns c = ending-none c.loop-k.invariant (omega arith)
+returns c = ending-found c.in_ok-k.ensures.0 c.if-b-k.false

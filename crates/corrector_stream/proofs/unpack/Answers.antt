@@ -1,35 +1,28 @@
 -- `corrector_stream::unpack` meets its contract.
 -- Assumes nothing.
-use mathlib.Core.Path.{refl, ap}
-use Rattle.corrector.specs.Correcting.{told_corrected}
+use mathlib.Core.Path.{refl}
+use Rattle.refusals.proofs.Admitting.{passed-on}
 use Rattle.corrector.proofs.Contract.{found-codeword}
 use Rattle.corrector_stream.specs.Calls.Unpacks.{no_room, refused}
-use Rattle.corrector_stream.proofs.Holding.{cramped, roomy, corrected-as, unpacked}
+use Rattle.corrector_stream.proofs.Holding.{cramped, roomy, unpacked}
 use Rattle.corrector_stream.proofs.unpack.Goals as goal
 
-pub returns-then-room-capacity : goal.returns-then-room-capacity
-returns-then-room-capacity c = let h = cramped c.capacity.ensures c.if-room-capacity.true in no_room h.0 h.1
+pub returns-then-room-unwrap_or : goal.returns-then-room-unwrap_or
+returns-then-room-unwrap_or c =
+    let h = cramped c.capacity.ensures (rw (← c.unwrap_or.ensures) c.if-room-unwrap_or.true) in no_room h.0 h.1
 
-pub take_out-requires : goal.take_out-requires
-take_out-requires c =
-    let b = found-codeword (corrected-as c.correct.ensures (ap told_corrected c.in-Flips.is)) refl in
-    let e = c in (
-      b.1,
-      b.0,
-      roomy e.args.room.now e.capacity.ensures
-          e.if-room-capacity.false b.1,
-    )
+pub returns-in_err-flips : goal.returns-in_err-flips
+returns-in_err-flips c =
+    let o = roomy c.args.room.now c.capacity.ensures (rw (← c.unwrap_or.ensures) c.if-room-unwrap_or.false) in
+    rw (passed-on _ c.from_residual.ensures.1) (refused o c.in_err-flips.ensures)
 
-pub returns-in-NotCorrected : goal.returns-in-NotCorrected
-returns-in-NotCorrected c =
-    let k = c in
-    let a = k in
-    refused (roomy a.args.room.now a.capacity.ensures k.if-room-capacity.false)
-    (corrected-as k.correct.ensures (ap told_corrected c.in-NotCorrected.is))
+pub take_out-held-requires : goal.take_out-held-requires
+take_out-held-requires c =
+    let o = roomy c.args.room.now c.capacity.ensures (rw (← c.unwrap_or.ensures) c.if-room-unwrap_or.false) in
+    let b = found-codeword c.in_ok-flips.ensures refl in
+    (b.1, b.0, o b.1)
 
-pub returns-in-Flips : goal.returns-in-Flips
-returns-in-Flips c =
-    let a = c in
-    let e = a in
-    unpacked (roomy e.args.room.now e.capacity.ensures
-    e.if-room-capacity.false) (corrected-as c.correct.ensures (ap told_corrected c.in-Flips.is)) c.take_out.ensures
+pub returns : goal.returns
+returns c =
+    let o = roomy c.args.room.now c.capacity.ensures (rw (← c.unwrap_or.ensures) c.if-room-unwrap_or.false) in
+    unpacked o c.in_ok-flips.ensures c.take_out-held.ensures

@@ -6,7 +6,7 @@ use borrow.Author.Rules.{rules}
 use Rattle.find_multiplicities.proofs.count_each.Goals as goal
 
 pub loop-i-init : goal.loop-i-init
-loop-i-init c = counting-from c.requires
+loop-i-init c = counting-from c.args.tables.now.lent c.requires
 
 pub offset_bounds-f-at : goal.offset_bounds-f-at
 offset_bounds-f-at c = let h = c.loop-i.invariant.at_most in search rules
@@ -31,12 +31,6 @@ overflow_add-at c = let h = counting-sum c.loop-i.invariant c.take_out-e.ensures
 
 pub loop-i-preserved : goal.loop-i-preserved
 loop-i-preserved c = counting-on c.loop-i.invariant (omega arith) c.take_out-e.ensures c.take_out-e.auto.f
-
-pub shape_of-f : goal.shape_of-f
-shape_of-f c = c.loop-i.invariant.long
-
-pub shape_of-mults : goal.shape_of-mults
-shape_of-mults c = c.loop-i.invariant.filled.long
 
 pub returns : goal.returns
 returns c = counting-end c.loop-i.invariant (omega arith)

@@ -1,22 +1,15 @@
--- `find_multiplicities::fill_ones` meets its contract. The loop's invariant: the first i slots are 1.
+-- `find_multiplicities::fill_ones` meets its contract.
 -- Assumes nothing.
-use Prim.Native.Nat.{◌≤◌}
-use native.Mathlib.Omega.{arith}
-use Rattle.find_multiplicities.proofs.Ones.{ones-from, ones-on, ones-end}
-use borrow.Author.Rules.{rules}
+use mathlib.Core.Path.{sym, ap, ap₂, ◌∙◌}
+use mathlib.Core.List.{List, ◌++◌}
+use Prim.Native.Nat.{ℕ}
+use lib.ListN.{drop, replicate, length-replicate}
+use lib.Seq.{length-take-le}
+use Rattle.slices.specs.Lists.{copied}
 use Rattle.find_multiplicities.proofs.fill_ones.Goals as goal
 
-pub loop-i-init : goal.loop-i-init
-loop-i-init c = ones-from _ _ c.requires
-
-pub bounds-mults-i : goal.bounds-mults-i
-bounds-mults-i c = let h = c.loop-i.invariant.long in let l = c.requires in search rules
-
-pub loop-i-preserved : goal.loop-i-preserved
-loop-i-preserved c = ones-on c.loop-i.invariant c.requires (omega arith)
-
-pub shape_of-mults : goal.shape_of-mults
-shape_of-mults c = c.loop-i.invariant.long
-
 pub returns : goal.returns
-returns c = let h : c.args.n ≤ c.loop-i.i = omega arith in ones-end c.loop-i.invariant h
+unfolding copied
+returns c =
+    let written = c.fill.ensures.after (λ y e. e) in
+    ap₂ (λ (x : List ℕ) (k : ℕ). x ++ drop k c.args.mults.now) (written ∙ ap (λ (k : ℕ). replicate k 1) (length-take-le _ _ c.requires)) (sym (length-replicate {A = ℕ} c.args.n 1))

@@ -8,3 +8,12 @@ returns-then-n-top c = simple-written c.requires c.top.ensures c.if-n-top.true c
 
 pub returns-then-n-eq0 : goal.returns-then-n-eq0
 returns-then-n-eq0 c = none c.requires c.if-n-eq0.true
+
+pub tables_of-requires : goal.tables_of-requires
+tables_of-requires c = c.requires.polynomial.field
+
+pub multiplicities_lent-requires : goal.multiplicities_lent-requires
+multiplicities_lent-requires c = rw c.tables_of.ensures c.requires
+
+pub returns : goal.returns
+returns c = rw c.tables_of.ensures at c.multiplicities_lent.ensures

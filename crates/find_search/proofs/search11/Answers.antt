@@ -12,28 +12,16 @@ pub values11-requires : goal.values11-requires
 values11-requires c = let s = c in let h = s.requires.0.few in (s.requires.0.small, s.requires.0.some, omega arith, refl)
 
 pub loop-w-init : goal.loop-w-init
-loop-w-init c = (omega arith, tried-from 11 _ _)
+loop-w-init c = tried-from 11 _ _
 
 pub occupied11-z-requires : goal.occupied11-z-requires
 occupied11-z-requires c = omega (arith, c.values11.auto.p)
 
-pub overflow_mul-w : goal.overflow_mul-w
-overflow_mul-w c = omega arith
-
 pub note_word-k-requires : goal.note_word-k-requires
-note_word-k-requires c = let s = c in let l = c.loop-w in record { tried = tried-again l.invariant.1; digits = free-from c.values11.ensures l.w (omega arith) c.occupied11-z.ensures (search rules); room = (let e = l.invariant.1.long in let r = roots-room s.requires.0 s.requires.1 in omega arith); within = omega arith }
-
-pub overflow_add-w : goal.overflow_add-w
-overflow_add-w c = omega arith
-
-pub loop-w-smaller : goal.loop-w-smaller
-loop-w-smaller c = omega arith
+note_word-k-requires c = let s = c in let l = c.loop-w in record { tried = tried-again l.invariant; digits = free-from c.values11.ensures l.w (omega arith) c.occupied11-z.ensures (search rules); room = (let e = l.invariant.long in let r = roots-room s.requires.0 s.requires.1 in omega arith); within = omega arith }
 
 pub loop-w-preserved : goal.loop-w-preserved
-loop-w-preserved c = let l = c.loop-w in (omega arith, tried-next (tried-over l.invariant.1 c.note_word-k.ensures (omega arith)) (omega arith))
-
-pub shape_of-roots : goal.shape_of-roots
-shape_of-roots c = c.loop-w.invariant.1.long
+loop-w-preserved c = let l = c.loop-w in tried-next (tried-over l.invariant c.note_word-k.ensures (omega arith)) (omega arith)
 
 pub returns : goal.returns
-returns c = tried-end c.loop-w.invariant.1 (omega arith)
+returns c = tried-end c.loop-w.invariant (omega arith)

@@ -6,30 +6,21 @@ use Rattle.find_search.proofs.Admitting.{roots-room}
 use Rattle.find_search.proofs.try_first.Goals as goal
 
 pub loop-x-init : goal.loop-x-init
-loop-x-init c = (omega arith, tried-from _ _ _)
+loop-x-init c = tried-from _ _ _
 
 pub evaluate-v-requires : goal.evaluate-v-requires
-evaluate-v-requires c = let z = sizes c.requires.tables in (c.requires.tables, c.requires.polynomial.small, omega arith)
+evaluate-v-requires c = let z = sizes c.args.tables.now.lent in (c.requires.0.small, omega arith)
 
 pub note-k-requires : goal.note-k-requires
 note-k-requires c =
-    let z = sizes c.requires.tables in
-    let i = c.loop-x.invariant.1 in let h = i.fewer in
-    (note-room i (omega arith) c.evaluate-v.ensures (roots-room c.requires.polynomial c.requires.room), omega arith)
-
-pub overflow_add-x : goal.overflow_add-x
-overflow_add-x c = omega arith
-
-pub loop-x-smaller : goal.loop-x-smaller
-loop-x-smaller c = omega arith
+    let z = sizes c.args.tables.now.lent in
+    let i = c.loop-x.invariant in let h = i.fewer in
+    (note-room i (omega arith) c.evaluate-v.ensures (roots-room c.requires.0 c.requires.1), omega arith)
 
 pub loop-x-preserved : goal.loop-x-preserved
 loop-x-preserved c =
-    let z = sizes c.requires.tables in
-    (omega arith, tried-note c.loop-x.invariant.1 (omega arith) c.evaluate-v.ensures (roots-room c.requires.polynomial c.requires.room) c.note-k.ensures)
-
-pub shape_of-roots : goal.shape_of-roots
-shape_of-roots c = c.loop-x.invariant.1.long
+    let z = sizes c.args.tables.now.lent in
+    tried-next (tried-note c.loop-x.invariant (omega arith) c.evaluate-v.ensures (roots-room c.requires.0 c.requires.1) c.note-k.ensures) (omega arith)
 
 pub returns : goal.returns
-returns c = let i = c.loop-x.invariant.0 in tried-next c.loop-x.invariant.1 (omega arith)
+returns c = tried-next c.loop-x.invariant (omega arith)

@@ -1,18 +1,29 @@
 -- `job_lines::solved_line` meets its contract: the record is solved, and its roots and steps make the line.
 -- Assumes nothing.
+use mathlib.Core.Path.{◌≡◌, sym}
+use mathlib.Core.List.{List}
+use Prim.Native.Nat.{ℕ, ◌≤◌}
+use lib.ListN.{length, take}
+use Rattle.input.specs.Limit.{limit}
 use native.Mathlib.Omega.{arith}
+use lib.Seq.{length-take-le}
 use Rattle.job_lines.proofs.Solved.{solved-few, line-solved}
 use Rattle.job_lines.proofs.solved_line.Goals as goal
 
+-- as many roots as were found stand in the list
+found : {n : ℕ} (roots : List ℕ) → n ≤ limit → length roots ≡ limit → n ≡ length (take n roots)
+found roots h e = sym (length-take-le _ roots (omega arith))
+
+pub slice_bounds-roots-end : goal.slice_bounds-roots-end
+slice_bounds-roots-end c = omega (arith, solved-few c.args.job c.solve_job-solved.ensures c.requires, c.solve_job-solved.auto.roots)
+
+pub slice_bounds-line-end : goal.slice_bounds-line-end
+slice_bounds-line-end c = found _ (solved-few c.args.job c.solve_job-solved.ensures c.requires) c.solve_job-solved.auto.roots
+
 pub line-requires : goal.line-requires
 line-requires c =
-    let v = c in
-    let s = v in
-    let few = solved-few s.args.job v.solve_job-done.ensures s.requires.0 in
-    (omega (arith, few, v.solve_job-done.auto.roots), omega (arith, few, s.requires.1))
+    let few = solved-few c.args.job c.solve_job-solved.ensures c.requires in
+    omega (arith, few, found c.solve_job-solved.new.roots few c.solve_job-solved.auto.roots)
 
 pub returns : goal.returns
-returns c =
-    let v = c in
-    let s = v in
-    line-solved s.args.job v.solve_job-done.ensures s.args.k c.line.ensures
+returns c = line-solved c.args.job c.solve_job-solved.ensures c.args.k c.line.ensures

@@ -1,18 +1,25 @@
--- `job_lists::line_end` meets its contract: at each turn the line ends where it does from the place on.
+-- `job_lists::line_end` meets its contract.
 -- Assumes nothing.
-use mathlib.Core.Path.{refl}
-use Rattle.job_lists.proofs.Ends.{end-here, end_on, end-over}
-use borrow.Author.Rules.{rules}
+use mathlib.Core.Path.{ap, ◌∙◌}
+use mathlib.Core.Bool.{not}
+use Prim.Native.Nat.{ℕ, ◌+◌}
+use borrow.Author.Tests.{tests}
+use lib.Dec.{eqb}
+use lib.ListN.{drop}
+use Rattle.std.proofs.Common.{rules}
+use Rattle.std.proofs.lemmas.Iterator.{YieldsList-from_slice}
+use Rattle.std.proofs.lemmas.Iterator.Adapters.{YieldsList-from_skip}
+use Rattle.std.proofs.lemmas.Iterator.Consumers.{count_from_yields_List}
+use Rattle.std.proofs.lemmas.Iterator.Search.{YieldsList-from_take_while}
+use Rattle.std.proofs.lemmas.List.Folds.{length-prefix_len}
+use Rattle.job_text.specs.Lines.{line_feed}
+use Rattle.job_lists.proofs.Ends.{line-prefix}
 use Rattle.job_lists.proofs.line_end.Goals as goal
 
-pub loop-end-init : goal.loop-end-init
-loop-end-init c = refl
-
-pub returns-then-text-end-eq10 : goal.returns-then-text-end-eq10
-returns-then-text-end-eq10 c = let l = c.loop-end in end-here _ _ l.end l.invariant (search rules) c.if-text-end-eq10.true
-
-pub loop-end-preserved : goal.loop-end-preserved
-loop-end-preserved c = let l = c.loop-end in end_on _ _ l.end l.invariant (search rules) c.if-text-end-eq10.false
-
 pub returns : goal.returns
-returns c = let l = c.loop-end in end-over _ _ l.end l.invariant (search rules)
+returns c =
+    let line = drop c.args.at c.args.text.now in
+    ap (λ (n : ℕ). c.args.at + n)
+    (count_from_yields_List c.take_while.result _ c.count.ensures.ran
+    (YieldsList-from_take_while _ (λ b. not (eqb b line_feed)) (YieldsList-from_skip c.args.at (YieldsList-from_slice c.args.text.now (cc)) (ap (λ i. i.n) c.take_while.ensures.source ∙ c.skip.ensures.count)) c.take_while.ensures.closure c.take_while.ensures.done (λ x b q k. search (rules, tests)))
+    ∙ length-prefix_len (λ b. not (eqb b line_feed)) line ∙ line-prefix line)

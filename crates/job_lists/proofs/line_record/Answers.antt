@@ -3,29 +3,17 @@
 use mathlib.Core.Path.{sym, ◌∙◌}
 use native.Mathlib.Omega.{arith}
 use Rattle.job_lists.specs.Calls.Lists.{illegible}
-use Rattle.job_lists.proofs.Asking.{few-numbers, list-none, list-one, list-more}
+use Rattle.job_lists.proofs.Asking.{list-none, list-one, list-more}
 use Rattle.job_lists.proofs.line_record.Goals as goal
 
 pub returns-then-not-legible : goal.returns-then-not-legible
 returns-then-not-legible c = illegible (sym c.legible.ensures ∙ c.if-not-legible.true)
 
-pub returns-then-n-eq0 : goal.returns-then-n-eq0
-returns-then-n-eq0 c =
-    let e = c in
-    list-none (sym e.legible.ensures ∙ e.if-not-legible.false) c.numbers-n.ensures.0 c.if-n-eq0.true
+pub returns-in-empty : goal.returns-in-empty
+returns-in-empty c = list-none (sym c.legible.ensures ∙ c.if-not-legible.false) (c.as_slice.ensures.value ∙ c.numbers-list.ensures) (omega arith)
 
-pub returns-then-n-eq1 : goal.returns-then-n-eq1
-returns-then-n-eq1 c =
-    let e = c in
-    list-one (sym e.legible.ensures ∙ e.if-not-legible.false) c.numbers-n.ensures.0 c.if-n-eq1.true
+pub returns-in-len1 : goal.returns-in-len1
+returns-in-len1 c = list-one (sym c.legible.ensures ∙ c.if-not-legible.false) (c.as_slice.ensures.value ∙ c.numbers-list.ensures) (omega arith)
 
-pub slice_bounds-write-end : goal.slice_bounds-write-end
-slice_bounds-write-end c =
-    let k = c.numbers-n in
-    omega (arith, k.ensures.0, few-numbers c.args.line.now, k.auto.room)
-
-pub returns : goal.returns
-returns c =
-    let d = c in
-    let k = d.numbers-n in
-    list-more (sym d.legible.ensures ∙ d.if-not-legible.false) k.ensures.0 _ d.if-n-eq0.false d.if-n-eq1.false k.ensures.1 c.write.ensures
+pub returns-in-len2-up : goal.returns-in-len2-up
+returns-in-len2-up c = list-more {room = c.args.room.now} (sym c.legible.ensures ∙ c.if-not-legible.false) (c.as_slice.ensures.value ∙ c.numbers-list.ensures) {after = c.write.new.room} c.in-len2-up.len_at_least c.write.ensures

@@ -4,7 +4,7 @@
 use native.Mathlib.Omega.{arith}
 use native.Mathlib.Nat.{add-sub_cancel_left}
 use mathlib.Core.Path.{sym, ◌∙◌}
-use Rattle.job_records.proofs.Starting.{start-one, start-low, start-high, start-short, start-whole, stops, goes_on}
+use Rattle.job_records.proofs.Starting.{start-one, start-mark, start-short, start-whole, stops, goes_on}
 use Rattle.job_records.proofs.Judging.{judged-is}
 use Rattle.job_records.proofs.read_here.Goals as goal
 
@@ -13,20 +13,15 @@ returns-then-rest-lt2 c =
     let a = c.args in
     sym (stops a.at a.rest.now (omega arith) (start-one a.rest.now c.if-rest-lt2.true))
 
-pub returns-then-rest : goal.returns-then-rest
-returns-then-rest c =
+pub returns-then-not-starts_with : goal.returns-then-not-starts_with
+returns-then-not-starts_with c =
     let a = c.args in
-    sym (stops a.at a.rest.now (omega arith) (start-low a.rest.now (omega arith) c.if-rest.true))
-
-pub returns-then-rest-2 : goal.returns-then-rest-2
-returns-then-rest-2 c =
-    let a = c.args in
-    sym (stops a.at a.rest.now (omega arith) (start-high a.rest.now (omega arith) c.if-rest.false c.if-rest-2.true))
+    sym (stops a.at a.rest.now (omega arith) (start-mark a.rest.now (omega arith) (sym c.starts_with.ensures.value ∙ c.if-not-starts_with.true)))
 
 pub returns-then-rest-lt-HEAD : goal.returns-then-rest-lt-HEAD
 returns-then-rest-lt-HEAD c =
     let a = c.args in
-    sym (stops a.at a.rest.now (omega arith) (start-short a.rest.now (omega arith) c.if-rest.false c.if-rest-2.false (omega arith)))
+    sym (stops a.at a.rest.now (omega arith) (start-short a.rest.now (omega arith) (sym c.starts_with.ensures.value ∙ c.if-not-starts_with.false) (omega arith)))
 
 pub overflow_cast-len : goal.overflow_cast-len
 overflow_cast-len c = omega (arith, c.type_inv.rest 4)
@@ -41,7 +36,7 @@ pub returns-then-rest-all : goal.returns-then-rest-all
 returns-then-rest-all c =
     let e = c in
     let a = e.args in
-    sym (stops a.at a.rest.now (omega arith) (start-short a.rest.now (omega arith) e.if-rest.false e.if-rest-2.false c.if-rest-all.true))
+    sym (stops a.at a.rest.now (omega arith) (start-short a.rest.now (omega arith) (sym e.starts_with.ensures.value ∙ e.if-not-starts_with.false) c.if-rest-all.true))
 
 pub returns : goal.returns
 returns c =
@@ -51,4 +46,4 @@ returns c =
     let r = a.rest.now in
     judged-is a.at r c.cutoff_of.result c.admit_record.result c.answer.ensures
     c.cutoff_of.ensures (add-sub_cancel_left _ _) c.admit_record.ensures
-    ∙ sym (goes_on a.at r (omega arith) (start-whole r (omega arith) e.if-rest.false e.if-rest-2.false s.if-rest-all.false))
+    ∙ sym (goes_on a.at r (omega arith) (start-whole r (omega arith) (sym e.starts_with.ensures.value ∙ e.if-not-starts_with.false) s.if-rest-all.false))

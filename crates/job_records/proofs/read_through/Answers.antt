@@ -16,11 +16,11 @@ to : {o : Outcome} {number at next : ℕ} {values : List ℕ} → o ≡ Outcome.
 to {number = number} {values = values} e q = e ∙ ap (λ n. Outcome.gives number (n ∷ values)) (sym q)
 
 -- reading goes on behind a refused or an accepted record
-goes : (c : goal.Joined-read)
-    → (number : ℕ) × (values : List ℕ) × (read_at c.args.file.now c.loop-refusal.at ≡ Outcome.gives number (c.match-read.at ∷ values))
+goes : (c : goal.Joined-read_record)
+    → (number : ℕ) × (values : List ℕ) × (read_at c.args.file.now c.loop-refusal.at ≡ Outcome.gives number (c.match-read_record.at ∷ values))
 goes c =
-    let e = sym c.read_record-read.ensures in
-    elim c.match-read.branch [
+    let e = sym c.read_record.ensures in
+    elim c.match-read_record.branch [
       | in-Refused w ↦ (_, _, to (e ∙ ap told_read w.in-Refused.is) w.at-is)
       | in-Record w ↦ (_, _, to (e ∙ ap told_read w.in-Record.is) w.at-is)
     ]
@@ -29,12 +29,12 @@ pub loop-refusal-init : goal.loop-refusal-init
 loop-refusal-init c = halts-from _
 
 pub returns-in-End : goal.returns-in-End
-returns-in-End c = c.loop-refusal.invariant.all (over (sym c.read_record-read.ensures ∙ ap told_read c.in-End.is))
+returns-in-End c = c.loop-refusal.invariant.all (over (sym c.read_record.ensures ∙ ap told_read c.in-End.is))
 
 pub returns-in-Stopped : goal.returns-in-Stopped
 returns-in-Stopped c =
     let r = c in
-    r.loop-refusal.invariant.all (stop (sym r.read_record-read.ensures ∙ ap told_read c.in-Stopped.is) refl refl)
+    r.loop-refusal.invariant.all (stop (sym r.read_record.ensures ∙ ap told_read c.in-Stopped.is) refl refl)
 
 pub overflow_add-k : goal.overflow_add-k
 overflow_add-k c = let i = c.loop-refusal.invariant in omega (arith, i.few, i.within)

@@ -10,12 +10,12 @@ loop-start-init c = seek-from _ _
 pub returns-in-Record : goal.returns-in-Record
 returns-in-Record c =
     let r = c in
-    seek_found r.read_record-read.result c.in-Record.job r.loop-start.invariant (omega arith) r.read_record-read.ensures c.in-Record.is
+    seek_found r.read_record.result c.in-Record.job r.loop-start.invariant (omega arith) r.read_record.ensures c.in-Record.is
 
 pub loop-start-preserved : goal.loop-start-preserved
 loop-start-preserved c =
     let r = c in
-    seek-on r.read_record-read.result r.loop-start.invariant r.read_record-read.ensures c.in_default.not-Record
+    seek-on r.read_record.result r.loop-start.invariant r.read_record.ensures c.in_default.not-Record
 
 pub returns : goal.returns
 returns c = seek-end c.loop-start.invariant (omega arith)

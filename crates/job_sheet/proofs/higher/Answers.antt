@@ -1,14 +1,9 @@
 -- `job_sheet::higher` meets its contract: a case for each.
 -- Assumes nothing.
 use Rattle.std.proofs.Common.{◌*◌, ◌<◌, ◌≤◌, sym, arith, le-ltb, lt-ltb}
-use Rattle.job_sheet.specs.Calls.{told_highest}
-use Rattle.job_sheet.proofs.Better.{product-fits, better-left, better-first, better-second}
+use Rattle.job_sheet.specs.Calls.{told_peak}
+use Rattle.job_sheet.proofs.Better.{product-fits, higher-first, higher-second}
 use Rattle.job_sheet.proofs.higher.Goals as goal
-
-pub returns-then-a-eq0 : goal.returns-then-a-eq0
-returns-then-a-eq0 c =
-    let a = c.args in
-    sym (better-left (told_highest a.a) (told_highest a.b) c.if-a-eq0.true)
 
 pub crossed-requires : goal.crossed-requires
 crossed-requires c = product-fits (omega arith) (omega arith)
@@ -21,12 +16,11 @@ returns-then-crossed c =
     let a = c.args in
     let l : a.a.steps * a.b.limit < a.b.steps * a.a.limit =
     omega (arith, c.crossed-2.ensures, c.crossed.ensures) in
-    sym (better-second (told_highest a.a) (told_highest a.b) (lt-ltb _ _ l))
+    sym (higher-second (told_peak a.a) (told_peak a.b) (lt-ltb _ _ l))
 
 pub returns : goal.returns
 returns c =
     let a = c.args in
     let l : a.b.steps * a.a.limit ≤ a.a.steps * a.b.limit =
     omega (arith, c.crossed-2.ensures, c.crossed.ensures) in
-    let n = c.if-a-eq0.false in
-    sym (better-first (told_highest a.a) (told_highest a.b) (omega arith) (le-ltb _ _ l))
+    sym (higher-first (told_peak a.a) (told_peak a.b) (le-ltb _ _ l))

@@ -1,26 +1,28 @@
--- `job_sheet::place_of` meets its contract: the field's place is not before i.
+-- `job_sheet::place_of` meets its contract: a known field has a row, and its place is that of the first one.
 -- Assumes nothing.
-use Rattle.std.proofs.Common.{arith}
-use Rattle.job_sheet.proofs.Places.{place_inside, place-from, place-on, place_end}
+use Rattle.std.proofs.Common.{sym, ap, ◌∙◌, refl, eqb, rules, cond}
+use borrow.Author.Tests.{tests}
+use lib.Dec.{ltb}
+use Rattle.std.specs.Prelude.{Some, None}
+use Rattle.std.proofs.lemmas.Iterator.{YieldsList-from_slice}
+use Rattle.std.proofs.lemmas.Iterator.Search.{position_from_yields_List}
+use Rattle.std.proofs.lemmas.Option.{same_Some}
+use Rattle.field.proofs.Known.{table}
+use Rattle.job_sheet.proofs.Places.{place-first, place-found}
 use Rattle.job_sheet.proofs.place_of.Goals as goal
 
-pub loop-i-init : goal.loop-i-init
-loop-i-init c = place-from c.requires
-
-pub offset_bounds-i : goal.offset_bounds-i
-offset_bounds-i c = omega (arith, place_inside c.loop-i.invariant)
-
-pub bounds-i : goal.bounds-i
-bounds-i c = place_inside c.loop-i.invariant
-
-pub overflow_add-i : goal.overflow_add-i
-overflow_add-i c = omega (arith, place_inside c.loop-i.invariant)
-
-pub loop-i-smaller : goal.loop-i-smaller
-loop-i-smaller c = omega (arith, place_inside c.loop-i.invariant)
-
-pub loop-i-preserved : goal.loop-i-preserved
-loop-i-preserved c = place-on c.loop-i.invariant c.loop-i-test.true
+pub unwrap-requires : goal.unwrap-requires
+unwrap-requires c =
+    let found =
+    place-found c.args.m c.requires
+    (position_from_yields_List (λ row. eqb row.degree c.args.m) _ _ _ c.position.ensures.ran (YieldsList-from_slice table (cc)) (λ x b q k. search (rules, tests))
+    ∙ ap (λ n. cond (ltb n 3) (Some n) None) (place-first c.args.m)) in
+    rw found refl
 
 pub returns : goal.returns
-returns c = place_end c.loop-i.invariant c.loop-i-test.false
+returns c =
+    let found =
+    place-found c.args.m c.requires
+    (position_from_yields_List (λ row. eqb row.degree c.args.m) _ _ _ c.position.ensures.ran (YieldsList-from_slice table (cc)) (λ x b q k. search (rules, tests))
+    ∙ ap (λ n. cond (ltb n 3) (Some n) None) (place-first c.args.m)) in
+    same_Some _ _ (sym c.unwrap.ensures ∙ found)

@@ -1,6 +1,6 @@
 -- `job_sheet::sheet_of` meets its contract: at each turn the lines tell the figures of the entries before the place.
 -- Assumes nothing.
-use Rattle.std.proofs.Common.{◌≡◌, ℕ, true, List, [], ◌∷◌, drop, sym, ap, ◌∙◌, arith}
+use Rattle.std.proofs.Common.{◌≡◌, ℕ, true, List, [], ◌∷◌, drop, refl, sym, ap, ◌∙◌, arith}
 use Rattle.refusals.specs.Numbers.{number_of}
 use Rattle.job_records.specs.Reading.{Outcome, told_read, read_at, ReadsAt}
 use Rattle.job_records.specs.Layout.{degree_byte}
@@ -52,7 +52,7 @@ returns-in-End c = sheet-over c.loop-lines.invariant c.ended.ensures (over-read 
 
 pub returns-in-Stopped : goal.returns-in-Stopped
 returns-in-Stopped c =
-    sheet-stop c.loop-lines.invariant c.ended-in-Stopped.ensures c.number.ensures (stop-read c.args.file.now c.loop-lines.at c.read_record-read.ensures c.in-Stopped.is)
+    sheet-stop c.loop-lines.invariant c.ended-in-Stopped.ensures refl (stop-read c.args.file.now c.loop-lines.at c.read_record-read.ensures c.in-Stopped.is)
 
 pub overflow_add-unknown : goal.overflow_add-unknown
 overflow_add-unknown c =
@@ -63,37 +63,37 @@ pub degree_byte-requires : goal.degree_byte-requires
 degree_byte-requires c = let o = read-on c.args.file.now c.loop-lines.at (refused-read c.args.file.now c.loop-lines.at c.read_record-read.ensures c.in-Refused.is) in omega (arith, o.ahead, o.within)
 
 pub place_of-i-requires : goal.place_of-i-requires
-place_of-i-requires c = (its-field c.args.file.now c.loop-lines.at (refused-read c.args.file.now c.loop-lines.at c.read_record-read.ensures c.in-Refused.is) (λ e. c.if-number-eq1.false (c.number-number.ensures ∙ e)) c.degree_byte.ensures)
+place_of-i-requires c = (its-field c.args.file.now c.loop-lines.at (refused-read c.args.file.now c.loop-lines.at c.read_record-read.ensures c.in-Refused.is) (λ e. c.if-number-eq1.false (c.from-number.ensures ∙ e)) c.degree_byte.ensures)
 
 pub offset_bounds-lines-i : goal.offset_bounds-lines-i
-offset_bounds-lines-i c = omega (arith, place-below c.degree_byte.result (its-field c.args.file.now c.loop-lines.at (refused-read c.args.file.now c.loop-lines.at c.read_record-read.ensures c.in-Refused.is) (λ e. c.if-number-eq1.false (c.number-number.ensures ∙ e)) c.degree_byte.ensures) c.place_of-i.ensures)
+offset_bounds-lines-i c = omega (arith, place-below c.degree_byte.result (its-field c.args.file.now c.loop-lines.at (refused-read c.args.file.now c.loop-lines.at c.read_record-read.ensures c.in-Refused.is) (λ e. c.if-number-eq1.false (c.from-number.ensures ∙ e)) c.degree_byte.ensures) c.place_of-i.ensures)
 
 pub bounds-lines-i : goal.bounds-lines-i
-bounds-lines-i c = place-below c.degree_byte.result (its-field c.args.file.now c.loop-lines.at (refused-read c.args.file.now c.loop-lines.at c.read_record-read.ensures c.in-Refused.is) (λ e. c.if-number-eq1.false (c.number-number.ensures ∙ e)) c.degree_byte.ensures) c.place_of-i.ensures
+bounds-lines-i c = place-below c.degree_byte.result (its-field c.args.file.now c.loop-lines.at (refused-read c.args.file.now c.loop-lines.at c.read_record-read.ensures c.in-Refused.is) (λ e. c.if-number-eq1.false (c.from-number.ensures ∙ e)) c.degree_byte.ensures) c.place_of-i.ensures
 
 pub with_refused-requires : goal.with_refused-requires
 with_refused-requires c =
-    refusal-room c.loop-lines.invariant (refused-read c.args.file.now c.loop-lines.at c.read_record-read.ensures c.in-Refused.is) (λ e. c.if-number-eq1.false (c.number-number.ensures ∙ e)) c.degree_byte.ensures c.place_of-i.ensures no_line c.number-number.ensures (omega arith)
+    refusal-room c.loop-lines.invariant (refused-read c.args.file.now c.loop-lines.at c.read_record-read.ensures c.in-Refused.is) (λ e. c.if-number-eq1.false (c.from-number.ensures ∙ e)) c.degree_byte.ensures c.place_of-i.ensures no_line c.from-number.ensures (omega arith)
 
 pub offset_bounds-lines-i-else-number-eq1 : goal.offset_bounds-lines-i-else-number-eq1
-offset_bounds-lines-i-else-number-eq1 c = omega (arith, place-below c.degree_byte.result (its-field c.args.file.now c.loop-lines.at (refused-read c.args.file.now c.loop-lines.at c.read_record-read.ensures c.in-Refused.is) (λ e. c.if-number-eq1.false (c.number-number.ensures ∙ e)) c.degree_byte.ensures) c.place_of-i.ensures)
+offset_bounds-lines-i-else-number-eq1 c = omega (arith, place-below c.degree_byte.result (its-field c.args.file.now c.loop-lines.at (refused-read c.args.file.now c.loop-lines.at c.read_record-read.ensures c.in-Refused.is) (λ e. c.if-number-eq1.false (c.from-number.ensures ∙ e)) c.degree_byte.ensures) c.place_of-i.ensures)
 
 pub bounds-lines-i-else-number-eq1 : goal.bounds-lines-i-else-number-eq1
-bounds-lines-i-else-number-eq1 c = place-below c.degree_byte.result (its-field c.args.file.now c.loop-lines.at (refused-read c.args.file.now c.loop-lines.at c.read_record-read.ensures c.in-Refused.is) (λ e. c.if-number-eq1.false (c.number-number.ensures ∙ e)) c.degree_byte.ensures) c.place_of-i.ensures
+bounds-lines-i-else-number-eq1 c = place-below c.degree_byte.result (its-field c.args.file.now c.loop-lines.at (refused-read c.args.file.now c.loop-lines.at c.read_record-read.ensures c.in-Refused.is) (λ e. c.if-number-eq1.false (c.from-number.ensures ∙ e)) c.degree_byte.ensures) c.place_of-i.ensures
 
 pub loop-lines-smaller-then-number-eq1 : goal.loop-lines-smaller-then-number-eq1
 loop-lines-smaller-then-number-eq1 c = let o = read-on c.args.file.now c.loop-lines.at (refused-read c.args.file.now c.loop-lines.at c.read_record-read.ensures c.in-Refused.is) in omega (arith, o.ahead, o.within)
 
 pub loop-lines-preserved-then-number-eq1 : goal.loop-lines-preserved-then-number-eq1
 loop-lines-preserved-then-number-eq1 c =
-    sheet-unknown c.loop-lines.invariant (refused-read c.args.file.now c.loop-lines.at c.read_record-read.ensures c.in-Refused.is) (sym c.number-number.ensures ∙ c.if-number-eq1.true)
+    sheet-unknown c.loop-lines.invariant (refused-read c.args.file.now c.loop-lines.at c.read_record-read.ensures c.in-Refused.is) (sym c.from-number.ensures ∙ c.if-number-eq1.true)
 
 pub loop-lines-smaller-else-number-eq1 : goal.loop-lines-smaller-else-number-eq1
 loop-lines-smaller-else-number-eq1 c = let o = read-on c.args.file.now c.loop-lines.at (refused-read c.args.file.now c.loop-lines.at c.read_record-read.ensures c.in-Refused.is) in omega (arith, o.ahead, o.within)
 
 pub loop-lines-preserved-else-number-eq1 : goal.loop-lines-preserved-else-number-eq1
 loop-lines-preserved-else-number-eq1 c =
-    sheet-refused c.loop-lines.invariant (refused-read c.args.file.now c.loop-lines.at c.read_record-read.ensures c.in-Refused.is) (λ e. c.if-number-eq1.false (c.number-number.ensures ∙ e)) c.degree_byte.ensures c.place_of-i.ensures no_line c.with_refused.result c.number-number.ensures c.with_refused.ensures
+    sheet-refused c.loop-lines.invariant (refused-read c.args.file.now c.loop-lines.at c.read_record-read.ensures c.in-Refused.is) (λ e. c.if-number-eq1.false (c.from-number.ensures ∙ e)) c.degree_byte.ensures c.place_of-i.ensures no_line c.with_refused.result c.from-number.ensures c.with_refused.ensures
 
 pub place_of-i-requires-in-Record : goal.place_of-i-requires-in-Record
 place_of-i-requires-in-Record c = (accepted-known c.args.file.now c.loop-lines.at c.in-Record.job (accepted-read c.args.file.now c.loop-lines.at c.read_record-read.ensures c.in-Record.is))
@@ -109,7 +109,7 @@ count_job-requires c = stands c.args.file.now c.loop-lines.at c.in-Record.job (a
 
 pub with_accepted-requires : goal.with_accepted-requires
 with_accepted-requires c =
-    record-room c.loop-lines.invariant c.in-Record.job (accepted-read c.args.file.now c.loop-lines.at c.read_record-read.ensures c.in-Record.is) c.count_job.ensures c.place_of-i-in-Record.ensures no_line (omega arith)
+    record-room c.loop-lines.invariant c.in-Record.job (accepted-read c.args.file.now c.loop-lines.at c.read_record-read.ensures c.in-Record.is) c.count_job.ensures c.place_of-i-in-Record.ensures no_line (omega arith) (omega arith)
 
 pub offset_bounds-lines-i-in-Record-2 : goal.offset_bounds-lines-i-in-Record-2
 offset_bounds-lines-i-in-Record-2 c = omega (arith, place-below c.in-Record.job.m (accepted-known c.args.file.now c.loop-lines.at c.in-Record.job (accepted-read c.args.file.now c.loop-lines.at c.read_record-read.ensures c.in-Record.is)) c.place_of-i-in-Record.ensures)

@@ -1,17 +1,13 @@
--- `job_writer::ascending` meets its contract: at each turn the answer of all is the answer of what lies ahead.
+-- `job_writer::ascending` meets its contract: each is asked with the next.
 -- Assumes nothing.
-use native.Mathlib.Omega.{arith}
-use Rattle.job_writer.proofs.Turns.{climb-from, climb-on, climb-stop, climb-end}
+use lib.Dec.{ltb}
+use borrow.Author.Rules.{rules}
+use borrow.Author.Tests.{tests}
+use Rattle.std.proofs.lemmas.List.Sorted.{answers_always}
+use Rattle.job_writer.proofs.Turns.{sorted-ascends}
 use Rattle.job_writer.proofs.ascending.Goals as goal
 
-pub loop-i-init : goal.loop-i-init
-loop-i-init c = climb-from _
-
-pub returns-then-roots-next : goal.returns-then-roots-next
-returns-then-roots-next c = climb-stop c.loop-i.invariant (omega arith) (omega arith)
-
-pub loop-i-preserved : goal.loop-i-preserved
-loop-i-preserved c = climb-on c.loop-i.invariant (omega arith) (omega arith)
-
 pub returns : goal.returns
-returns c = climb-end c.loop-i.invariant (omega arith)
+returns c =
+    sorted-ascends c.args.roots.now c.is_sorted_by.result
+    (c.is_sorted_by.ensures.cases ltb (answers_always _ _ _ (λ f a r f' q. search (rules, tests))))

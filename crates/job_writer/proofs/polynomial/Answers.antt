@@ -1,18 +1,11 @@
 -- `job_writer::polynomial` meets its contract: at most one root is stored at once.
 -- Assumes nothing.
 use native.Mathlib.Omega.{arith}
-use lib.ListN.{length-set}
 use Rattle.job_writer.proofs.Expanding.{expanded-none, expanded-one}
 use Rattle.job_writer.proofs.polynomial.Goals as goal
 
-pub returns-then-roots-eq0 : goal.returns-then-roots-eq0
-returns-then-roots-eq0 c = expanded-none _ _ c.requires c.if-roots-eq0.true
+pub returns-in-empty : goal.returns-in-empty
+returns-in-empty c = expanded-none _ _ c.requires (omega (arith, c.in-empty.len_below))
 
-pub bounds-f-1 : goal.bounds-f-1
-bounds-f-1 c =
-    let h = c.requires.room in
-    let e = c.if-roots-eq1.true in
-    simp length-set (omega arith)
-
-pub returns-then-roots-eq1 : goal.returns-then-roots-eq1
-returns-then-roots-eq1 c = expanded-one _ _ c.requires c.if-roots-eq1.true
+pub returns-in-len1 : goal.returns-in-len1
+returns-in-len1 c = expanded-one _ _ c.requires (omega (arith, c.in-len1.len_below, c.in-len1.len_at_least)) c.copy_from_slice.ensures.after

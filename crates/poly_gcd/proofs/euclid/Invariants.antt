@@ -4,7 +4,7 @@ use Rattle.poly_gcd.proofs.EuclidLoops.{Looping}
 use Rattle.poly_gcd.proofs.euclid.Given as goal
 
 abbrev pub invariant-loop-row : goal.invariant-loop-row
-invariant-loop-row l = Looping l.m l.logs l.antilogs l.initial.row l.initial.a l.n-2 l.initial.b l.k-2 l.row l.a l.b l.n l.k
+invariant-loop-row l = Looping l.tables.degree l.tables.logs.now l.tables.antilogs.now l.initial.row l.initial.a l.fn.n l.initial.b l.fn.k l.row l.a l.b l.n l.k
 
 abbrev pub decreases-loop-row : goal.decreases-loop-row
 decreases-loop-row l = l.n

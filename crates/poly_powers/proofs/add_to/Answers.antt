@@ -10,8 +10,5 @@ loop-i-init c = sum-from _ _ _ c.requires
 pub loop-i-preserved : goal.loop-i-preserved
 loop-i-preserved c = sum-on c.loop-i.invariant (omega arith)
 
-pub shape_of-sum : goal.shape_of-sum
-shape_of-sum c = c.loop-i.invariant.filling.long
-
 pub returns : goal.returns
 returns c = sum-end c.loop-i.invariant (omega arith)

@@ -7,10 +7,10 @@ use borrow.Author.Rules.{rules}
 use Rattle.poly_small.proofs.small_roots.Goals as goal
 
 pub returns-then-p-lt3 : goal.returns-then-p-lt3
-returns-then-p-lt3 c = front_out c.args.p.now c.requires.tables.degree c.requires.small refl c.low_roots.ensures
+returns-then-p-lt3 c = front_out c.args.p.now c.args.tables.now.lent.degree c.requires.small refl c.low_roots.ensures
 
-pub returns-then-guessed_roots : goal.returns-then-guessed_roots
-returns-then-guessed_roots c = guess-out c.requires c.if-p-lt3.false c.guessed_roots.ensures c.if-guessed_roots.true
+pub returns-in-Some : goal.returns-in-Some
+returns-in-Some c = guess-out c.args.tables.now.lent c.requires c.if-p-lt3.false c.in-Some.ensures
 
 pub cubic_roots-requires : goal.cubic_roots-requires
-cubic_roots-requires c = guess-not c.requires c.if-p-lt3.false (search rules)
+cubic_roots-requires c = guess-not c.args.tables.now.lent c.requires c.if-p-lt3.false (search rules)

@@ -6,7 +6,7 @@ use native.Mathlib.Numerals.{add-one}
 use native.Mathlib.Omega.{arith}
 use Prim.Native.Nat.{ℕ}
 use lib.Bits.{bit_and, bit_xor}
-use lib.ListN.{get_or, take, set, length-set, length-map}
+use lib.ListN.{get_or, take, set, length-map}
 use lib.Seq.{take_all}
 use Rattle.poly_values.specs.Planes.{sum}
 use Rattle.poly_values.proofs.Products.{map-word, row-turn}
@@ -14,36 +14,15 @@ use Rattle.poly_values.proofs.add_masked.Goals as goal
 
 pub loop-j-init : goal.loop-j-init
 unfolding sum
-loop-j-init c = (omega arith, refl, refl)
-
-pub bounds-b-j : goal.bounds-b-j
-bounds-b-j c = omega arith
-
-pub bounds-t-j : goal.bounds-t-j
-bounds-t-j c = let e = c.loop-j.invariant.1 in omega arith
-
-pub bounds-t-j-in-loop-j : goal.bounds-t-j-in-loop-j
-bounds-t-j-in-loop-j c = let e = c.loop-j.invariant.1 in omega arith
-
-pub overflow_add-j : goal.overflow_add-j
-overflow_add-j c = omega arith
-
-pub loop-j-smaller : goal.loop-j-smaller
-loop-j-smaller c = omega arith
+loop-j-init c = refl
 
 pub loop-j-preserved : goal.loop-j-preserved
-loop-j-preserved c = let l = c.loop-j in let s = c in let u = map (bit_and s.args.w) s.args.b in (
-  omega arith,
-  simp length-set l.invariant.1,
-  ap (λ (x : List ℕ). set x l.j (bit_xor (bit_and s.args.w (get_or s.args.b l.j 0)) (get_or x l.j 0))) l.invariant.2
-      ∙ ap (λ (e : ℕ). set (sum (take l.j u) s.args.t.now) l.j (bit_xor e (get_or (sum (take l.j u) s.args.t.now) l.j 0))) (sym (map-word s.args.w s.args.b l.j (omega arith)))
-      ∙ row-turn u s.args.t.now l.j (omega (arith, length-map s.args.b (bit_and s.args.w))) (omega arith)
-      ∙ ap (λ (n : ℕ). sum (take n u) s.args.t.now) (sym (add-one l.j)),
-)
-
-pub shape_of-t : goal.shape_of-t
-shape_of-t c = c.loop-j.invariant.1
+loop-j-preserved c = let l = c.loop-j in let s = c in let u = map (bit_and s.args.w) s.args.b in
+    ap (λ (x : List ℕ). set x l.j (bit_xor (bit_and s.args.w (get_or s.args.b l.j 0)) (get_or x l.j 0))) l.invariant
+    ∙ ap (λ (e : ℕ). set (sum (take l.j u) s.args.t.now) l.j (bit_xor e (get_or (sum (take l.j u) s.args.t.now) l.j 0))) (sym (map-word s.args.w s.args.b l.j (omega arith)))
+    ∙ row-turn u s.args.t.now l.j (omega (arith, length-map s.args.b (bit_and s.args.w))) (omega arith)
+    ∙ ap (λ (n : ℕ). sum (take n u) s.args.t.now) (sym (add-one l.j))
 
 pub returns : goal.returns
 returns c = let l = c.loop-j in let s = c in let u = map (bit_and s.args.w) s.args.b in let done : l.j ≡ 11 = omega arith in
-    l.invariant.2 ∙ ap (λ (n : ℕ). sum (take n u) s.args.t.now) done ∙ ap (λ (x : List ℕ). sum x s.args.t.now) (take_all 11 u (omega (arith, length-map s.args.b (bit_and s.args.w))))
+    l.invariant ∙ ap (λ (n : ℕ). sum (take n u) s.args.t.now) done ∙ ap (λ (x : List ℕ). sum x s.args.t.now) (take_all 11 u (omega (arith, length-map s.args.b (bit_and s.args.w))))

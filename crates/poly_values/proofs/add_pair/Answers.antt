@@ -6,7 +6,7 @@ use native.Mathlib.Numerals.{add-one}
 use native.Mathlib.Omega.{arith}
 use Prim.Native.Nat.{ℕ, ◌+◌}
 use lib.Bits.{bit_and, bit_xor}
-use lib.ListN.{get_or, take, set, length-set}
+use lib.ListN.{get_or, take, set}
 use Rattle.poly_values.specs.Planes.{sum, pair_words}
 use Rattle.poly_values.proofs.Lists.{length-tabulate, get_d_tabulate}
 use Rattle.poly_values.proofs.Products.{row-turn}
@@ -14,47 +14,20 @@ use Rattle.poly_values.proofs.add_pair.Goals as goal
 
 pub loop-j-init : goal.loop-j-init
 unfolding sum
-loop-j-init c = (omega arith, refl, refl)
-
-pub overflow_add-t : goal.overflow_add-t
-overflow_add-t c = omega arith
-
-pub bounds-b-j : goal.bounds-b-j
-bounds-b-j c = omega arith
-
-pub bounds-b-j-in-loop-j : goal.bounds-b-j-in-loop-j
-bounds-b-j-in-loop-j c = omega arith
-
-pub bounds-t-j : goal.bounds-t-j
-bounds-t-j c = let e = c.loop-j.invariant.1 in omega arith
-
-pub bounds-t-j-in-loop-j : goal.bounds-t-j-in-loop-j
-bounds-t-j-in-loop-j c = let e = c.loop-j.invariant.1 in omega arith
-
-pub overflow_add-j : goal.overflow_add-j
-overflow_add-j c = omega arith
-
-pub loop-j-smaller : goal.loop-j-smaller
-loop-j-smaller c = omega arith
+loop-j-init c = refl
 
 pub loop-j-preserved : goal.loop-j-preserved
 loop-j-preserved c = let l = c.loop-j in
     let s = c in
     let at : ℕ → ℕ = λ k. bit_xor (bit_and s.args.v (get_or s.args.b (k + 1) 0)) (bit_and s.args.w (get_or s.args.b k 0)) in
-    let u = pair_words 12 s.args.v s.args.w s.args.b in (
-      omega arith,
-      simp length-set l.invariant.1,
-      ap (λ (x : List ℕ). set x l.j (bit_xor (at l.j) (get_or x l.j 0))) l.invariant.2
-          ∙ ap (λ (e : ℕ). set (sum (take l.j u) s.args.t.now) l.j (bit_xor e (get_or (sum (take l.j u) s.args.t.now) l.j 0))) (sym (get_d_tabulate 12 at l.j (omega arith)))
-          ∙ row-turn u s.args.t.now l.j (omega (arith, length-tabulate 12 at)) (omega arith)
-          ∙ ap (λ (n : ℕ). sum (take n u) s.args.t.now) (sym (add-one l.j)),
-    )
-
-pub shape_of-t : goal.shape_of-t
-shape_of-t c = c.loop-j.invariant.1
+    let u = pair_words 12 s.args.v s.args.w s.args.b in
+    ap (λ (x : List ℕ). set x l.j (bit_xor (at l.j) (get_or x l.j 0))) l.invariant
+    ∙ ap (λ (e : ℕ). set (sum (take l.j u) s.args.t.now) l.j (bit_xor e (get_or (sum (take l.j u) s.args.t.now) l.j 0))) (sym (get_d_tabulate 12 at l.j (omega arith)))
+    ∙ row-turn u s.args.t.now l.j (omega (arith, length-tabulate 12 at)) (omega arith)
+    ∙ ap (λ (n : ℕ). sum (take n u) s.args.t.now) (sym (add-one l.j))
 
 pub returns : goal.returns
 returns c = let l = c.loop-j in
     let s = c in
     let done : l.j ≡ 12 = omega arith in
-    l.invariant.2 ∙ ap (λ (n : ℕ). sum (take n (pair_words 12 s.args.v s.args.w s.args.b)) s.args.t.now) done
+    l.invariant ∙ ap (λ (n : ℕ). sum (take n (pair_words 12 s.args.v s.args.w s.args.b)) s.args.t.now) done

@@ -1,13 +1,9 @@
 -- `poly_values::add_pair` meets its contract: j words are added.
 -- Assumes nothing.
 use mathlib.Core.Path.{◌≡◌}
-use Prim.Native.Nat.{◌-◌, ◌≤◌}
-use lib.ListN.{length, take}
+use lib.ListN.{take}
 use Rattle.poly_values.specs.Planes.{sum, pair_words}
 use Rattle.poly_values.proofs.add_pair.Given as goal
 
 abbrev pub invariant-loop-j : goal.invariant-loop-j
-invariant-loop-j l = (l.j ≤ 12) × (length l.t ≡ length l.initial.t) × (l.t ≡ sum (take l.j (pair_words 12 l.v l.w l.b)) l.initial.t)
-
-abbrev pub decreases-loop-j : goal.decreases-loop-j
-decreases-loop-j l = 12 - l.j
+invariant-loop-j l = l.t ≡ sum (take l.j (pair_words 12 l.v l.w l.b)) l.initial.t

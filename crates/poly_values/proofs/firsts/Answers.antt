@@ -10,45 +10,24 @@ use Rattle.poly_values.proofs.Starting.{firsts-from, firsts-turn}
 use Rattle.poly_values.proofs.firsts.Goals as goal
 
 pub loop-w-init : goal.loop-w-init
-loop-w-init c = (omega arith, firsts-from taps11 _ _ _ _)
-
-pub bounds-a-w : goal.bounds-a-w
-bounds-a-w c = omega arith
-
-pub overflow_add-h : goal.overflow_add-h
-overflow_add-h c = omega arith
-
-pub bounds-a-h : goal.bounds-a-h
-bounds-a-h c = omega arith
-
-pub overflow_add-h-in-loop-w : goal.overflow_add-h-in-loop-w
-overflow_add-h-in-loop-w c = omega arith
+loop-w-init c = firsts-from taps11 _ _ _ _
 
 pub first-requires : goal.first-requires
 first-requires c =
     let s = c in
     let l = c.loop-w in
-    let n = l.invariant.1.long in
+    let n = l.invariant.long in
     (below_at _ s.args.a.now s.requires.0 l.w (omega arith), below_at _ s.args.a.now s.requires.0 (s.args.h + l.w) (omega arith), omega arith, omega arith)
-
-pub overflow_add-w : goal.overflow_add-w
-overflow_add-w c = omega arith
-
-pub loop-w-smaller : goal.loop-w-smaller
-loop-w-smaller c = omega arith
 
 pub loop-w-preserved : goal.loop-w-preserved
 loop-w-preserved c =
     let s = c in
     let l = c.loop-w in
-    (omega arith, firsts-turn taps11 s.args.e s.args.a.now s.args.h (omega arith) l.invariant.1 c.first.ensures (add-one l.w))
-
-pub shape_of-p : goal.shape_of-p
-shape_of-p c = c.loop-w.invariant.1.long
+    firsts-turn taps11 s.args.e s.args.a.now s.args.h (omega arith) l.invariant c.first.ensures (add-one l.w)
 
 pub returns : goal.returns
 returns c =
     let s = c in
     let l = c.loop-w in
     let done : l.w ≡ s.args.h = omega arith in
-    subst (λ (n : ℕ). Firsts taps11 s.args.e s.args.a.now s.args.h n s.args.p.now l.p) done l.invariant.1
+    subst (λ (n : ℕ). Firsts taps11 s.args.e s.args.a.now s.args.h n s.args.p.now l.p) done l.invariant

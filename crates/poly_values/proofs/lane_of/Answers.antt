@@ -22,25 +22,16 @@ small v l {i} {r} n h e =
 
 pub loop-i-init : goal.loop-i-init
 unfolding lane
-loop-i-init c = (omega arith, sym (ap (lane c.args.l) (drop_of_length-le c.args.v {i = 11} (omega arith))))
-
-pub overflow_sub-i : goal.overflow_sub-i
-overflow_sub-i c = omega arith
+loop-i-init c = sym (ap (lane c.args.l) (drop_of_length-le c.args.v {i = 11} (omega arith)))
 
 pub overflow_mul-r : goal.overflow_mul-r
-overflow_mul-r c = let h = small c.args.v c.args.l {i = c.loop-i.i} (omega arith) (omega arith) c.loop-i.invariant.1 in search rules
-
-pub bounds-v-i : goal.bounds-v-i
-bounds-v-i c = omega arith
+overflow_mul-r c = let h = small c.args.v c.args.l {i = c.loop-i.i} (omega arith) (omega arith) c.loop-i.invariant in search rules
 
 pub overflow_add-r : goal.overflow_add-r
-overflow_add-r c = let h = small c.args.v c.args.l {i = c.loop-i.i} (omega arith) (omega arith) c.loop-i.invariant.1 in search rules
-
-pub loop-i-smaller : goal.loop-i-smaller
-loop-i-smaller c = omega arith
+overflow_add-r c = let h = small c.args.v c.args.l {i = c.loop-i.i} (omega arith) (omega arith) c.loop-i.invariant in search rules
 
 pub loop-i-preserved : goal.loop-i-preserved
-loop-i-preserved c = let e : c.loop-i.i ≡ suc (c.loop-i.i - 1) = omega arith in (omega arith, lane-turn c.args.v c.args.l e (omega arith) c.loop-i.invariant.1)
+loop-i-preserved c = let e : c.loop-i.i ≡ suc (c.loop-i.i - 1) = omega arith in lane-turn c.args.v c.args.l e (omega arith) c.loop-i.invariant
 
 pub returns : goal.returns
-returns c = let done : c.loop-i.i ≡ 0 = omega arith in c.loop-i.invariant.1 ∙ ap (λ (n : ℕ). lane c.args.l (drop n c.args.v)) done
+returns c = let done : c.loop-i.i ≡ 0 = omega arith in c.loop-i.invariant ∙ ap (λ (n : ℕ). lane c.args.l (drop n c.args.v)) done

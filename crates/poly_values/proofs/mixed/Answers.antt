@@ -10,32 +10,17 @@ use Rattle.poly_values.proofs.Scalars.{digits11, mixed-from, mixed-turn}
 use Rattle.poly_values.proofs.mixed.Goals as goal
 
 pub loop-j-init : goal.loop-j-init
-loop-j-init c = (omega arith, mixed-from taps11 digits11 c.args.f.now c.args.g.now refl)
-
-pub overflow_sub-j : goal.overflow_sub-j
-overflow_sub-j c = omega arith
-
-pub overflow_mul-j : goal.overflow_mul-j
-overflow_mul-j c = omega arith
-
-pub vector-t-requires : goal.vector-t-requires
-vector-t-requires c = omega arith
-
-pub bounds-f-j : goal.bounds-f-j
-bounds-f-j c = omega arith
+loop-j-init c = mixed-from taps11 digits11 c.args.f.now c.args.g.now refl
 
 pub multiple_by_table-m-requires : goal.multiple_by_table-m-requires
 multiple_by_table-m-requires c = below_at _ c.args.f.now c.requires.0 (c.loop-j.j - 1) (omega arith)
 
-pub loop-j-smaller : goal.loop-j-smaller
-loop-j-smaller c = omega arith
-
 pub loop-j-preserved : goal.loop-j-preserved
-loop-j-preserved c = let l = c.loop-j in let e : l.j ≡ suc (l.j - 1) = omega arith in (omega arith, mixed-turn taps11 digits11 c.args.f.now c.args.g.now e (omega arith) l.invariant.1 c.vector-t.ensures c.multiple_by_table-m.ensures c.sum-next.ensures)
+loop-j-preserved c = let l = c.loop-j in let e : l.j ≡ suc (l.j - 1) = omega arith in mixed-turn taps11 digits11 c.args.f.now c.args.g.now e (omega arith) l.invariant c.vector-t.ensures c.multiple_by_table-m.ensures c.sum-next.ensures
 
 pub returns : goal.returns
 returns c =
     let l = c.loop-j in
     let a = c.args in
     let done : l.j ≡ 0 = omega arith in
-    subst (λ (n : ℕ). Mixed taps11 (drop n a.f.now) (drop (n * 11) a.g.now) l.r) done l.invariant.1
+    subst (λ (n : ℕ). Mixed taps11 (drop n a.f.now) (drop (n * 11) a.g.now) l.r) done l.invariant

@@ -12,27 +12,18 @@ pub returns-then-c-eq0 : goal.returns-then-c-eq0
 returns-then-c-eq0 c = multiple-from taps11 digits11 c.args.b (omega arith) (omega arith) refl
 
 pub loop-i-init : goal.loop-i-init
-loop-i-init c = (omega arith, multiple-from taps11 digits11 c.args.b (omega arith) (div-eq_of_lt c.requires) refl)
-
-pub overflow_sub-i : goal.overflow_sub-i
-overflow_sub-i c = omega arith
-
-pub loop-i-smaller-then-c-i-eq1 : goal.loop-i-smaller-then-c-i-eq1
-loop-i-smaller-then-c-i-eq1 c = omega arith
+loop-i-init c = multiple-from taps11 digits11 c.args.b (omega arith) (div-eq_of_lt c.requires) refl
 
 pub loop-i-preserved-then-c-i-eq1 : goal.loop-i-preserved-then-c-i-eq1
 loop-i-preserved-then-c-i-eq1 c = let l = c.loop-i in let s = c in let e : l.i ≡ suc (l.i - 1) = omega arith in
-    (omega arith, multiple-more taps11 digits11 s.args.b (omega arith) l.invariant.1 c.doubled-next.ensures c.sum-more.ensures (let d = binary_digit-next s.args.c e in omega arith))
-
-pub loop-i-smaller : goal.loop-i-smaller
-loop-i-smaller c = omega arith
+    multiple-more taps11 digits11 s.args.b (omega arith) l.invariant c.doubled-next.ensures c.sum-more.ensures (let d = binary_digit-next s.args.c e in omega arith)
 
 pub loop-i-preserved : goal.loop-i-preserved
 loop-i-preserved c = let l = c.loop-i in let s = c in let e : l.i ≡ suc (l.i - 1) = omega arith in
-    (omega arith, multiple-double taps11 digits11 s.args.b (omega arith) l.invariant.1 c.doubled-next.ensures (let d = binary_digit-next s.args.c e in omega arith))
+    multiple-double taps11 digits11 s.args.b (omega arith) l.invariant c.doubled-next.ensures (let d = binary_digit-next s.args.c e in omega arith)
 
 pub returns : goal.returns
 returns c = let l = c.loop-i in
     let s = c in
     let done : l.i ≡ 0 = omega arith in
-    subst (λ (n : ℕ). Multiple taps11 n s.args.b l.r) (ap (λ (i : ℕ). s.args.c / 2 ^ i) done ∙ div-one s.args.c) l.invariant.1
+    subst (λ (n : ℕ). Multiple taps11 n s.args.b l.r) (ap (λ (i : ℕ). s.args.c / 2 ^ i) done ∙ div-one s.args.c) l.invariant

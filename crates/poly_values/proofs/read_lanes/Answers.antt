@@ -5,40 +5,28 @@ use mathlib.Core.List.{List, ◌++◌, append-nil}
 use native.Mathlib.Numerals.{add-one}
 use native.Mathlib.Omega.{arith}
 use Prim.Native.Nat.{ℕ}
-use lib.ListN.{length, drop, set, length-set, drop_of_length-le}
+use lib.ListN.{length, drop, set, drop_of_length-le}
 use Rattle.poly_values.specs.Planes.{lanes}
 use Rattle.poly_values.proofs.Finishing.{lanes-turn}
 use Rattle.poly_values.proofs.read_lanes.Goals as goal
 
 pub loop-i-init : goal.loop-i-init
 unfolding lanes
-loop-i-init c = (omega arith, refl, refl)
+loop-i-init c = refl
 
 pub lane_of-requires : goal.lane_of-requires
-lane_of-requires c = let e = c.loop-i.invariant.1 in omega arith
-
-pub bounds-a-i : goal.bounds-a-i
-bounds-a-i c = let e = c.loop-i.invariant.1 in omega arith
-
-pub overflow_add-i : goal.overflow_add-i
-overflow_add-i c = let e = c.loop-i.invariant.1 in omega arith
-
-pub loop-i-smaller : goal.loop-i-smaller
-loop-i-smaller c = let e = c.loop-i.invariant.1 in omega arith
+lane_of-requires c = omega arith
 
 pub loop-i-preserved : goal.loop-i-preserved
 loop-i-preserved c =
     let l = c.loop-i in
     let s = c in
-    (omega arith, simp length-set l.invariant.1, ap₂ (λ (x : List ℕ) (r : ℕ). set x l.i r) l.invariant.2 c.lane_of.ensures ∙ lanes-turn s.args.v s.args.a.now (omega (arith, l.invariant.1)) (add-one l.i))
-
-pub shape_of-a : goal.shape_of-a
-shape_of-a c = c.loop-i.invariant.1
+    ap₂ (λ (x : List ℕ) (r : ℕ). set x l.i r) l.invariant c.lane_of.ensures ∙ lanes-turn s.args.v s.args.a.now (omega arith) (add-one l.i)
 
 pub returns : goal.returns
 returns c =
     let l = c.loop-i in
     let s = c in
-    let done : l.i ≡ length s.args.a.now = omega (arith, l.invariant.1) in
-    l.invariant.2 ∙ ap (λ (n : ℕ). lanes 0 n s.args.v ++ drop n s.args.a.now) done
+    let done : l.i ≡ length s.args.a.now = omega arith in
+    l.invariant ∙ ap (λ (n : ℕ). lanes 0 n s.args.v ++ drop n s.args.a.now) done
     ∙ ap (λ (r : List ℕ). lanes 0 (length s.args.a.now) s.args.v ++ r) (drop_of_length-le s.args.a.now {i = length s.args.a.now} (omega arith)) ∙ append-nil _

@@ -2,13 +2,9 @@
 -- Assumes nothing.
 use mathlib.Core.Path.{◌≡◌}
 use mathlib.Core.List.{◌++◌}
-use Prim.Native.Nat.{◌-◌, ◌≤◌}
-use lib.ListN.{length, drop}
+use lib.ListN.{drop}
 use Rattle.poly_values.specs.Planes.{lanes}
 use Rattle.poly_values.proofs.read_lanes.Given as goal
 
 abbrev pub invariant-loop-i : goal.invariant-loop-i
-invariant-loop-i l = (l.i ≤ length l.initial.a) × (length l.a ≡ length l.initial.a) × (l.a ≡ lanes 0 l.i l.v ++ drop l.i l.initial.a)
-
-abbrev pub decreases-loop-i : goal.decreases-loop-i
-decreases-loop-i l = length l.initial.a - l.i
+invariant-loop-i l = l.a ≡ lanes 0 l.i l.v ++ drop l.i l.initial.a

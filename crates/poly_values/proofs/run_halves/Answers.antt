@@ -12,9 +12,6 @@ use Rattle.poly_values.proofs.run_halves.Goals as goal
 pub overflow_mul-mid : goal.overflow_mul-mid
 overflow_mul-mid c = omega arith
 
-pub offset_bounds-g-one : goal.offset_bounds-g-one
-offset_bounds-g-one c = let b = pow_pos c.args.k in search rules
-
 pub slice_bounds-fourier-count : goal.slice_bounds-fourier-count
 slice_bounds-fourier-count c = let b = pow_pos c.args.k in omega arith
 

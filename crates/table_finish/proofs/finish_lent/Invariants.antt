@@ -7,9 +7,6 @@ use Rattle.table_slots.specs.Slots.{width_of, cutoff_of}
 use Rattle.table_finish.proofs.Merging.{Finishing}
 use Rattle.table_finish.proofs.finish_lent.Given as goal
 
-abbrev pub invariant-loop-left : goal.invariant-loop-left
-invariant-loop-left l =
-    Finishing (width_of l.table) (cutoff_of l.table) (decode by_factor l.table).factors l.table l.initial.roots l.roots l.left l.at l.k
-
-abbrev pub decreases-loop-left : goal.decreases-loop-left
-decreases-loop-left l = l.left
+abbrev pub invariant-loop : goal.invariant-loop
+invariant-loop l =
+    Finishing (width_of l.table) (cutoff_of l.table) (decode by_factor l.table).factors l.table l.initial.roots l.roots l.end l.counter l.at l.k

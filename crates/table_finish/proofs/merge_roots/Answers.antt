@@ -1,12 +1,8 @@
 -- `table_finish::merge_roots` meets its contract: what was found is merged.
 -- Assumes nothing.
-use mathlib.Core.Path.{sym}
-use Rattle.table_finish.proofs.Merging.{roots-long, merge-asks, merge-is}
+use Rattle.table_finish.proofs.Merging.{merge-asks, merge-is}
 use borrow.Author.Rules.{rules}
 use Rattle.table_finish.proofs.merge_roots.Goals as goal
-
-pub slice_bounds-merge-end : goal.slice_bounds-merge-end
-slice_bounds-merge-end c = sym (roots-long c.requires (search rules) c.small_roots-k.ensures)
 
 pub merge-requires : goal.merge-requires
 merge-requires c = merge-asks c.requires (search rules) c.small_roots-k.ensures

@@ -11,14 +11,8 @@ returns-then-n-eq0 c =
     let s = c in
     laid_none s.args.m s.args.c s.args.low.now (c.clear.ensures ∙ ap (λ k. replicate k 0) s.requires.0) c.if-n-eq0.true
 
-pub bounds-table-2 : goal.bounds-table-2
-bounds-table-2 c = simp length-set (omega arith)
-
 pub append-requires : goal.append-requires
 append-requires c = (simp length-set (omega arith), omega arith)
-
-pub shape_of-table : goal.shape_of-table
-shape_of-table c = c.table-2-1.given ∙ simp length-set (omega arith)
 
 pub returns : goal.returns
 returns c =

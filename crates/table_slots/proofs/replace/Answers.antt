@@ -2,13 +2,9 @@
 -- Assumes nothing.
 use mathlib.Core.Path.{ap}
 use Prim.Native.Nat.{◌+◌, ◌-◌, ◌/◌}
-use lib.ListN.{length, length-set, set}
+use lib.ListN.{length, set}
 use Rattle.table_slots.specs.Slots.{count_of, taken_of, degree_at}
-use borrow.Author.Rules.{rules}
 use Rattle.table_slots.proofs.replace.Goals as goal
-
-pub bounds-table-3-2 : goal.bounds-table-3-2
-bounds-table-3-2 c = simp length-set (search rules)
 
 pub returns : goal.returns
 returns c = let k = c in

@@ -1,30 +1,14 @@
--- `field::rows::row_of` meets its contract. The loop's invariant: m is looked for among the rows from i on.
+-- `field::rows::row_of` meets its contract: the first row of that degree is found.
 -- Assumes nothing.
-use mathlib.Core.Path.{refl}
-use native.Mathlib.Omega.{arith}
-use Rattle.field.proofs.Known.{looked-found, looked-on, looked-end}
+use Rattle.std.proofs.Common.{rules, ◌∙◌, eqb}
+use borrow.Author.Tests.{tests}
+use Rattle.std.proofs.lemmas.Iterator.{YieldsList-from_slice}
+use Rattle.std.proofs.lemmas.Iterator.Search.{find_from_yields_List}
+use Rattle.field.specs.declared.rows.Row.{Row}
+use Rattle.field.proofs.Known.{table, first-is}
 use Rattle.field.proofs.rows.row_of.Goals as goal
 
-pub loop-i-init : goal.loop-i-init
-loop-i-init c = (omega arith, refl)
-
-pub offset_bounds-i : goal.offset_bounds-i
-offset_bounds-i c = omega arith
-
-pub bounds-i-i : goal.bounds-i-i
-bounds-i-i c = omega arith
-
-pub returns-then-row-m : goal.returns-then-row-m
-returns-then-row-m c = looked-found _ c.loop-i.i (omega arith) c.loop-i.invariant.1 c.if-row-m.true
-
-pub overflow_add-i : goal.overflow_add-i
-overflow_add-i c = omega arith
-
-pub loop-i-smaller : goal.loop-i-smaller
-loop-i-smaller c = omega arith
-
-pub loop-i-preserved : goal.loop-i-preserved
-loop-i-preserved c = (omega arith, looked-on _ c.loop-i.i (omega arith) c.loop-i.invariant.1 c.if-row-m.false)
-
 pub returns : goal.returns
-returns c = looked-end _ c.loop-i.i (omega arith) c.loop-i.invariant.1
+returns c =
+    let f = find_from_yields_List (λ (row : Row). eqb row.degree c.args.m) _ _ _ c.find.ensures.ran (YieldsList-from_slice {s = c.iter.result} table cc) (λ x b q k. search (rules, tests)) in
+    c.copied.ensures ∙ f ∙ first-is _

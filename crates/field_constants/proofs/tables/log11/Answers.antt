@@ -1,7 +1,7 @@
--- `field_constants::tables::log11` meets its contract: an entry of a word.
+-- `field_constants::tables::log11` meets its contract: field 11 is known.
 -- Assumes nothing.
-use Rattle.field_constants.proofs.Reading.{log-read}
+use Rattle.field.proofs.Known.{row11}
 use Rattle.field_constants.proofs.tables.log11.Goals as goal
 
-pub returns : goal.returns
-returns c = log-read c.requires c.log_word.ensures c.lane.ensures
+pub logs_of-requires : goal.logs_of-requires
+logs_of-requires c = row11.degree

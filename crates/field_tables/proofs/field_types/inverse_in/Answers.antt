@@ -2,6 +2,7 @@
 -- Assumes nothing.
 use mathlib.Core.Path.{◌≡◌, sym, subst}
 use Prim.Native.Nat.{ℕ, ◌<◌, ◌^◌}
+use borrow.Author.Rules.{rules}
 use Rattle.field.proofs.Known.{last_row}
 use Rattle.field.specs.Field.{field_at, inverse}
 use Rattle.field_tables.proofs.field_types.inverse_in.Goals as goal
@@ -20,7 +21,7 @@ inverse-requires-in-8 c = within _ c.in-8.is (c.requires.1, c.requires.2)
 
 pub inverse-requires-in_default : goal.inverse-requires-in_default
 inverse-requires-in_default c =
-    let e = last_row _ c.requires.0 c.in_default.in_default-own.rest.0.1 c.in_default.in_default-own.rest.1 in
+    let e = last_row _ c.requires.0 (search rules) (search rules) in
     within _ e (c.requires.1, c.requires.2)
 
 pub returns-in-4 : goal.returns-in-4
@@ -31,5 +32,5 @@ returns-in-8 c = carried _ c.in-8.is c.inverse-in-8.ensures
 
 pub returns-in_default : goal.returns-in_default
 returns-in_default c =
-    let e = last_row _ c.requires.0 c.in_default.in_default-own.rest.0.1 c.in_default.in_default-own.rest.1 in
+    let e = last_row _ c.requires.0 (search rules) (search rules) in
     carried _ e c.inverse-in_default.ensures

@@ -2,6 +2,7 @@
 -- Assumes nothing.
 use mathlib.Core.Path.{◌≡◌, sym, subst}
 use Prim.Native.Nat.{ℕ, ◌<◌, ◌^◌}
+use borrow.Author.Rules.{rules}
 use Rattle.field.proofs.Known.{last_row}
 use Rattle.field.specs.Field.{field_at, position}
 use Rattle.field_tables.proofs.field_types.position_in.Goals as goal
@@ -19,7 +20,7 @@ pub position-requires-in-8 : goal.position-requires-in-8
 position-requires-in-8 c = within _ c.in-8.is (c.requires.1, c.requires.2)
 
 pub position-requires-in_default : goal.position-requires-in_default
-position-requires-in_default c = within _ (last_row _ c.requires.0 c.in_default.in_default-own.rest.0.1 c.in_default.in_default-own.rest.1) (c.requires.1, c.requires.2)
+position-requires-in_default c = within _ (last_row _ c.requires.0 (search rules) (search rules)) (c.requires.1, c.requires.2)
 
 pub returns-in-4 : goal.returns-in-4
 returns-in-4 c = carried _ c.in-4.is c.position.ensures
@@ -28,4 +29,4 @@ pub returns-in-8 : goal.returns-in-8
 returns-in-8 c = carried _ c.in-8.is c.position-in-8.ensures
 
 pub returns-in_default : goal.returns-in_default
-returns-in_default c = carried _ (last_row _ c.requires.0 c.in_default.in_default-own.rest.0.1 c.in_default.in_default-own.rest.1) c.position-in_default.ensures
+returns-in_default c = carried _ (last_row _ c.requires.0 (search rules) (search rules)) c.position-in_default.ensures

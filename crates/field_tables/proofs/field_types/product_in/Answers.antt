@@ -2,6 +2,7 @@
 -- Assumes nothing.
 use mathlib.Core.Path.{◌≡◌, sym, subst}
 use Prim.Native.Nat.{ℕ, ◌<◌, ◌^◌}
+use borrow.Author.Rules.{rules}
 use Rattle.field.proofs.Known.{last_row}
 use Rattle.field.specs.Field.{field_at, mul}
 use Rattle.field_tables.proofs.field_types.product_in.Goals as goal
@@ -20,7 +21,7 @@ mul-requires-in-8 c = within _ c.in-8.is c.requires.1
 
 pub mul-requires-in_default : goal.mul-requires-in_default
 mul-requires-in_default c =
-    within _ (last_row _ c.requires.0 c.in_default.in_default-own.rest.0.1 c.in_default.in_default-own.rest.1) c.requires.1
+    within _ (last_row _ c.requires.0 (search rules) (search rules)) c.requires.1
 
 pub returns-in-4 : goal.returns-in-4
 returns-in-4 c = carried _ _ c.in-4.is c.mul.ensures
@@ -30,5 +31,5 @@ returns-in-8 c = carried _ _ c.in-8.is c.mul-in-8.ensures
 
 pub returns-in_default : goal.returns-in_default
 returns-in_default c =
-    let e = last_row _ c.requires.0 c.in_default.in_default-own.rest.0.1 c.in_default.in_default-own.rest.1 in
+    let e = last_row _ c.requires.0 (search rules) (search rules) in
     carried _ _ e c.mul-in_default.ensures

@@ -2,6 +2,7 @@
 -- Assumes nothing.
 use mathlib.Core.Path.{◌≡◌, sym, subst}
 use Prim.Native.Nat.{ℕ, ◌<◌, ◌^◌}
+use borrow.Author.Rules.{rules}
 use Rattle.field.proofs.Known.{last_row}
 use Rattle.field.specs.Field.{field_at}
 use Rattle.field.specs.Quadratics.{SolvesQuadratic}
@@ -21,7 +22,7 @@ pub roots-requires-in-8 : goal.roots-requires-in-8
 roots-requires-in-8 c = within _ _ c.in-8.is (c.requires.1, c.requires.2)
 
 pub roots-requires-in_default : goal.roots-requires-in_default
-roots-requires-in_default c = within _ _ (last_row _ c.requires.0 c.in_default.in_default-own.rest.0.1 c.in_default.in_default-own.rest.1) (c.requires.1, c.requires.2)
+roots-requires-in_default c = within _ _ (last_row _ c.requires.0 (search rules) (search rules)) (c.requires.1, c.requires.2)
 
 pub returns-in-4 : goal.returns-in-4
 returns-in-4 c = carried _ _ c.roots.result c.in-4.is c.roots.ensures
@@ -30,4 +31,4 @@ pub returns-in-8 : goal.returns-in-8
 returns-in-8 c = carried _ _ c.roots-in-8.result c.in-8.is c.roots-in-8.ensures
 
 pub returns-in_default : goal.returns-in_default
-returns-in_default c = carried _ _ c.roots-in_default.result (last_row _ c.requires.0 c.in_default.in_default-own.rest.0.1 c.in_default.in_default-own.rest.1) c.roots-in_default.ensures
+returns-in_default c = carried _ _ c.roots-in_default.result (last_row _ c.requires.0 (search rules) (search rules)) c.roots-in_default.ensures

@@ -9,7 +9,7 @@ pub loop-i-init : goal.loop-i-init
 loop-i-init c = rowing-from _ refl
 
 pub loop-i-preserved : goal.loop-i-preserved
-loop-i-preserved c = rowing-on c.loop-i.invariant (omega arith) c.digit_row-row.ensures
+loop-i-preserved c = rowing-on c.loop-i.invariant (omega arith) c.digit_row.ensures
 
 pub returns : goal.returns
 returns c = rowing-end c.loop-i.invariant (omega arith)

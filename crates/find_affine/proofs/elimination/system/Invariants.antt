@@ -1,12 +1,7 @@
 -- `find_affine::elimination::system` meets its contract: the first i rows stand.
 -- Assumes nothing.
-use Prim.Native.Nat.{◌-◌}
-use Rattle.input.specs.Limit.{widest}
 use Rattle.find_affine.proofs.RowLoops.{Rowing}
 use Rattle.find_affine.proofs.elimination.system.Given as goal
 
 abbrev pub invariant-loop-i : goal.invariant-loop-i
-invariant-loop-i l = Rowing l.images l.out l.i
-
-abbrev pub decreases-loop-i : goal.decreases-loop-i
-decreases-loop-i l = widest - l.i
+invariant-loop-i l = Rowing l.images l.rows l.i

@@ -7,6 +7,3 @@ use Rattle.find_direct.proofs.tried.all_roots.Given as goal
 
 abbrev pub invariant-loop-i : goal.invariant-loop-i
 invariant-loop-i l = Trying 11 (monic (G 11) l.p) l.xs l.bound l.i
-
-abbrev pub decreases-loop-i : goal.decreases-loop-i
-decreases-loop-i l = l.i

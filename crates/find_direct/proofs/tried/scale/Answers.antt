@@ -14,10 +14,10 @@ product11-requires c =
     (start.requires.0, below_at 2048 start.args.f.now start.requires.1 c.loop-i.i (omega arith))
 
 pub bounds-p-i : goal.bounds-p-i
-bounds-p-i c = scaling-room c.loop-i.invariant c.loop-i-test.true
+bounds-p-i c = scaling-room c.loop-i.invariant (omega arith)
 
 pub loop-i-preserved : goal.loop-i-preserved
-loop-i-preserved c = scaling-on c.loop-i.invariant c.loop-i-test.true c.product11.ensures
+loop-i-preserved c = scaling-on c.loop-i.invariant (omega arith) c.product11.ensures
 
 pub shape_of-p : goal.shape_of-p
 shape_of-p c = c.loop-i.invariant.filling.long

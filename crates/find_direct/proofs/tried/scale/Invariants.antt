@@ -1,12 +1,7 @@
 -- `find_direct::tried::scale` meets its contract. The loop's invariant: those below i are written.
 -- Assumes nothing.
-use Prim.Native.Nat.{◌-◌}
-use lib.ListN.{length}
 use Rattle.find_direct.proofs.Trials.{Scaling}
 use Rattle.find_direct.proofs.tried.scale.Given as goal
 
 abbrev pub invariant-loop-i : goal.invariant-loop-i
 invariant-loop-i l = Scaling l.v l.f l.initial.p l.p l.i
-
-abbrev pub decreases-loop-i : goal.decreases-loop-i
-decreases-loop-i l = length l.f - l.i

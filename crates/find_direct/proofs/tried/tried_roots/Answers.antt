@@ -1,14 +1,17 @@
 -- `find_direct::tried::tried_roots` meets its contract: numbers that were tried at the monic polynomial are written.
 -- Assumes nothing.
-use mathlib.Core.Path.{◌≡◌, sym}
+use mathlib.Core.Path.{◌≡◌, sym, ap, ◌∙◌}
+use mathlib.Core.List.{◌++◌}
 use Prim.Native.Nat.{suc, ◌-◌}
 use native.Mathlib.Omega.{arith}
-use lib.ListN.{length, take, length-take}
+use lib.ListN.{length, take, drop, length-take}
 use lib.Seq.{length-take-le}
 use Rattle.algebra.proofs.StaysBelow.{take_below}
 use Rattle.field_constants.proofs.Field11.{element-inverse}
+use Rattle.poly.proofs.Parts.{part-copied}
+use Rattle.find_direct.proofs.Writing.{found-direct}
 use Rattle.find_direct.proofs.Leads.{coefficient, leading-positive}
-use Rattle.find_direct.proofs.Trials.{low_below, tried-written, tried-not}
+use Rattle.find_direct.proofs.Trials.{low_below, tried-written}
 use borrow.Author.Rules.{rules}
 use Rattle.find_direct.proofs.tried.tried_roots.Goals as goal
 
@@ -41,17 +44,10 @@ all_roots-requires c =
     let start = c in
     (low_below start.requires.0 start.requires.1 _ _ c.scale.ensures, simp length-take (omega arith))
 
-pub slice_bounds-copy-end : goal.slice_bounds-copy-end
-slice_bounds-copy-end c = sym (length-take-le _ _ (search rules))
-
-pub copy-requires : goal.copy-requires
-copy-requires c = simp length-take (omega arith)
-
-pub returns-then-all_roots : goal.returns-then-all_roots
-returns-then-all_roots c =
-    let start = c in
-    tried-written start.requires.0 start.requires.1 _ _ c.scale.ensures c.inverse11.ensures
-    (let h : length (take (start.args.n - 1) c.guess-xs.result) ≡ start.args.n - 1 = simp length-take (omega arith) in h) (c.all_roots.ensures c.if-all_roots.true) c.copy.ensures
-
-pub returns : goal.returns
-returns c = tried-not
+pub returns-clause-listed : goal.returns-clause-listed
+returns-clause-listed c =
+    let k = c.args.n - 1 in
+    let xs = take k c.guess-xs.result in
+    let whole : length xs ≡ k = simp length-take (omega arith) in
+    found-direct (tried-written c.requires.0 c.requires.1 _ _ c.scale.ensures c.inverse11.ensures whole (c.all_roots.ensures c.if-not-all_roots.false)
+    (ap (λ j. c.copy_from_slice.new.self ++ drop j c.args.roots.now) (sym whole) ∙ part-copied xs c.args.roots.now c.copy_from_slice.ensures.after))

@@ -11,8 +11,8 @@ loop-i-init c = let p = c.requires in valued-from p.0 p.2 p.1
 pub product11-requires : goal.product11-requires
 product11-requires c = (c.requires.2, c.loop-i.invariant.small)
 
-pub bounds-p-i-in-loop-i : goal.bounds-p-i-in-loop-i
-bounds-p-i-in-loop-i c = omega (arith, c.loop-i.invariant.within)
+pub bounds-p-i : goal.bounds-p-i
+bounds-p-i c = omega (arith, c.loop-i.invariant.within)
 
 pub loop-i-preserved : goal.loop-i-preserved
 loop-i-preserved c =

@@ -1,65 +1,61 @@
--- `job_sheet::text::field_line` meets its contract: its parts are written one behind the other, and each place is
--- bounded by what was written.
+-- `job_sheet::text::field_line` meets its contract: its parts come one behind the other, and each is short enough for
+-- the room.
 -- Assumes nothing.
-use Rattle.std.proofs.Common.{arith, rules}
-use Rattle.job_text.proofs.Writing.{five-digits, twenty-digits, spaced-long}
+use Rattle.std.proofs.Common.{ℕ, ◌+◌, ◌≤◌, ◌<◌, ◌≡◌, ◌^◌, List, [], ◌∷◌, ◌++◌, length, ap, arith, rules}
+use Rattle.job_text.specs.Lines.{spaced}
+use Rattle.job_text.proofs.Writing.{five-digits, spaced-long, longer, begun}
 use Rattle.job_sheet.specs.Calls.{told_field}
-use Rattle.job_sheet.proofs.Texts.{one_word, field-wrote}
+use Rattle.job_sheet.proofs.Texts.{field-made}
 use Rattle.job_sheet.proofs.text.field_line.Goals as goal
 
-pub decimal-first-requires : goal.decimal-first-requires
-decimal-first-requires c = omega (arith, five-digits c.args.m (search rules))
+-- a number more
+more : (x : ℕ) (s : List ℕ) {t : List ℕ} → x < 2 ^ 64 → t ≡ s ++ spaced (x ∷ []) → length t ≤ length s + 21
+more x s h e = omega (arith, longer s _ _ e, spaced-long x h)
 
--- each place is bounded, and out stays as long as it was
-pub put_spaced-second-requires : goal.put_spaced-second-requires
-put_spaced-second-requires c =
-    let d1 = five-digits c.args.m (search rules) in
-    omega (arith, c.decimal-first.ensures.ended, c.decimal-first.auto.out, twenty-digits c.args.line.accepted (search rules))
+pub decimal-requires : goal.decimal-requires
+decimal-requires c = omega (arith, ap length c.new-text.ensures, five-digits c.args.m (search rules))
 
-pub put_numbers-third-requires : goal.put_numbers-third-requires
-put_numbers-third-requires c =
-    let d1 = five-digits c.args.m (search rules) in
-    let d2 = spaced-long (search rules) c.put_spaced-second.ensures in
-    omega (arith, c.decimal-first.ensures.ended, c.decimal-first.auto.out, c.put_spaced-second.auto.out, c.requires.1.five)
+pub put_spaced-requires : goal.put_spaced-requires
+put_spaced-requires c =
+    let a = ap length (begun c.new-text.ensures c.decimal.ensures) in
+    omega (arith, five-digits c.args.m (search rules), spaced-long c.args.line.accepted (search rules))
 
-pub put_spaced-fourth-requires : goal.put_spaced-fourth-requires
-put_spaced-fourth-requires c =
-    let d1 = five-digits c.args.m (search rules) in
-    let d2 = spaced-long (search rules) c.put_spaced-second.ensures in
-    omega (arith, c.decimal-first.ensures.ended, c.decimal-first.auto.out, c.put_spaced-second.auto.out, c.requires.1.five, c.put_numbers-third.ensures.1, c.put_numbers-third.auto.out, twenty-digits c.args.line.roots (search rules))
+pub put_numbers-requires : goal.put_numbers-requires
+put_numbers-requires c =
+    let a = ap length (begun c.new-text.ensures c.decimal.ensures) in
+    let b = more c.args.line.accepted c.decimal.new.text.bytes (search rules) c.put_spaced.ensures in
+    omega (arith, five-digits c.args.m (search rules), c.requires.five)
 
-pub put_spaced-fifth-requires : goal.put_spaced-fifth-requires
-put_spaced-fifth-requires c =
-    let d1 = five-digits c.args.m (search rules) in
-    let d2 = spaced-long (search rules) c.put_spaced-second.ensures in
-    let d4 = spaced-long (search rules) c.put_spaced-fourth.ensures in
-    omega (arith, c.decimal-first.ensures.ended, c.decimal-first.auto.out, c.put_spaced-second.auto.out, c.requires.1.five, c.put_numbers-third.ensures.1, c.put_numbers-third.auto.out, c.put_spaced-fourth.auto.out, twenty-digits c.args.line.steps.low (search rules))
+pub put_spaced-requires-2 : goal.put_spaced-requires-2
+put_spaced-requires-2 c =
+    let a = ap length (begun c.new-text.ensures c.decimal.ensures) in
+    let b = more c.args.line.accepted c.decimal.new.text.bytes (search rules) c.put_spaced.ensures in
+    omega (arith, five-digits c.args.m (search rules), c.requires.five, c.put_numbers.ensures.1, spaced-long c.args.line.roots (search rules))
 
-pub put_highest-end-requires : goal.put_highest-end-requires
-put_highest-end-requires c =
-    let d1 = five-digits c.args.m (search rules) in
-    let d2 = spaced-long (search rules) c.put_spaced-second.ensures in
-    let d4 = spaced-long (search rules) c.put_spaced-fourth.ensures in
-    let d5 = spaced-long (search rules) c.put_spaced-fifth.ensures in
-    omega (arith, c.decimal-first.ensures.ended, c.decimal-first.auto.out, c.put_spaced-second.auto.out, c.requires.1.five, c.put_numbers-third.ensures.1, c.put_numbers-third.auto.out, c.put_spaced-fourth.auto.out, c.put_spaced-fifth.auto.out)
+pub put_spaced-requires-3 : goal.put_spaced-requires-3
+put_spaced-requires-3 c =
+    let a = ap length (begun c.new-text.ensures c.decimal.ensures) in
+    let b = more c.args.line.accepted c.decimal.new.text.bytes (search rules) c.put_spaced.ensures in
+    let d = more c.args.line.roots c.put_numbers.new.text.bytes (search rules) c.put_spaced-2.ensures in
+    omega (arith, five-digits c.args.m (search rules), c.requires.five, c.put_numbers.ensures.1, spaced-long c.args.line.steps (search rules))
 
-pub put_byte-requires : goal.put_byte-requires
-put_byte-requires c =
-    let d1 = five-digits c.args.m (search rules) in
-    let d2 = spaced-long (search rules) c.put_spaced-second.ensures in
-    let d4 = spaced-long (search rules) c.put_spaced-fourth.ensures in
-    let d5 = spaced-long (search rules) c.put_spaced-fifth.ensures in
-    omega (arith, c.decimal-first.ensures.ended, c.decimal-first.auto.out, c.put_spaced-second.auto.out, c.requires.1.five, c.put_numbers-third.ensures.1, c.put_numbers-third.auto.out, c.put_spaced-fourth.auto.out, c.put_spaced-fifth.auto.out, c.put_highest-end.ensures.1, c.put_highest-end.auto.out)
+pub put_highest-requires : goal.put_highest-requires
+put_highest-requires c =
+    let a = ap length (begun c.new-text.ensures c.decimal.ensures) in
+    let b = more c.args.line.accepted c.decimal.new.text.bytes (search rules) c.put_spaced.ensures in
+    let d = more c.args.line.roots c.put_numbers.new.text.bytes (search rules) c.put_spaced-2.ensures in
+    let e = more c.args.line.steps c.put_spaced-2.new.text.bytes (search rules) c.put_spaced-3.ensures in
+    omega (arith, five-digits c.args.m (search rules), c.requires.five, c.put_numbers.ensures.1)
+
+pub push_str-requires : goal.push_str-requires
+push_str-requires c =
+    let a = ap length (begun c.new-text.ensures c.decimal.ensures) in
+    let b = more c.args.line.accepted c.decimal.new.text.bytes (search rules) c.put_spaced.ensures in
+    let d = more c.args.line.roots c.put_numbers.new.text.bytes (search rules) c.put_spaced-2.ensures in
+    let e = more c.args.line.steps c.put_spaced-2.new.text.bytes (search rules) c.put_spaced-3.ensures in
+    omega (arith, five-digits c.args.m (search rules), c.requires.five, c.put_numbers.ensures.1, c.put_highest.ensures.1)
 
 pub returns : goal.returns
 returns c =
-    let a = c.args in
-    let steps = rw (one_word a.line.steps c.requires.1.word) at c.put_spaced-fifth.ensures in
-    let d1 = five-digits c.args.m (search rules) in
-    let d2 = spaced-long (search rules) c.put_spaced-second.ensures in
-    let d4 = spaced-long (search rules) c.put_spaced-fourth.ensures in
-    let d5 = spaced-long (search rules) c.put_spaced-fifth.ensures in (
-      field-wrote a.m (told_field a.line) c.decimal-first.ensures c.put_spaced-second.ensures c.put_numbers-third.ensures.0
-          c.put_spaced-fourth.ensures steps c.put_highest-end.ensures.0 c.put_byte.ensures,
-      omega (arith, c.decimal-first.ensures.ended, c.decimal-first.auto.out, c.put_spaced-second.auto.out, c.requires.1.five, c.put_numbers-third.ensures.1, c.put_numbers-third.auto.out, c.put_spaced-fourth.auto.out, c.put_spaced-fifth.auto.out, c.put_highest-end.ensures.1, c.put_highest-end.auto.out, c.put_byte.ensures.ended),
-    )
+    field-made c.args.m (told_field c.args.line) c.new-text.ensures c.decimal.ensures c.put_spaced.ensures c.put_numbers.ensures.0
+    c.put_spaced-2.ensures c.put_spaced-3.ensures c.put_highest.ensures.0 c.push_str.ensures.bytes

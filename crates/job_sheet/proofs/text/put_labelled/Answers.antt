@@ -1,21 +1,14 @@
 -- `job_sheet::text::put_labelled` meets its contract: the word, and the number behind it.
 -- Assumes nothing.
-use Rattle.std.proofs.Common.{arith, rules}
-use Rattle.job_text.proofs.Writing.{wrote_then, twenty-digits, spaced-long}
+use Rattle.std.proofs.Common.{[], ◌∷◌, ◌++◌, ap, ◌∙◌, append_assoc, arith, rules}
+use Rattle.job_text.specs.Lines.{spaced}
+use Rattle.job_text.proofs.Writing.{spaced-long}
 use Rattle.job_sheet.proofs.text.put_labelled.Goals as goal
 
 pub put_spaced-requires : goal.put_spaced-requires
-put_spaced-requires c =
-    let p = c in
-    omega (
-      arith,
-      p.put_bytes-behind.ensures.ended,
-      p.put_bytes-behind.auto.out,
-      twenty-digits p.args.x (search rules),
-    )
+put_spaced-requires c = omega (arith, c.requires, c.push_str.ensures.len, spaced-long c.args.x (search rules))
 
 pub returns : goal.returns
 returns c =
-    let q = c in
-    let p = q in
-    (wrote_then (omega arith) p.put_bytes-behind.ensures q.put_spaced.ensures, omega (arith, p.put_bytes-behind.ensures.ended, spaced-long (search rules) q.put_spaced.ensures))
+    c.put_spaced.ensures ∙ ap (λ t. t ++ spaced (c.args.x ∷ [])) c.push_str.ensures.bytes
+    ∙ append_assoc c.args.text.now.bytes c.args.word.now (spaced (c.args.x ∷ []))

@@ -4,7 +4,4 @@ use Rattle.poly.proofs.Divisions.{Dividing}
 use Rattle.poly.proofs.division.divide.Given as goal
 
 abbrev pub invariant-loop-k : goal.invariant-loop-k
-invariant-loop-k l = Dividing l.m l.logs l.antilogs l.row l.initial.f l.n l.f l.k
-
-abbrev pub decreases-loop-k : goal.decreases-loop-k
-decreases-loop-k l = l.k
+invariant-loop-k l = Dividing l.tables.degree l.tables.logs.now l.tables.antilogs.now l.row l.initial.f l.n l.f l.k

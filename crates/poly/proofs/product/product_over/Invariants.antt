@@ -5,7 +5,4 @@ use Rattle.poly.proofs.Multiplying.{Multiplying}
 use Rattle.poly.proofs.product.product_over.Given as goal
 
 abbrev pub invariant-loop-i : goal.invariant-loop-i
-invariant-loop-i l = Multiplying l.m l.logs l.antilogs l.roots l.initial.f l.f l.i
-
-abbrev pub decreases-loop-i : goal.decreases-loop-i
-decreases-loop-i l = l.i
+invariant-loop-i l = Multiplying l.tables.degree l.tables.logs.now l.tables.antilogs.now l.roots l.initial.f l.f l.i

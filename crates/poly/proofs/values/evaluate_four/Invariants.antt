@@ -5,7 +5,4 @@ use Rattle.poly.proofs.HornerFour.{FourValuing}
 use Rattle.poly.proofs.values.evaluate_four.Given as goal
 
 abbrev pub invariant-loop-k : goal.invariant-loop-k
-invariant-loop-k l = FourValuing l.m l.logs l.antilogs l.f l.x l.k (record { a = l.a; b = l.b; c = l.c; d = l.d })
-
-abbrev pub decreases-loop-k : goal.decreases-loop-k
-decreases-loop-k l = l.k
+invariant-loop-k l = FourValuing l.tables.degree l.tables.logs.now l.tables.antilogs.now l.f l.x l.k l.a l.b l.c l.d

@@ -6,28 +6,22 @@ use mathlib.Core.Path.{refl}
 use Rattle.poly_resultants.proofs.descent.values_at.Goals as goal
 
 pub loop-k-init : goal.loop-k-init
-loop-k-init c = pairing-from c.requires c.last_of-low.ensures
-
-pub offset_bounds-p-k : goal.offset_bounds-p-k
-offset_bounds-p-k c = omega (arith, c.loop-k.invariant.low.within)
+loop-k-init c = pairing-from c.args.tables.now.lent c.requires c.last_of-low.ensures
 
 pub bounds-p-k : goal.bounds-p-k
 bounds-p-k c = omega (arith, c.loop-k.invariant.low.within)
 
-pub times-requires : goal.times-requires
-times-requires c = (c.loop-k.invariant.low.tables, c.loop-k.invariant.low.nonzero, c.loop-k.invariant.low.element, pairing-low c.loop-k.invariant)
-
-pub offset_bounds-q-k : goal.offset_bounds-q-k
-offset_bounds-q-k c = omega (arith, c.loop-k.invariant.high.within)
+pub product-requires : goal.product-requires
+product-requires c = (c.loop-k.invariant.low.nonzero, c.loop-k.invariant.low.element, pairing-low c.loop-k.invariant)
 
 pub bounds-q-k : goal.bounds-q-k
 bounds-q-k c = omega (arith, c.loop-k.invariant.high.within)
 
-pub times-requires-in-loop-k : goal.times-requires-in-loop-k
-times-requires-in-loop-k c = (c.loop-k.invariant.high.tables, c.loop-k.invariant.high.nonzero, c.loop-k.invariant.high.element, pairing-high c.loop-k.invariant)
+pub product-requires-in-loop-k : goal.product-requires-in-loop-k
+product-requires-in-loop-k c = (c.loop-k.invariant.high.nonzero, c.loop-k.invariant.high.element, pairing-high c.loop-k.invariant)
 
 pub loop-k-preserved : goal.loop-k-preserved
-loop-k-preserved c = pairing-on c.loop-k.invariant (omega arith) c.times.ensures c.times-in-loop-k.ensures
+loop-k-preserved c = pairing-on c.loop-k.invariant (omega arith) c.product.ensures c.product-in-loop-k.ensures
 
 pub returns : goal.returns
 returns c = pairing-end c.loop-k.invariant (omega arith) refl refl

@@ -4,7 +4,4 @@ use Rattle.poly_resultants.proofs.Pairing.{Pairing}
 use Rattle.poly_resultants.proofs.descent.values_at.Given as goal
 
 abbrev pub invariant-loop-k : goal.invariant-loop-k
-invariant-loop-k l = Pairing l.m l.logs l.antilogs l.p l.q l.y l.k l.low l.high
-
-abbrev pub decreases-loop-k : goal.decreases-loop-k
-decreases-loop-k l = l.k
+invariant-loop-k l = Pairing l.tables.degree l.tables.logs.now l.tables.antilogs.now l.p l.q l.y l.k l.low l.high

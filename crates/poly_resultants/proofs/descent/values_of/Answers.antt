@@ -4,10 +4,10 @@ use native.Mathlib.Nat.{pos_of_ne-zero}
 use Rattle.poly_resultants.proofs.descent.values_of.Goals as goal
 
 pub evaluate-low-requires : goal.evaluate-low-requires
-evaluate-low-requires c = (c.requires.tables, c.requires.low, c.requires.element)
+evaluate-low-requires c = (c.requires.low, c.requires.element)
 
 pub evaluate-high-requires : goal.evaluate-high-requires
-evaluate-high-requires c = (c.requires.tables, c.requires.high, c.requires.element)
+evaluate-high-requires c = (c.requires.high, c.requires.element)
 
 pub returns-then-y-eq0 : goal.returns-then-y-eq0
 returns-then-y-eq0 c = record { low = c.evaluate-low.ensures; high = c.evaluate-high.ensures }

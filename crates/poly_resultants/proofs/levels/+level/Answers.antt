@@ -9,16 +9,16 @@ use Rattle.poly_resultants.proofs.levels.+level.Goals as goal
 
 pub level-k-requires : goal.level-k-requires
 level-k-requires t c = (
-  subst (λ j. length (take (length c.args.chain.now - 1) (drop 1 c.args.chain.now)) < j) c.decreases (level-falls c.requires c.if-chain-eq0.false c.map_once.ensures),
-  level-climbs c.requires c.if-chain-eq0.false c.map_once.ensures (omega arith),
+  subst (λ j. length (take (length c.args.chain.now - 1) (drop 1 c.args.chain.now)) < j) c.decreases (level-falls c.args.tables.now.lent c.requires (λ z. omega arith) c.map_once.ensures),
+  level-climbs c.args.tables.now.lent c.requires (λ z. omega arith) c.map_once.ensures (omega arith),
 )
 
 pub descend-requires : goal.descend-requires
 descend-requires t c =
-    level-descends c.requires c.if-chain-eq0.false c.map_once.ensures (back-front _ _ (low-long c.requires c.if-chain-eq0.false c.map_once.ensures))
-    (back-front _ _ (high-long c.requires c.if-chain-eq0.false c.map_once.ensures)) c.level-k.ensures
+    level-descends c.args.tables.now.lent c.requires (λ z. omega arith) c.map_once.ensures (back-front _ _ (low-long c.args.tables.now.lent c.requires (λ z. omega arith) c.map_once.ensures))
+    (back-front _ _ (high-long c.args.tables.now.lent c.requires (λ z. omega arith) c.map_once.ensures)) c.level-k.ensures
 
 pub returns : goal.returns
 returns t c =
-    level-end c.requires c.if-chain-eq0.false c.map_once.ensures (back-front _ _ (low-long c.requires c.if-chain-eq0.false c.map_once.ensures))
-    (back-front _ _ (high-long c.requires c.if-chain-eq0.false c.map_once.ensures)) c.level-k.ensures c.descend.ensures
+    level-end c.args.tables.now.lent c.requires (λ z. omega arith) c.map_once.ensures (back-front _ _ (low-long c.args.tables.now.lent c.requires (λ z. omega arith) c.map_once.ensures))
+    (back-front _ _ (high-long c.args.tables.now.lent c.requires (λ z. omega arith) c.map_once.ensures)) c.level-k.ensures c.descend.ensures

@@ -10,25 +10,16 @@ use Prim.Native.Nat.{◌^◌, ◌<◌}
 use Rattle.poly_resultants.proofs.map.add_product.Goals as goal
 
 pub loop-i-init : goal.loop-i-init
-loop-i-init c = multiplying-from c.requires
+loop-i-init c = multiplying-from c.args.tables.now.lent c.requires
 
-pub times-t-requires : goal.times-t-requires
-times-t-requires c = (c.loop-i.invariant.given.factors.tables, c.loop-i.invariant.given.factors.positive, c.loop-i.invariant.given.factors.small, multiplying-small c.loop-i.invariant (omega arith))
-
-pub slice_bounds-add_row-count : goal.slice_bounds-add_row-count
-slice_bounds-add_row-count c = omega (arith, c.loop-i.invariant.given.space, c.loop-i.invariant.given.some, c.loop-i.invariant.long)
-
-pub slice_bounds-add_row-start : goal.slice_bounds-add_row-start
-slice_bounds-add_row-start c = omega (arith, c.loop-i.invariant.given.space, c.loop-i.invariant.given.some, c.loop-i.invariant.long)
+pub product-t-requires : goal.product-t-requires
+product-t-requires c = (c.loop-i.invariant.given.factors.positive, c.loop-i.invariant.given.factors.small, multiplying-small c.loop-i.invariant (omega arith))
 
 pub add_row-requires : goal.add_row-requires
-add_row-requires c = multiplying-asks c.loop-i.invariant (omega arith) (subst (λ w. w < 2 ^ c.args.m) (sym c.times-t.ensures) (mul-lt (field_at _) (field_of c.loop-i.invariant.given.factors.tables).monic _ _))
+add_row-requires c = multiplying-asks c.loop-i.invariant (omega arith) (subst (λ w. w < 2 ^ c.args.tables.now.degree) (sym c.product-t.ensures) (mul-lt (field_at _) (field_of c.args.tables.now.lent).monic _ _))
 
 pub loop-i-preserved : goal.loop-i-preserved
-loop-i-preserved c = multiplying-on c.loop-i.invariant (omega arith) c.times-t.ensures c.add_row.ensures
-
-pub shape_of-r : goal.shape_of-r
-shape_of-r c = c.loop-i.invariant.long
+loop-i-preserved c = multiplying-on c.loop-i.invariant (omega arith) c.product-t.ensures c.add_row.ensures
 
 pub returns : goal.returns
 returns c = multiplying-end c.loop-i.invariant (omega arith)

@@ -7,23 +7,11 @@ use Rattle.poly_resultants.proofs.map.every_other.Goals as goal
 pub loop-i-init : goal.loop-i-init
 loop-i-init c = choosing-from _ _ c.requires
 
-pub overflow_mul-out : goal.overflow_mul-out
-overflow_mul-out c = omega (arith, choosing-fits c.loop-i.invariant (omega (arith, c.loop-i.invariant.filling.long)))
-
-pub offset_bounds-g-i : goal.offset_bounds-g-i
-offset_bounds-g-i c = omega (arith, choosing-fits c.loop-i.invariant (omega (arith, c.loop-i.invariant.filling.long)))
-
 pub bounds-g-i : goal.bounds-g-i
 bounds-g-i c = choosing-fits c.loop-i.invariant (omega (arith, c.loop-i.invariant.filling.long))
 
-pub loop-i-smaller : goal.loop-i-smaller
-loop-i-smaller c = omega (arith, c.loop-i.invariant.filling.long)
-
 pub loop-i-preserved : goal.loop-i-preserved
 loop-i-preserved c = choosing-on c.loop-i.invariant (omega (arith, c.loop-i.invariant.filling.long))
-
-pub shape_of-out : goal.shape_of-out
-shape_of-out c = c.loop-i.invariant.filling.long
 
 pub returns : goal.returns
 returns c = choosing-end c.loop-i.invariant (omega (arith, c.loop-i.invariant.filling.long))

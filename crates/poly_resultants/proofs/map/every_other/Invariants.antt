@@ -1,12 +1,7 @@
 -- `poly_resultants::map::every_other` meets its contract. The loop's invariant: the first i elements are written.
 -- Assumes nothing.
 use Rattle.poly_resultants.proofs.MapLoops.{Choosing}
-use lib.ListN.{length}
-use Prim.Native.Nat.{◌-◌}
 use Rattle.poly_resultants.proofs.map.every_other.Given as goal
 
 abbrev pub invariant-loop-i : goal.invariant-loop-i
 invariant-loop-i l = Choosing l.g l.initial.out l.out l.i
-
-abbrev pub decreases-loop-i : goal.decreases-loop-i
-decreases-loop-i l = length l.initial.out - l.i

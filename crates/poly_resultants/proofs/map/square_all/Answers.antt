@@ -4,20 +4,14 @@ use Rattle.poly_resultants.proofs.MapLoops.{squaring-from, squaring-small, squar
 use native.Mathlib.Omega.{arith}
 use Rattle.poly_resultants.proofs.map.square_all.Goals as goal
 
-pub loop-i-init : goal.loop-i-init
-loop-i-init c = squaring-from c.requires.0 c.requires.1
+pub loop-c-init : goal.loop-c-init
+loop-c-init c = squaring-from c.args.tables.now.lent c.requires
 
-pub squared-requires : goal.squared-requires
-squared-requires c = (c.loop-i.invariant.tables, squaring-small c.loop-i.invariant (omega (arith, c.loop-i.invariant.filling.long)))
+pub square_by_logs-requires : goal.square_by_logs-requires
+square_by_logs-requires c = squaring-small c.loop-c.invariant (omega (arith, c.loop-c.invariant.filling.long))
 
-pub loop-i-smaller : goal.loop-i-smaller
-loop-i-smaller c = omega (arith, c.loop-i.invariant.filling.long)
-
-pub loop-i-preserved : goal.loop-i-preserved
-loop-i-preserved c = squaring-on c.loop-i.invariant (omega (arith, c.loop-i.invariant.filling.long)) c.squared.ensures
-
-pub shape_of-g : goal.shape_of-g
-shape_of-g c = c.loop-i.invariant.filling.long
+pub loop-c-preserved : goal.loop-c-preserved
+loop-c-preserved c = squaring-on c.loop-c.invariant (omega (arith, c.loop-c.invariant.filling.long)) c.square_by_logs.ensures
 
 pub returns : goal.returns
-returns c = squaring-end c.loop-i.invariant (omega (arith, c.loop-i.invariant.filling.long))
+returns c = squaring-end c.loop-c.invariant (omega (arith, c.loop-c.invariant.filling.long))

@@ -4,7 +4,4 @@ use Rattle.poly_small.proofs.Trials.{Trying}
 use Rattle.poly_small.proofs.checked.all_roots.Given as goal
 
 abbrev pub invariant-loop-i : goal.invariant-loop-i
-invariant-loop-i l = Trying l.m l.f l.xs l.bound l.i
-
-abbrev pub decreases-loop-i : goal.decreases-loop-i
-decreases-loop-i l = l.i
+invariant-loop-i l = Trying l.tables.degree l.f l.xs l.bound l.i

@@ -4,7 +4,7 @@ use Rattle.poly_small.proofs.Cubics.{split-asks, split-is}
 use Rattle.poly_small.proofs.parting.cubic_split_part.Goals as goal
 
 pub gcd-requires : goal.gcd-requires
-gcd-requires c = split-asks c.requires c.z_power.ensures
+gcd-requires c = split-asks c.args.tables.now.lent c.requires c.z_power.ensures
 
 pub returns : goal.returns
-returns c = split-is c.requires c.z_power.ensures c.gcd.ensures
+returns c = split-is c.args.tables.now.lent c.requires c.z_power.ensures c.gcd.ensures

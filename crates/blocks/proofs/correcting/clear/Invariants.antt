@@ -1,9 +1,0 @@
--- `clear` ends: each turn has one byte less to write.
-use Rattle.std.proofs.Common.{length, ◌-◌, ◌≤◌, ◌<◌, ◌*◌, ◌≡◌, ℕ, ◌+◌}
-use Rattle.blocks.proofs.correcting.clear.Given as goal
-
-abbrev pub invariant-loop-i : goal.invariant-loop-i
-invariant-loop-i l = length l.s ≡ length l.initial.s
-
-abbrev pub decreases-loop-i : goal.decreases-loop-i
-decreases-loop-i l = length l.initial.s - l.i

@@ -1,7 +1,0 @@
--- `job_text::put_byte` meets its contract: one store.
--- Assumes nothing.
-use Rattle.job_text.proofs.Writing.{wrote-byte}
-use Rattle.job_text.proofs.put_byte.Goals as goal
-
-pub returns : goal.returns
-returns c = wrote-byte c.requires
