@@ -64,7 +64,7 @@
                    pointer as the first word.
        asked for   memcpy and memset; on 32-bit ARM the compiler's divisions of 64 bits too (libgcc).
        stack       the most measured, in bytes (tests/c/stack.c): x86-64 18,328, in locator_prove;
-                   every other call takes less than 7,000. tests/machines measures the other machines
+                   every other call takes less than 10,000. tests/machines measures the other machines
                    (aarch64 took 48,736 when tables still stood on the stack). wasm32 has a stack of
                    its own, 128 KB in locator.wasm. On x86-64 and aarch64 a frame probes the stack page
                    by page, so that it cannot step over a guard page; elsewhere it does not. */

@@ -5,7 +5,6 @@ use crate::messages;
 use crate::messages::{Done, Fault};
 use corrector_stream::WORD;
 use job_streams::{Program, Told};
-use std::fmt;
 
 // How many words are read before their data are written.
 const WORDS: usize = 256;
@@ -60,20 +59,6 @@ impl Tally {
     }
 }
 
-impl fmt::Display for Tally {
-    fn fmt<W: fmt::Write>(&self, f: &mut fmt::Formatter<W>) -> fmt::Result {
-        write!(
-            f,
-            "words {}, flips {}, uncorrectable {}",
-            self.words, self.flips, self.far
-        )?;
-        if self.strange > 0 {
-            write!(f, ", not ours {}", self.strange)?;
-        }
-        Ok(())
-    }
-}
-
 // How a turn ended: there is more to read, the input ended in so many bytes that are no word, or it is to stop.
 #[derive(Clone, Copy)]
 enum Turn {
@@ -95,7 +80,13 @@ fn clear_last_bit(word: &mut [u8]) -> u64
 }
 
 // Takes a word: its data, or zeros, to the front of the room. Returns how many bytes they are.
-fn take(rt: &HostRuntime, plan: &Plan, tally: &mut Tally, word: &mut [u8], room: &mut [u8]) -> usize
+fn take(
+    program: &Program,
+    plan: &Plan,
+    tally: &mut Tally,
+    word: &mut [u8],
+    room: &mut [u8],
+) -> usize
     requires { length word.old ≡ 256 }
     ensures { result ≤ length room.old }
 {
@@ -123,17 +114,17 @@ fn take(rt: &HostRuntime, plan: &Plan, tally: &mut Tally, word: &mut [u8], room:
         }
     };
     if plan.strict {
-        messages::tell_bad(rt, tally.at, fault, Done::Stopped);
+        messages::tell_bad(program, tally.at, fault, Done::Stopped);
         return 0;
     }
-    messages::tell_bad(rt, tally.at, fault, Done::Zeros(room.len()));
+    messages::tell_bad(program, tally.at, fault, Done::Zeros(room.len()));
     room.fill(0);
     room.len()
 }
 
 // Takes a word that is not behind the last one. That one is behind it is said once.
 fn take_unless_behind(
-    rt: &HostRuntime,
+    program: &Program,
     plan: &Plan,
     tally: &mut Tally,
     word: &mut [u8],
@@ -143,9 +134,9 @@ fn take_unless_behind(
     ensures { result ≤ length room.old }
 {
     match tally.newest {
-        Newest::Full | Newest::Bad => take(rt, plan, tally, word, room),
+        Newest::Full | Newest::Bad => take(program, plan, tally, word, room),
         Newest::Last => {
-            messages::tell(rt, tally.at, Fault::Behind);
+            messages::tell_behind(program, tally.at);
             tally.newest = Newest::Behind;
             0
         }
@@ -160,7 +151,7 @@ fn stops(plan: &Plan, tally: &Tally) -> bool {
 
 // Takes the words one by one; their data stand in the room one behind the other. Returns how many bytes they are.
 fn take_words(
-    rt: &HostRuntime,
+    program: &Program,
     plan: &Plan,
     tally: &mut Tally,
     words: &mut [u8],
@@ -174,7 +165,13 @@ fn take_words(
         let at = WORD * k;
         let end = at + WORD;
         let to = done + plan.size;
-        done += take_unless_behind(rt, plan, tally, &mut words[at..end], &mut out[done..to]);
+        done += take_unless_behind(
+            program,
+            plan,
+            tally,
+            &mut words[at..end],
+            &mut out[done..to],
+        );
         if stops(plan, tally) {
             break;
         }
@@ -194,7 +191,7 @@ fn one_turn(
     requires { (length words.old ≡ 65536) × (length out.old ≡ 65536) }
 {
     let n = program.read_all(words)?;
-    let bytes = take_words(program.rt, plan, tally, &mut words[..n], out);
+    let bytes = take_words(program, plan, tally, &mut words[..n], out);
     program.print(&out[..bytes])?;
     if stops(plan, tally) {
         return Ok(Turn::Stop);
@@ -206,14 +203,14 @@ fn one_turn(
 }
 
 // Says what the end of the input shows, where it ends in so many bytes that are no word.
-fn tell_end(rt: &HostRuntime, tally: &Tally, short: usize) {
+fn tell_end(program: &Program, tally: &Tally, short: usize) {
     if short > 0 {
-        messages::tell(rt, tally.at, Fault::Short(short));
+        messages::tell_short(program, tally.at, short as u64);
     }
     match tally.newest {
         Newest::Last | Newest::Behind => {}
-        Newest::Bad if short == 0 => messages::tell_end_unknown(rt),
-        Newest::Bad | Newest::Full => messages::tell_last_missing(rt),
+        Newest::Bad if short == 0 => messages::tell_end_unknown(program),
+        Newest::Bad | Newest::Full => messages::tell_last_missing(program),
     }
 }
 
@@ -226,13 +223,13 @@ fn turns(program: &Program, plan: &Plan, words: &mut [u8], out: &mut [u8]) -> Re
         match one_turn(program, plan, &mut tally, words, out)? {
             Turn::More => {}
             Turn::Over(short) => {
-                tell_end(program.rt, &tally, short);
+                tell_end(program, &tally, short);
                 break;
             }
             Turn::Stop => break,
         }
     }
-    messages::tell_summary(program.rt, &tally);
+    messages::tell_summary(program, tally.words, tally.flips, tally.far, tally.strange);
     Ok(())
 }
 

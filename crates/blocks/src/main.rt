@@ -20,6 +20,6 @@ fn main(rt: HostRuntime) {
         Some(Asked::Correct { strength, strict }) => correcting::run(&program, strength, strict),
         Some(Asked::Help) => messages::print_help(&program),
         Some(Asked::Version) => program.print_version(),
-        None => messages::tell_usage(&rt),
+        None => messages::tell_usage(&program),
     }
 }

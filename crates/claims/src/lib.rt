@@ -62,13 +62,27 @@ fn some_long(f: &[u16], claim: &Claim) -> bool
         .any(|p| COEFFICIENTS < p.len())
 }
 
+// One of the roots is the bound or above. There may be any number of them: none behind the first such is looked at.
+fn some_root_large(bound: u16, roots: &[u16]) -> bool
+    ensures { result ≡ any_from bound roots.now }
+{
+    !roots.iter().all(|r| *r < bound)
+}
+
+// One of the polynomials has a coefficient that is the bound or above.
+fn some_polynomial_large(bound: u16, f: &[u16], claim: &Claim) -> bool
+    ensures { result ≡ some_of (any_from bound) (polynomials_of f.now (said claim.now)) }
+{
+    [f, claim.h, claim.u, claim.v]
+        .iter()
+        .any(|p| !all_below(p, bound))
+}
+
 // One of the roots or coefficients is the bound or above.
 fn some_large(bound: u16, f: &[u16], claim: &Claim) -> bool
     ensures { result ≡ some_of (any_from bound) (claim.now.roots.now ∷ polynomials_of f.now (said claim.now)) }
 {
-    [claim.roots, f, claim.h, claim.u, claim.v]
-        .iter()
-        .any(|p| !all_below(p, bound))
+    some_root_large(bound, claim.roots) || some_polynomial_large(bound, f, claim)
 }
 
 // Refusals 1 to 5. The multiplicities are not looked at.

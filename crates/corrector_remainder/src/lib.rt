@@ -139,6 +139,14 @@ fn rest<R: Register>(word: &[u8]) -> R
     r
 }
 
+// The remainder of a word by the generator of strength 8.
+pub fn rest8(word: &[u8]) -> u128
+    requires { length word.now ≡ 256 }
+    ensures { result ≡ reduce (generator_at 8) (bytes_number word.now) }
+{
+    rest::<u128>(word)
+}
+
 // The n highest digits of a number, cut by g, g/2, g/4, ..: with g added it is less where it has the highest digit of
 // g. Without a branch this takes half the instructions.
 fn lower<R: Register>(x: R, g: R, n: u16) -> R

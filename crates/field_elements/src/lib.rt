@@ -6,7 +6,7 @@ ghost use Rattle.field_elements.specs.Calls.{AdmitsRow, pair_tests, nonzero_test
 
 use field::rows::{Row, row_of};
 use field::solver::Quadratic;
-use field_tables::constants::{halves_of, logs_of};
+use field_tables::field_types::{inverse_in, position_in, product_in, roots_in};
 use refusals::Refusal;
 
 pub mod places; // positions of field 11 without a table
@@ -43,16 +43,16 @@ fn admit_nonzero(m: u16, a: Element) -> Result<Row, Refusal>
 pub fn product(m: u16, a: Element, b: Element) -> Result<u16, Refusal>
     ensures { TellsProduct m a b result }
 {
-    let row = admit_pair(m, a, b)?;
-    Ok(row.product(a, b))
+    admit_pair(m, a, b)?;
+    Ok(product_in(m, a, b))
 }
 
 // The inverse of a in the field of degree m.
 pub fn inverse(m: u16, a: Element) -> Result<u16, Refusal>
     ensures { TellsInverse m a result }
 {
-    let row = admit_nonzero(m, a)?;
-    Ok(row.inverse(a))
+    admit_nonzero(m, a)?;
+    Ok(inverse_in(m, a))
 }
 
 // The tests of the position call: those of an element that must not be 0, with the convention's behind the field's.
@@ -73,7 +73,7 @@ pub fn position(m: u16, r: Element, convention: u16) -> Result<u16, Refusal>
     ensures { TellsPosition m r convention result }
 {
     let row = admit_position(m, r, convention)?;
-    let j = row.position(logs_of(m), r);
+    let j = position_in(m, r);
     if convention == 0 {
         return Ok(j);
     }
@@ -85,6 +85,6 @@ pub fn position(m: u16, r: Element, convention: u16) -> Result<u16, Refusal>
 pub fn quadratic(m: u16, a: Element, b: Element) -> Result<Quadratic, Refusal>
     ensures { TellsQuadratic m a b result }
 {
-    let row = admit_pair(m, a, b)?;
-    Ok(row.quadratic(halves_of(m), a, b))
+    admit_pair(m, a, b)?;
+    Ok(roots_in(m, a, b))
 }

@@ -1,2 +1,3 @@
 pub mod Naming
 pub mod Printed
+pub mod Held

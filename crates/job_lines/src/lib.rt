@@ -2,7 +2,7 @@
 // where reading goes on.
 #![tactic(auto)]
 
-ghost use Rattle.std.specs.Prelude.{◌≡◌};
+ghost use Rattle.std.specs.Prelude.{◌≡◌, []};
 ghost use Rattle.refusals.specs.Numbers.{number_of};
 ghost use Rattle.job_records.specs.Layout.{words};
 ghost use Rattle.job_records.specs.Reading.{Stands};
@@ -13,7 +13,8 @@ use arrayvec::ArrayString;
 use input::LIMIT;
 use job_records::{Job, Read};
 use job_solve::solve_job;
-use job_text::{LINE, line};
+use job_text::LINE;
+use job_text::strings::put_line;
 use refusals::Refusal;
 use std::marker::Model;
 
@@ -32,44 +33,45 @@ impl Model for Turn {
     ghost view = { λ t. record { text = t.line.bytes; next = t.next } };
 }
 
-// The line of a refused record.
-fn turned_line(k: u32, refusal: Refusal) -> ArrayString<LINE>
-    ensures { result.bytes ≡ turned_line k (number_of refusal) }
+// Puts the line of a refused record into a string that is empty.
+fn put_turned(k: u32, refusal: Refusal, text: &mut ArrayString<LINE>)
+    requires { text.old.bytes ≡ [] }
+    ensures { text.new.bytes ≡ turned_line k (number_of refusal) }
 {
-    line(k, u16::from(refusal), 0, &[])
+    put_line(k, u16::from(refusal), 0, &[], text);
 }
 
-// The line of an accepted record.
-fn solved_line(k: u32, job: Job, bytes: &[u8]) -> ArrayString<LINE>
-    requires { Accepted job (words bytes.now) }
-    ensures { result.bytes ≡ solved_line k job.m (cutoff_of job) (words bytes.now) }
+// Puts the line of an accepted record into a string that is empty.
+fn put_solved(k: u32, job: Job, bytes: &[u8], text: &mut ArrayString<LINE>)
+    requires { (text.old.bytes ≡ []) × Accepted job (words bytes.now) }
+    ensures { text.new.bytes ≡ solved_line k job.m (cutoff_of job) (words bytes.now) }
 {
     let mut roots = [0u16; LIMIT];
     let solved = solve_job(job, bytes, &mut roots);
-    line(k, 0, solved.steps, &roots[..solved.s as usize])
+    put_line(k, 0, solved.steps, &roots[..solved.s as usize], text);
 }
 
-// The line of what was read, with its coefficient bytes, and where reading goes on.
+// The line of what was read, with its coefficient bytes, and where reading goes on. The line is put where it is given
+// from: as a value of its own it would be copied three times.
 pub fn take_turn(read: Read, bytes: &[u8], k: u32) -> Turn
     requires { Stands read bytes.now }
     ensures { TurnedBy read bytes.now k result }
 {
+    let mut turn = Turn {
+        line: ArrayString::new(),
+        next: None,
+    };
     match read {
-        Read::End => Turn {
-            line: ArrayString::new(),
-            next: None,
-        },
-        Read::Stopped(refusal) => Turn {
-            line: turned_line(k, refusal),
-            next: None, // after 11 and 12
-        },
-        Read::Refused { refusal, next } => Turn {
-            line: turned_line(k, refusal),
-            next: Some(next), // after 1 to 6
-        },
-        Read::Record(job) => Turn {
-            line: solved_line(k, job, bytes),
-            next: Some(job.next),
-        },
+        Read::End => {}
+        Read::Stopped(refusal) => put_turned(k, refusal, &mut turn.line), // after 11 and 12 reading is over
+        Read::Refused { refusal, next } => {
+            put_turned(k, refusal, &mut turn.line);
+            turn.next = Some(next); // after 1 to 6
+        }
+        Read::Record(job) => {
+            put_solved(k, job, bytes, &mut turn.line);
+            turn.next = Some(job.next);
+        }
     }
+    turn
 }

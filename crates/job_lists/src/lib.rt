@@ -27,10 +27,12 @@ pub struct TakenLine {
 }
 
 // Where the line at a place ends: before the next line feed, or at the end of the text.
+// Only the bytes from there on are looked at.
 fn line_end(text: &[u8], at: usize) -> usize
+    requires { at ≤ length text.now }
     ensures { result ≡ line_end text.now at }
 {
-    at + text.iter().skip(at).take_while(|b| **b != b'\n').count()
+    at + text[at..].iter().take_while(|b| **b != b'\n').count()
 }
 
 // Is a line whole that ends at a place: does a line feed end it, or the end of the input?

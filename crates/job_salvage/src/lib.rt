@@ -2,10 +2,10 @@
 // there, and else one byte is dropped; behind a kept record it goes on.
 #![tactic(auto)]
 
-ghost use Rattle.std.specs.Prelude.{◌≡◌, length};
 ghost use Rattle.job_salvage.specs.Calls.{NextIs, Salvages};
 
 use job_records::{Read, read_record};
+use job_text::put_bytes;
 use refusals::Refusal;
 use std::ops::Range;
 
@@ -31,17 +31,6 @@ pub fn next_kept(file: &[u8], at: usize) -> Range<usize>
     file.len()..file.len()
 }
 
-// Writes bytes to the room, which is as long.
-fn store(room: &mut [u8], bytes: &[u8])
-    requires { length bytes.now ≡ length room.old }
-    ensures { room.new ≡ bytes.now }
-{
-    // kept: (a) the loop of slices `store`, which is of u16: `copy_from_slice` asks C for memmove here
-    for i in 0..bytes.len() {
-        room[i] = bytes[i];
-    }
-}
-
 // The records of the file that are kept, unaltered and in order, to the front of the room.
 pub fn salvage(file: &[u8], room: &mut [u8]) -> Result<Kept, Refusal>
     ensures { Salvages file.now room.old result room.new }
@@ -55,8 +44,7 @@ pub fn salvage(file: &[u8], room: &mut [u8]) -> Result<Kept, Refusal>
     while at < file.len() {
         let next = next_kept(file, at);
         let record = &file[next.start..next.end];
-        store(&mut room[bytes..bytes + record.len()], record);
-        bytes += record.len();
+        bytes = put_bytes(record, bytes, room);
         if !record.is_empty() {
             records += 1;
         }

@@ -4,7 +4,7 @@ ghost use Rattle.std.specs.Prelude.{◌≡◌};
 ghost use Rattle.job_salvage.specs.Rows.{stretch_row, count_row};
 
 use arrayvec::ArrayString;
-use job_text::{decimal, put_spaced};
+use job_text::strings::{decimal, put_spaced};
 
 // The most bytes that a line has (specs/Rows.antt `row_room`).
 pub const ROW: usize = 22;

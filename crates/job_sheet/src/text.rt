@@ -9,7 +9,7 @@ ghost use Rattle.job_sheet.specs.Text.{FitsLine};
 
 use crate::{FieldLine, Highest};
 use arrayvec::ArrayString;
-use job_text::{decimal, put_numbers, put_spaced};
+use job_text::strings::{decimal, put_numbers, put_spaced};
 
 // The most bytes that a line has (specs/Text.antt `field_room`).
 pub const FIELD_LINE: usize = 6 + 21 * 11;

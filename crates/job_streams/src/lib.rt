@@ -126,14 +126,6 @@ impl<'a> Program<'a> {
         let _ = self.rt.stderr().print(n);
     }
 
-    // Says a line behind the program's name.
-    fn tell(&self, line: &[u8]) {
-        self.say(self.name);
-        self.say(b": ");
-        self.say(line);
-        self.say(b"\n");
-    }
-
     // Says the system's text for an error, without its number. Where there is no memory for that, the number is said
     // too.
     fn say_error(&self, error: io::Error) {
@@ -145,15 +137,20 @@ impl<'a> Program<'a> {
         }
     }
 
-    // Tells that something failed: what, as b"standard input" or b"kept.lr", and the system's text for the error.
+    // Tells that something failed: what, as b"salvage: kept.lr", and the system's text for the error.
     pub fn tell_error(&self, what: &[u8], error: io::Error) -> Told {
-        self.say(self.name);
-        self.say(b": ");
         self.say(what);
         self.say(b": ");
         self.say_error(error);
         self.say(b"\n");
         Told
+    }
+
+    // Tells that a stream of the program failed: its name, then the stream, as b": standard input", and the system's text
+    // for the error.
+    fn fail(&self, stream: &[u8], error: io::Error) -> Told {
+        self.say(self.name);
+        self.tell_error(stream, error)
     }
 
     // Says that the program does not know a word, and how to use it.
@@ -170,7 +167,7 @@ impl<'a> Program<'a> {
     pub fn print(&self, text: &[u8]) -> Result<(), Told> {
         match self.rt.stdout().write_all(text) {
             Ok(()) => Ok(()),
-            Err(error) => Err(self.tell_error(b"standard output", error)),
+            Err(error) => Err(self.fail(b": standard output", error)),
         }
     }
 
@@ -230,7 +227,7 @@ impl<'a> Program<'a> {
         while done < most {
             match stdin.read(&mut room[done..most]) {
                 Err(error) => {
-                    self.tell_error(b"standard input", error);
+                    self.fail(b": standard input", error);
                     return Err(Broken { bytes: done });
                 }
                 Ok(0) => break,
@@ -249,7 +246,7 @@ impl<'a> Program<'a> {
         let mut one = [0u8; 1];
         match self.rt.stdin().read(&mut one) {
             Err(error) => {
-                self.tell_error(b"standard input", error);
+                self.fail(b": standard input", error);
                 Behind::Unknown
             }
             Ok(0) => Behind::Nothing,
@@ -259,7 +256,8 @@ impl<'a> Program<'a> {
 
     // Says that there is input past the most that a program reads.
     pub fn tell_ignored(&self) {
-        self.tell(b"input behind 65,536 bytes is ignored");
+        self.say(self.name);
+        self.say(b": input behind 65,536 bytes is ignored\n");
     }
 
     // Where n bytes came: says so if there is input past the most that a program reads.

@@ -19,21 +19,32 @@ enum Halt {
     Failed(Told),
 }
 
+// Says which line is meant. A text is said piece by piece: where one piece cannot be said, the next is tried.
+fn tell_line(program: &Program, k: u32) {
+    program.say(b"jobs: line ");
+    program.say_number(k as u64);
+}
+
 // Says that the line k asks for no record that can be read.
 fn tell_illegible(program: &Program, k: u32) {
-    let _ = eprintln!(program.rt; "jobs: line {k}: not decimal numbers: m, a cutoff and roots");
+    tell_line(program, k);
+    program.say(b": not decimal numbers: m, a cutoff and roots\n");
 }
 
 // Says that the line k is cut off where the program stops reading.
 fn tell_cut(program: &Program, k: u32) {
-    let _ = eprintln!(program.rt;
-        "jobs: line {k} is cut off at byte 65,536: no record of it was written; the rest was not read"
+    tell_line(program, k);
+    program.say(
+        b" is cut off at byte 65,536: no record of it was written; the rest was not read\n",
     );
 }
 
 // Says under which number the line k is refused.
 fn tell_refused(program: &Program, k: u32, refusal: Refusal) {
-    let _ = eprintln!(program.rt; "jobs: line {k}: refused under {}", u16::from(refusal));
+    tell_line(program, k);
+    program.say(b": refused under ");
+    program.say_number(u16::from(refusal) as u64);
+    program.say(b"\n");
 }
 
 // Writes a record to standard output; that it could not be written is told.

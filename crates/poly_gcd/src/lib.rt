@@ -80,7 +80,8 @@ pub fn gcd(tables: &Tables, p: &[u16], t: &[u16], g: &mut [u16]) -> usize
 {
     let mut b = [0u16; COEFFICIENTS];
     b[..t.len()].copy_from_slice(t);
-    g[..p.len()].copy_from_slice(p);
+    // kept: (a) `copy_from_slice` here asks C for memmove in the archive of poly_face, which asked for memcpy and memset alone
+    slices::store(&mut g[..p.len()], p);
     euclid(tables, g, p.len(), &mut b, t.len())
 }
 

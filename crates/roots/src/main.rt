@@ -21,30 +21,31 @@ fn print_turn(program: &Program, read: Read, bytes: &[u8], k: u32) -> Result<Opt
     Ok(turn.next)
 }
 
-// Prints the line of each record, by a reader that is made once and moved on; false where reading stopped before the
-// end of the file.
-fn print_records(program: &Program, file: &[u8]) -> Result<bool, Told>
+// Prints the line of each record, by a reader that is made once and moved on. Gives the place behind the last, where
+// there is no more to read; none where reading stopped before the end of the file.
+fn print_records(program: &Program, file: &[u8]) -> Result<Option<usize>, Told>
     requires { length file.now ≤ 65536 }
+    ensures { IfOk result (λ end. IfSome end (λ at. length file.now ≤ at)) }
 {
     let mut reader = Reader::new(file, 0);
     let mut k = 1;
     while reader.at < file.len() {
         let read = reader.next();
         let Some(at) = print_turn(program, read, reader.bytes(read), k)? else {
-            return Ok(false);
+            return Ok(None);
         };
         reader = reader.moved(at);
         k += 1;
     }
-    Ok(true)
+    Ok(Some(reader.at))
 }
 
 // Prints the lines of what was read, and says what was not.
 fn print_lines(program: &Program, file: &[u8]) -> Result<(), Told>
     requires { length file.now ≤ 65536 }
 {
-    let whole = print_records(program, file)?;
-    if !whole {
+    let end = print_records(program, file)?;
+    if end.is_none() {
         if let Err(stop) = job_records::read_through(file) {
             program.tell_stop(stop);
         }

@@ -3,7 +3,8 @@
 // stretches and how many records are kept. A kept.lr that is there already gives way, and is not lost.
 #![tactic(auto)]
 
-ghost use Rattle.std.specs.Prelude.{◌≤◌, length};
+ghost use Rattle.std.specs.Prelude.{◌≤◌, length, IsAscii};
+ghost use Rattle.arrayvec.specs.ArrayString.{array_string_len};
 
 use arrayvec::ArrayString;
 use job_streams::{Program, Told};
@@ -27,17 +28,17 @@ fn told(program: &Program, what: &[u8], done: io::Result<()>) -> Result<(), Told
 
 // Writes the bytes to a file that is empty, to its device, and closes it. What fails is told.
 fn fill(program: &Program, mut file: File, bytes: &[u8]) -> Result<(), Told> {
-    told(program, b"kept.lr.new", file.write_all(bytes))?;
-    told(program, b"kept.lr.new", file.sync_all())
+    told(program, b"salvage: kept.lr.new", file.write_all(bytes))?;
+    told(program, b"salvage: kept.lr.new", file.sync_all())
 }
 
 // Says that kept.lr.new could not be made. One that is there already is another run's, and stays.
 fn tell_not_made(program: &Program, error: io::Error) -> Told {
     let kind = error.kind();
-    let told = program.tell_error(b"kept.lr.new", error);
+    let told = program.tell_error(b"salvage: kept.lr.new", error);
     if kind == ErrorKind::AlreadyExists {
-        let _ = eprintln!(program.rt;
-            "salvage: another run is at work here, or one was stopped: look at kept.lr.new and remove it"
+        program.say(
+            b"salvage: another run is at work here, or one was stopped: look at kept.lr.new and remove it\n",
         );
     }
     told
@@ -96,24 +97,34 @@ fn has_other(program: &Program, bytes: &[u8]) -> bool {
 }
 
 // The k-th name for a kept.lr that gives way.
-fn old_name(k: u8) -> ArrayString<OLD_NAME> {
+fn old_name(k: u8) -> ArrayString<OLD_NAME>
+    requires { k ≤ 99 }
+    ensures len { array_string_len result ≤ 14 }
+    ensures ascii { IsAscii result.bytes }
+{
     let mut name = ArrayString::new();
     name.push_str("kept.lr.old");
     if k > 1 {
         name.push_str(".");
-        job_text::decimal(k as u64, &mut name);
+        job_text::strings::decimal(k as u64, &mut name);
     }
     name
 }
 
 // Moves kept.lr to a name that no file had. What fails is told.
 fn move_old(program: &Program, name: &str) -> Result<(), Told> {
-    let moved = told(program, b"kept.lr", fs::rename(program.rt, "kept.lr", name));
+    let moved = told(
+        program,
+        b"salvage: kept.lr",
+        fs::rename(program.rt, "kept.lr", name),
+    );
     if moved.is_err() {
         remove(program, name);
         return moved;
     }
-    let _ = eprintln!(program.rt; "salvage: the kept.lr that was here is {name} now");
+    program.say(b"salvage: the kept.lr that was here is ");
+    program.say(name.as_bytes());
+    program.say(b" now\n");
     Ok(())
 }
 
@@ -125,13 +136,15 @@ fn make_empty(program: &Program, name: &str) -> io::Result<()> {
 
 // Tries to keep kept.lr under its k-th other name; false where another file has that. The name is taken by a file that
 // must be new, so that nothing that stands there is lost. What fails is told.
-fn keep_under(program: &Program, k: u8) -> Result<bool, Told> {
+fn keep_under(program: &Program, k: u8) -> Result<bool, Told>
+    requires { k ≤ 99 }
+{
     let name = old_name(k);
     if let Err(error) = make_empty(program, name.as_str()) {
         if error.kind() == ErrorKind::AlreadyExists {
             return Ok(false);
         }
-        return Err(program.tell_error(b"kept.lr.old", error));
+        return Err(program.tell_error(b"salvage: kept.lr.old", error));
     }
     move_old(program, name.as_str())?;
     Ok(true)
@@ -144,9 +157,7 @@ fn keep_old(program: &Program) -> Result<(), Told> {
             return Ok(());
         }
     }
-    let _ = eprintln!(program.rt;
-        "salvage: kept.lr.old to kept.lr.old.99 are all there: remove some of them"
-    );
+    program.say(b"salvage: kept.lr.old to kept.lr.old.99 are all there: remove some of them\n");
     Err(Told)
 }
 
@@ -163,7 +174,7 @@ fn take_name(program: &Program, bytes: &[u8]) -> Result<(), Told> {
     give_way(program, bytes)?;
     told(
         program,
-        b"kept.lr",
+        b"salvage: kept.lr",
         fs::rename(program.rt, "kept.lr.new", "kept.lr"),
     )
 }

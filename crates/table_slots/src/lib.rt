@@ -10,6 +10,7 @@ ghost use Rattle.table_rules.specs.Layout.{factor_slots, by_factor};
 ghost use Rattle.table_rules.specs.Table.{head_slots, slots_for, encode};
 ghost use Rattle.table_rules.specs.Splitting.{begun_table};
 ghost use Rattle.table_rules.specs.Sizes.{slots, is_table_size, limit_for, limit_by};
+ghost use Rattle.slices.specs.Bounded.{all_below};
 ghost use Rattle.table_slots.specs.Slots.{Heads, StandsWhole, level_at, factor_at, next_at};
 ghost use Rattle.table_slots.specs.Slots.{Appended, Replaceable, replaced_at};
 ghost use Rattle.table_slots.specs.Walk.{front_slots, tally, sought_in, summed};
@@ -175,6 +176,20 @@ pub fn replace(table: &mut [u16], o: usize, parts: &[u16])
     table[STEPS] = taken;
 }
 
+// So few numbers are looked at one by one.
+const FEW: usize = 8;
+
+// Every coefficient is below the size of the field. Most factors are short, and of few numbers a loop that takes many at
+// a time costs more than it saves.
+fn all_elements(s: &[u16], size: u16) -> bool
+    ensures { result ≡ all_below size s.now }
+{
+    if s.len() < FEW {
+        return s.iter().all(|x| *x < size);
+    }
+    slices::all_below(s, size)
+}
+
 // The slots that the factor at the front of s takes, where one stands there that fits.
 fn front_slots(s: &[u16], m: u16, size: u16, room: usize) -> Option<usize>
     requires { (size ≡ 2 ^ m) × (room ≤ length s.now - factor_slots) }
@@ -184,7 +199,7 @@ fn front_slots(s: &[u16], m: u16, size: u16, room: usize) -> Option<usize>
         return None;
     };
     let d = *degree as usize;
-    if m < *level || d < 1 || room < d || !slices::all_below(&coefficients[..d], size) {
+    if m < *level || d < 1 || room < d || !all_elements(&coefficients[..d], size) {
         return None;
     }
     Some(d + LOW)

@@ -6,22 +6,22 @@ use Rattle.job_solve.proofs.Solving.{job-accepted}
 use Rattle.job_lines.proofs.Turning.{turn-over, turn-stop, turn-refuse, turn-record}
 use Rattle.job_lines.proofs.take_turn.Goals as goal
 
-pub solved_line-requires : goal.solved_line-requires
-solved_line-requires c =
+pub put_solved-requires : goal.put_solved-requires
+put_solved-requires c =
     let f = c.in-Record.is in
     let s = c.requires in
-    job-accepted s.file s.at (ap told_read (sym f) ∙ s.read) (s.lent ∙ ap (bytes_of s.file) f)
+    (c.new.ensures, job-accepted s.file s.at (ap told_read (sym f) ∙ s.read) (s.lent ∙ ap (bytes_of s.file) f))
 
 pub returns-in-End : goal.returns-in-End
 returns-in-End c file at e b = turn-over _ e c.in-End.is c.new.ensures refl
 
 pub returns-in-Stopped : goal.returns-in-Stopped
-returns-in-Stopped c file at e b = turn-stop _ e c.in-Stopped.is c.turned_line.ensures refl
+returns-in-Stopped c file at e b = turn-stop _ e c.in-Stopped.is c.put_turned.ensures refl
 
 pub returns-in-Refused : goal.returns-in-Refused
-returns-in-Refused c file at e b = turn-refuse _ e c.in-Refused.is c.turned_line-in-Refused.ensures refl
+returns-in-Refused c file at e b = turn-refuse _ e c.in-Refused.is c.put_turned-in-Refused.ensures refl
 
 pub returns-in-Record : goal.returns-in-Record
 returns-in-Record c file at e b =
     let f = c.in-Record.is in
-    turn-record _ e f (b ∙ ap (bytes_of file) f) c.solved_line.ensures refl
+    turn-record _ e f (b ∙ ap (bytes_of file) f) c.put_solved.ensures refl

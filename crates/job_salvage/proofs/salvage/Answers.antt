@@ -2,7 +2,6 @@
 -- Assumes nothing.
 use mathlib.Core.Path.{sym, ◌∙◌}
 use native.Mathlib.Omega.{arith}
-use Rattle.job_text.proofs.Writing.{wrote-part}
 use Rattle.job_salvage.proofs.Pieces.{next-gap}
 use Rattle.job_salvage.proofs.Turns.{keep-from, keep-fits, keep_one, keep-none, keep-end, told-room}
 use borrow.Author.Rules.{rules}
@@ -17,18 +16,16 @@ loop-at-init c = keep-from _ _ (search rules)
 pub slice_bounds-record-end : goal.slice_bounds-record-end
 slice_bounds-record-end c = let g = next-gap (omega arith) c.next_kept-next.ensures in omega (arith, g.behind, g.within)
 
-pub slice_bounds-store-end : goal.slice_bounds-store-end
-slice_bounds-store-end c = keep-fits c.loop-at.invariant (next-gap (omega arith) c.next_kept-next.ensures)
+pub put_bytes-bytes-requires : goal.put_bytes-bytes-requires
+put_bytes-bytes-requires c = keep-fits c.loop-at.invariant (next-gap (omega arith) c.next_kept-next.ensures)
 
 pub loop-at-preserved-then-not-is_empty : goal.loop-at-preserved-then-not-is_empty
 loop-at-preserved-then-not-is_empty c =
-    keep_one c.loop-at.invariant (next-gap (omega arith) c.next_kept-next.ensures) (sym c.is_empty.ensures ∙ c.if-not-is_empty.true)
-    (wrote-part _ _ _ _ c.store.ensures)
+    keep_one c.loop-at.invariant (next-gap (omega arith) c.next_kept-next.ensures) (sym c.is_empty.ensures ∙ c.if-not-is_empty.true) c.put_bytes-bytes.ensures
 
 pub loop-at-preserved : goal.loop-at-preserved
 loop-at-preserved c =
-    keep-none c.loop-at.invariant (next-gap (omega arith) c.next_kept-next.ensures) (sym c.is_empty.ensures ∙ c.if-not-is_empty.false)
-    (wrote-part _ _ _ _ c.store.ensures)
+    keep-none c.loop-at.invariant (next-gap (omega arith) c.next_kept-next.ensures) (sym c.is_empty.ensures ∙ c.if-not-is_empty.false) c.put_bytes-bytes.ensures
 
 pub returns : goal.returns
 returns c = keep-end c.loop-at.invariant (omega arith)

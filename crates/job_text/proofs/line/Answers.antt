@@ -1,88 +1,77 @@
--- `job_text::line` meets its contract: its parts come one behind the other, and each is short enough for the room.
+-- `job_text::line` meets its contract: its parts are written one behind the other, and each place is bounded by what
+-- was written.
 -- Assumes nothing.
-use mathlib.Core.Path.{◌≡◌, refl, ap, ◌∙◌}
-use mathlib.Core.List.{List, [], ◌∷◌, ◌++◌}
-use Prim.Native.Nat.{ℕ, ◌+◌, ◌≤◌, ◌<◌}
-use Rattle.job_text.specs.Lines.{spaced}
+use mathlib.Core.Path.{◌≡◌, sym, subst}
+use mathlib.Core.List.{[], ◌∷◌}
 use native.Mathlib.Omega.{arith}
-use lib.ListN.{length}
+use lib.ListN.{length, take}
+use lib.Seq.{length-take-le}
 use borrow.Author.Rules.{rules}
-use Rattle.job_text.proofs.Writing.{ten-digits, spaced-six, spaced-short, begun, longer, row_from, row_room, row_on, row-all, line_refused, line-accepted}
+use Rattle.job_text.specs.Lines.{spaced, Wrote}
+use Rattle.job_text.proofs.Lending.{five-digits, ten-digits, spaced-six, line_refused, line-accepted}
 use Rattle.job_text.proofs.line.Goals as goal
-use Rattle.job_text.proofs.line.Goals.{then-outcome-eq0+else-loop-root-test, else-outcome-eq0}
 
--- a number more takes at most six bytes
-more : (x n : ℕ) (s : List ℕ) {t : List ℕ} → x < 65536 → length s ≤ n → t ≡ s ++ spaced (x ∷ []) → length t ≤ n + 6
-more x n s h l e = let a = longer s _ _ e in let b = spaced-six x h in omega arith
+pub decimal-first-requires : goal.decimal-first-requires
+decimal-first-requires c = omega (arith, ten-digits c.args.k (search rules))
 
-pub decimal-requires : goal.decimal-requires
-decimal-requires g c = omega (arith, c.requires.1, ap length c.new-text.ensures, ten-digits c.args.k (search rules))
+-- the number takes at most 10 bytes, and each other number 6
+pub put_spaced-second-requires : goal.put_spaced-second-requires
+put_spaced-second-requires c =
+    omega (arith, c.decimal-first.ensures.ended, ten-digits c.args.k (search rules), c.decimal-first.auto.out, five-digits c.args.outcome (search rules))
 
-pub put_spaced-requires : goal.put_spaced-requires
-put_spaced-requires g c =
-    let a = ap length (begun c.new-text.ensures c.decimal.ensures) in
-    omega (arith, c.requires.1, ten-digits c.args.k (search rules), spaced-six c.args.outcome (search rules))
+pub put_byte-requires : goal.put_byte-requires
+put_byte-requires c =
+    let a = ten-digits c.args.k (search rules) in
+    let b = spaced-six (search rules) c.put_spaced-second.ensures in
+    omega (arith, c.decimal-first.ensures.ended)
 
-pub put_spaced-requires-then-outcome-eq0 : goal.put_spaced-requires-then-outcome-eq0
-put_spaced-requires-then-outcome-eq0 g c =
-    let k = ten-digits c.args.k (search rules) in
-    let a = ap length (begun c.new-text.ensures c.decimal.ensures) in
-    let b = more c.args.outcome 10 _ (search rules) (omega arith) c.put_spaced.ensures in
-    omega (arith, c.requires.1, spaced-six (length c.args.roots.now) c.requires.0)
+pub returns-then-outcome-ne0 : goal.returns-then-outcome-ne0
+returns-then-outcome-ne0 c =
+    line_refused c.args.k c.args.outcome c.args.steps (take c.args.s c.args.roots.now) c.decimal-first.ensures c.put_spaced-second.ensures c.if-outcome-ne0.true c.put_byte.ensures
 
-pub put_spaced-requires-then-outcome-eq0-2 : goal.put_spaced-requires-then-outcome-eq0-2
-put_spaced-requires-then-outcome-eq0-2 g c =
-    let k = ten-digits c.args.k (search rules) in
-    let a = ap length (begun c.new-text.ensures c.decimal.ensures) in
-    let b = more c.args.outcome 10 _ (search rules) (omega arith) c.put_spaced.ensures in
-    let d = more (length c.args.roots.now) 16 _ c.requires.0 b c.put_spaced-then-outcome-eq0.ensures in
-    omega (arith, c.requires.1, spaced-six c.args.steps (search rules))
+pub put_spaced-third-requires : goal.put_spaced-third-requires
+put_spaced-third-requires c =
+    let a = ten-digits c.args.k (search rules) in
+    let b = spaced-six (search rules) c.put_spaced-second.ensures in
+    let d = five-digits c.args.s (search rules) in
+    omega (arith, c.decimal-first.ensures.ended)
 
-pub loop-root-init : goal.loop-root-init
-loop-root-init g c = row_from _
+pub put_spaced-fourth-requires : goal.put_spaced-fourth-requires
+put_spaced-fourth-requires c =
+    let a = ten-digits c.args.k (search rules) in
+    let b = spaced-six (search rules) c.put_spaced-second.ensures in
+    let e = spaced-six (search rules) c.put_spaced-third.ensures in
+    let d = five-digits c.args.steps (search rules) in
+    omega (arith, c.decimal-first.ensures.ended)
 
-pub put_spaced-requires-in-loop-root : goal.put_spaced-requires-in-loop-root
-put_spaced-requires-in-loop-root g c =
-    let roots = c.args.roots.now in
-    let k = ten-digits c.args.k (search rules) in
-    let a = ap length (begun c.new-text.ensures c.decimal.ensures) in
-    let b = more c.args.outcome 10 _ (search rules) (omega arith) c.put_spaced.ensures in
-    let d = more (length roots) 16 _ c.requires.0 b c.put_spaced-then-outcome-eq0.ensures in
-    let e = more c.args.steps 22 _ (search rules) d c.put_spaced-then-outcome-eq0-2.ensures in
-    let f = row_room _ c.loop-root.text.bytes roots c.loop-root.root-index c.loop-root.invariant (omega arith) refl in
-    let h = spaced-short roots (λ i l. omega (arith, c.type_inv.roots i)) in
-    omega (arith, c.requires.1)
+pub put_roots-end-requires : goal.put_roots-end-requires
+put_roots-end-requires c =
+    let a = ten-digits c.args.k (search rules) in
+    let b = spaced-six (search rules) c.put_spaced-second.ensures in
+    let e = spaced-six (search rules) c.put_spaced-third.ensures in
+    let f = spaced-six (search rules) c.put_spaced-fourth.ensures in
+    (c.requires.0, omega (arith, c.decimal-first.ensures.ended))
 
-pub loop-root-preserved : goal.loop-root-preserved
-loop-root-preserved g c =
-    row_on _ c.args.roots.now c.loop-root.root-index c.loop-root.invariant (omega arith) refl c.put_spaced-in-loop-root.ensures
-
-pub push_str-requires : goal.push_str-requires
-push_str-requires g c =
-    let roots = c.args.roots.now in
-    let k = ten-digits c.args.k (search rules) in
-    let a = ap length (begun c.new-text.ensures c.decimal.ensures) in
-    let b = more c.args.outcome 10 _ (search rules) (omega arith) c.put_spaced.ensures in
-    elim c.if-outcome-eq0.branch [
-      | then-outcome-eq0+else-loop-root-test w ↦
-          let d = more (length roots) 16 _ c.requires.0 b w.put_spaced-then-outcome-eq0.ensures in
-          let e = more c.args.steps 22 _ (search rules) d w.put_spaced-then-outcome-eq0-2.ensures in
-          let f = longer w.put_spaced-then-outcome-eq0-2.new.text.bytes w.loop-root.text.bytes (spaced roots) (row-all _ roots w.loop-root.root-index w.loop-root.invariant (omega arith) (omega arith)) in
-          let h = spaced-short roots (λ i l. omega (arith, c.type_inv.roots i)) in
-          omega (arith, c.requires.1, ap length (ap (λ t. t.bytes) w.text-is))
-      | else-outcome-eq0 w ↦ omega (arith, c.requires.1, ap length (ap (λ t. t.bytes) w.text-is))
-    ]
+pub put_byte-requires-2 : goal.put_byte-requires-2
+put_byte-requires-2 c =
+    let a = ten-digits c.args.k (search rules) in
+    let b = spaced-six (search rules) c.put_spaced-second.ensures in
+    let e = spaced-six (search rules) c.put_spaced-third.ensures in
+    let f = spaced-six (search rules) c.put_spaced-fourth.ensures in
+    omega (arith, c.decimal-first.ensures.ended)
 
 pub returns : goal.returns
-returns g c =
-    let a = c.args in
-    let roots = a.roots.now in
-    let p = begun c.new-text.ensures c.decimal.ensures in
-    let q = c.put_spaced.ensures in
-    elim c.if-outcome-eq0.branch [
-      | then-outcome-eq0+else-loop-root-test w ↦
-          line-accepted a.k a.outcome a.steps roots p q w.if-outcome-eq0.true w.put_spaced-then-outcome-eq0.ensures w.put_spaced-then-outcome-eq0-2.ensures
-          (ap (λ t. t.bytes) w.text-is ∙ row-all _ roots w.loop-root.root-index w.loop-root.invariant (omega arith) (omega arith)) c.push_str.ensures.bytes
-      | else-outcome-eq0 w ↦
-          line_refused a.k a.outcome a.steps roots p (ap (λ t. t.bytes) w.text-is ∙ q) w.if-outcome-eq0.false c.push_str.ensures.bytes
-    ]
+returns c =
+    let r = c in
+    let f = r in
+    let t = f in
+    let p = t in
+    let d = p in
+    let a = d.args in
+    let roots = take a.s a.roots.now in
+    let n : a.s ≡ length roots = sym (length-take-le a.s a.roots.now (search rules)) in
+    line-accepted a.k a.outcome a.steps roots d.decimal-first.ensures p.put_spaced-second.ensures t.if-outcome-ne0.false
+    (subst (λ s. Wrote (spaced (s ∷ [])) p.put_spaced-second.result p.put_spaced-second.new.out t.put_spaced-third.result t.put_spaced-third.new.out) n t.put_spaced-third.ensures)
+    f.put_spaced-fourth.ensures
+    r.put_roots-end.ensures.0
+    c.put_byte-2.ensures

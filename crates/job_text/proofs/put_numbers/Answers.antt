@@ -1,25 +1,26 @@
--- `job_text::put_numbers` meets its contract: there is room for the next number, and it comes behind the others.
+-- `job_text::put_numbers` meets its contract: at each turn the first i numbers stand in the list.
 -- Assumes nothing.
-use mathlib.Core.Path.{refl}
+use mathlib.Core.List.{List}
+use Prim.Native.Nat.{ℕ, ◌<◌, ◌^◌}
 use native.Mathlib.Omega.{arith}
-use Rattle.job_text.specs.Lines.{spaced}
-use Rattle.job_text.proofs.Writing.{row_from, row_room, row_on, row-all, spaced-wide, longer}
+use lib.ListN.{length, get_or}
+use Rattle.job_text.specs.Lines.{decimal}
+use Rattle.job_text.proofs.Lending.{twenty-digits, row_from, row_room, row_on, row-all}
+use borrow.Author.Rules.{rules}
 use Rattle.job_text.proofs.put_numbers.Goals as goal
 
-pub loop-x-init : goal.loop-x-init
-loop-x-init g c = row_from _
+-- a number of 64 bits and its space have at most 21 bytes
+short : (xs : List ℕ) (i : ℕ) → get_or xs i 0 < 2 ^ 64 → length (decimal (get_or xs i 0)) < 21
+short xs i h = omega (arith, twenty-digits (get_or xs i 0) h)
 
-pub put_spaced-requires : goal.put_spaced-requires
-put_spaced-requires g c =
-    let w = spaced-wide c.args.xs.now (λ i l. omega (arith, c.type_inv.xs i)) in
-    omega (arith, c.requires, row_room _ _ c.args.xs.now c.loop-x.x-index c.loop-x.invariant (omega arith) refl)
+pub loop-i-init : goal.loop-i-init
+loop-i-init c = row_from _ _ _ _ _ (omega arith) (search rules)
 
-pub loop-x-preserved : goal.loop-x-preserved
-loop-x-preserved g c = row_on _ c.args.xs.now c.loop-x.x-index c.loop-x.invariant (omega arith) refl c.put_spaced.ensures
+pub put_spaced-end-requires : goal.put_spaced-end-requires
+put_spaced-end-requires c = omega (arith, row_room c.loop-i.invariant (omega arith), short c.args.xs.now c.loop-i.i (omega (arith, c.type_inv.xs c.loop-i.i)))
+
+pub loop-i-preserved : goal.loop-i-preserved
+loop-i-preserved c = row_on c.loop-i.invariant (omega arith) (short c.args.xs.now c.loop-i.i (omega (arith, c.type_inv.xs c.loop-i.i))) c.put_spaced-end.auto.out c.put_spaced-end.ensures
 
 pub returns : goal.returns
-returns g c =
-    let xs = c.args.xs.now in
-    let all = row-all _ xs c.loop-x.x-index c.loop-x.invariant (omega arith) (omega arith) in
-    let w = spaced-wide xs (λ i l. omega (arith, c.type_inv.xs i)) in
-    (all, omega (arith, longer c.args.text.now.bytes c.loop-x.text.bytes (spaced xs) all))
+returns c = row-all c.loop-i.invariant (omega arith)

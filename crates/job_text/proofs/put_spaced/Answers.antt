@@ -1,21 +1,11 @@
 -- `job_text::put_spaced` meets its contract: a space, and the digits behind it.
 -- Assumes nothing.
-use mathlib.Core.Path.{sym, ap, ◌∙◌}
-use mathlib.Core.List.{[], ◌∷◌, ◌++◌, append_assoc}
 use native.Mathlib.Omega.{arith}
-use lib.ListN.{length}
-use Rattle.job_text.specs.Lines.{decimal}
-use Rattle.job_text.proofs.Writing.{spaced-one}
+use Rattle.job_text.proofs.Lending.{wrote-spaced}
 use Rattle.job_text.proofs.put_spaced.Goals as goal
 
-pub push_str-requires : goal.push_str-requires
-push_str-requires g c = omega (arith, c.requires, ap length (spaced-one c.args.x))
-
 pub decimal-requires : goal.decimal-requires
-decimal-requires g c = omega (arith, c.requires, c.push_str.ensures.len, ap length (spaced-one c.args.x))
+decimal-requires c = omega (arith, c.put_byte-behind.ensures.ended, c.put_byte-behind.auto.out)
 
 pub returns : goal.returns
-returns g c =
-    let old = c.args.text.now.bytes in
-    c.decimal.ensures ∙ ap (λ l. l ++ decimal c.args.x) c.push_str.ensures.bytes ∙ append_assoc old (32 ∷ []) (decimal c.args.x)
-    ∙ ap (λ l. old ++ l) (sym (spaced-one c.args.x))
+returns c = wrote-spaced c.args.x (omega arith) c.put_byte-behind.ensures c.decimal.ensures

@@ -1,4 +1,4 @@
--- `job_text::decimal` meets its contract: the digits that std's numbers have are those of `decimal`.
+-- `job_text::strings::decimal` meets its contract: the digits that std's numbers have are those of `decimal`.
 -- Assumes nothing.
 use mathlib.Core.Path.{ap, ◌∙◌}
 use mathlib.Core.List.{◌++◌}
@@ -6,7 +6,7 @@ use native.Mathlib.Omega.{arith}
 use lib.ListN.{length}
 use borrow.Author.Rules.{rules}
 use Rattle.job_text.proofs.Writing.{decimal-same}
-use Rattle.job_text.proofs.decimal.Goals as goal
+use Rattle.job_text.proofs.strings.decimal.Goals as goal
 
 pub push_str-requires : goal.push_str-requires
 push_str-requires g c = omega (arith, c.requires, ap length (c.format.ensures.text ∙ decimal-same c.args.x (search rules)))
